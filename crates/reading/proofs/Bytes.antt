@@ -1,0 +1,41 @@
+-- What reading a byte and a number of four bytes gives at a place: the bytes there, or a refusal where they end too soon.
+use Prim.Native.Nat.{ℕ, _+_, _<_, _≤_}
+use mathlib.Core.Path.{_≡_, refl}
+use mathlib.Core.List.{List, [], _∷_}
+use native.Mathlib.Nat.{add-assoc}
+use native.Mathlib.Numerals.{add-one}
+use native.Mathlib.Omega.{arith}
+use lib.ListN.{length, getD, drop, drop-of-length-le}
+use lib.Seq.{drop-cons}
+use Rattle.rules.specs.Table.{short}
+use Rattle.reading.specs.Reader.{got, refused, byte, word, number}
+
+pub byte-got : (s : List ℕ) (at : ℕ) → at < length s → byte (drop at s) ≡ got (getD s at 0) (drop (at + 1) s)
+unfolding byte
+byte-got s at h = rw (drop-cons s at 0 h, add-one)
+
+pub byte-short : (s : List ℕ) (at : ℕ) → length s ≤ at → byte (drop at s) ≡ refused short
+unfolding byte
+byte-short s at h = rw (drop-of-length-le s h)
+
+pub word-got : (s : List ℕ) (at : ℕ) → at + 4 ≤ length s
+    → word (drop at s) ≡ got (number (getD s at 0) (getD s (at + 1) 0) (getD s (at + 2) 0) (getD s (at + 3) 0)) (drop (at + 4) s)
+unfolding word
+word-got s at h =
+    rw (
+      byte-got s at (omega arith),
+      byte-got s (at + 1) (omega arith),
+      add-assoc at 1 1,
+      byte-got s (at + 2) (omega arith),
+      add-assoc at 2 1,
+      byte-got s (at + 3) (omega arith),
+      add-assoc at 3 1,
+    )
+
+pub word-short : (bytes : List ℕ) → length bytes < 4 → word bytes ≡ refused short
+unfolding word byte
+word-short [] h = refl
+word-short (a ∷ []) h = refl
+word-short (a ∷ b ∷ []) h = refl
+word-short (a ∷ b ∷ c ∷ []) h = refl
+word-short (a ∷ b ∷ c ∷ d ∷ rest) h = absurd (omega arith)

@@ -1,0 +1,3 @@
+pub mod After
+pub mod Bytes
+pub mod MapBits

@@ -1,0 +1,25 @@
+-- Reading a record: a map of bits, then only the fields whose bit stands.
+use Prim.Native.Nat.{ℕ}
+use mathlib.Core.Bool.{cond}
+use Rattle.lists.specs.Bits.{bit}
+use Rattle.rules.specs.Table.{strayFault}
+use Rattle.reading.specs.Reader.{Reader, byte, judge, return, repeat, _>>=_, _>>_}
+
+-- the bits of a map byte
+abbrev pub mapBits : ℕ
+mapBits = 8
+
+-- the field of bit k is read where the bit stands, and otherwise keeps its absent value
+abbrev pub fieldAt : {A : Type 0} → (ℕ → A → Reader A) → ℕ → ℕ → A → Reader A
+fieldAt field map k a = cond (bit map k) (field k a) (return a)
+
+-- the fields whose bit stands, lowest bit first
+abbrev pub fields : {A : Type 0} → (ℕ → A → Reader A) → ℕ → A → Reader A
+fields field map absent = repeat (fieldAt field map) mapBits absent
+
+-- a record: its map with no stray bit, then its fields
+abbrev pub fieldsByMap : {A : Type 0} → ℕ → (ℕ → A → Reader A) → A → Reader A
+fieldsByMap maps field absent = do
+  map ← byte
+  judge (strayFault maps map)
+  fields field map absent

@@ -1,0 +1,80 @@
+// Reading bytes at a place: a byte, a number of four bytes, and the bits of a record's map.
+// A reading holds its refusal (0: none), the place of the next byte and the value. Not for callers from outside.
+ghost use mathlib.Core.Path.{_≡_};
+ghost use Prim.Native.Nat.{_<_};
+ghost use lib.ListN.{drop};
+ghost use lib.Count.{ones};
+ghost use Rattle.lists.specs.Bits.{digit};
+ghost use Rattle.reading.specs.Reader.{Reads, byte, word, number};
+
+pub struct ByteRead {
+    pub refusal: u8,
+    pub next: usize,
+    pub value: u8,
+}
+
+pub struct WordRead {
+    pub refusal: u8,
+    pub next: usize,
+    pub value: u32,
+}
+
+// The byte at a place.
+pub fn byte_at(bytes: &[u8], at: usize) -> ByteRead
+    ensures { λ r. ⌜ Reads (now (bytes .entry)) (r .refusal) (r .next) (r .value) (byte (drop at (now (bytes .entry)))) ⌝ }
+{
+    if at < bytes.len() {
+        return ByteRead {
+            refusal: 0,
+            next: at + 1,
+            value: bytes[at],
+        };
+    }
+    ByteRead {
+        refusal: rules::SHORT,
+        next: at,
+        value: 0,
+    }
+}
+
+// The number of four bytes, lowest byte first.
+fn number(b0: u8, b1: u8, b2: u8, b3: u8) -> u32
+    ensures { λ r. ⌜ r ≡ Rattle.reading.specs.Reader.number b0 b1 b2 b3 ⌝ }
+{
+    b0 as u32 + 256 * b1 as u32 + 65536 * b2 as u32 + 16777216 * b3 as u32
+}
+
+// The number of four bytes at a place.
+pub fn word_at(bytes: &[u8], at: usize) -> WordRead
+    ensures { λ r. ⌜ Reads (now (bytes .entry)) (r .refusal) (r .next) (r .value) (word (drop at (now (bytes .entry)))) ⌝ }
+{
+    if at <= bytes.len() {
+        if 4 <= bytes.len() - at {
+            return WordRead {
+                refusal: 0,
+                next: at + 4,
+                value: number(bytes[at], bytes[at + 1], bytes[at + 2], bytes[at + 3]),
+            };
+        }
+    }
+    WordRead {
+        refusal: rules::SHORT,
+        next: at,
+        value: 0,
+    }
+}
+
+// How many bits of a map stand: the number of fields in its record.
+pub fn field_count(map: u8) -> u32
+    ensures { λ r. ⌜ r ≡ ones map ⌝ }
+{
+    u8::count_ones(map)
+}
+
+// Bit k of a map, as 0 or 1.
+pub fn map_digit(map: u8, k: u8) -> u8
+    requires { ⌜ k < 8 ⌝ }
+    ensures { λ r. ⌜ r ≡ digit map k ⌝ }
+{
+    (map >> k) % 2
+}

@@ -1,0 +1,3 @@
+pub mod Breach
+pub mod Limits
+pub mod Table

@@ -1,0 +1,48 @@
+-- The limits of the study format.
+use Prim.Native.Nat.{ℕ, _^_}
+
+abbrev pub mostComponents : ℕ
+mostComponents = 12
+
+abbrev pub mostGates : ℕ
+mostGates = 32
+
+abbrev pub mostLoads : ℕ
+mostLoads = 8
+
+-- the state count of a component
+abbrev pub fewestStates : ℕ
+fewestStates = 2
+
+abbrev pub mostStates : ℕ
+mostStates = 4
+
+abbrev pub mostJointStates : ℕ
+mostJointStates = 4096
+
+-- the inputs of one gate
+abbrev pub mostTests : ℕ
+mostTests = 12
+
+abbrev pub mostGateInputs : ℕ
+mostGateInputs = 31
+
+abbrev pub mostCustomers : ℕ
+mostCustomers = 100000
+
+abbrev pub mostMinutes : ℕ
+mostMinutes = 20000
+
+-- one above the largest map of each record: bits 0 to 3 of a component's have a meaning, and bits 0 to 2 of a gate's and a load's
+abbrev pub componentMaps : ℕ
+componentMaps = 2 ^ 4
+
+abbrev pub gateMaps : ℕ
+gateMaps = 2 ^ 3
+
+abbrev pub loadMaps : ℕ
+loadMaps = 2 ^ 3
+
+-- the loss gate of a load that is never lost: a number that no gate has
+abbrev pub never : ℕ
+never = 255

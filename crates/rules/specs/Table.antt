@@ -1,0 +1,66 @@
+-- The refusal table: each row once, on plain numbers, with its number and its rule.
+use Prim.Native.Nat.{ℕ, _+_, _-_, _^_}
+use lib.Dec.{ltb, leb}
+use Rattle.units.specs.One.{one}
+use Rattle.rules.specs.Limits.{fewestStates, mostStates, mostJointStates}
+use Rattle.rules.specs.Breach.{refuse, outside}
+
+-- 1 short: the bytes end inside or before a due field
+abbrev pub short : ℕ
+short = 1
+
+-- 2 counts: one of the first three bytes is not 1 to its limit
+abbrev pub countFault : ℕ → ℕ → ℕ
+countFault most n = refuse 2 (outside 1 most n)
+
+-- 3 stray bit: a map bit without meaning, so that the map is not below the record's maps
+abbrev pub strayFault : ℕ → ℕ → ℕ
+strayFault maps map = refuse 3 (leb maps map)
+
+-- 4 states: the state count is not 2 to 4
+abbrev pub statesFault : ℕ → ℕ
+statesFault states = refuse 4 (outside fewestStates mostStates states)
+
+-- 5 no state: a probability for a state that the component lacks
+abbrev pub noStateFault : ℕ → ℕ → ℕ
+noStateFault states state = refuse 5 (leb states state)
+
+-- 6 over one: states 1 to 3 sum above one
+abbrev pub sumFault : ℕ → ℕ → ℕ → ℕ
+sumFault p1 p2 p3 = refuse 6 (ltb one (p1 + p2 + p3))
+
+-- 7 too wide: more than 4,096 joint states
+abbrev pub widthFault : ℕ → ℕ
+widthFault jointStates = refuse 7 (ltb mostJointStates jointStates)
+
+-- 8 inputs: a count of tests or gates is not 1 to its limit
+abbrev pub inputsFault : ℕ → ℕ → ℕ
+inputsFault most n = refuse 8 (outside 1 most n)
+
+-- 9 no component: a test of a component that is not in the study
+abbrev pub noComponentFault : ℕ → ℕ → ℕ
+noComponentFault components component = refuse 9 (leb components component)
+
+-- 10 mask: zero, or with a bit for a state that is not there
+abbrev pub maskFault : ℕ → ℕ → ℕ
+maskFault states mask = refuse 10 (outside 1 (2 ^ states - 1) mask)
+
+-- 11 gate ahead: a gate input that is not lower than its gate
+abbrev pub aheadFault : ℕ → ℕ → ℕ
+aheadFault gate input = refuse 11 (leb gate input)
+
+-- 12 threshold: 0, or above the number of inputs
+abbrev pub thresholdFault : ℕ → ℕ → ℕ
+thresholdFault inputs threshold = refuse 12 (outside 1 inputs threshold)
+
+-- 13 no gate: the loss gate is not in the study
+abbrev pub noGateFault : ℕ → ℕ → ℕ
+noGateFault gates gate = refuse 13 (leb gates gate)
+
+-- 14 load size: customers or minutes above their limit
+abbrev pub sizeFault : ℕ → ℕ → ℕ
+sizeFault most n = refuse 14 (ltb most n)
+
+-- 15 left over: bytes after the last load
+abbrev pub leftFault : ℕ → ℕ
+leftFault bytes = refuse 15 (ltb 0 bytes)

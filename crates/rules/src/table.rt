@@ -1,0 +1,110 @@
+// The rows of the refusal table from 2 on, one function each: the row's number where its rule is broken, else 0.
+use crate::breach::refuse;
+use crate::breach::refuse_outside;
+use crate::limits::FEWEST_STATES;
+use crate::limits::MOST_JOINT_STATES;
+use crate::limits::MOST_STATES;
+ghost use mathlib.Core.Path.{_≡_};
+ghost use Rattle.rules.specs.Table.{countFault, strayFault, statesFault, noStateFault, sumFault, widthFault, inputsFault};
+ghost use Rattle.rules.specs.Table.{noComponentFault, maskFault, aheadFault, thresholdFault, noGateFault, sizeFault, leftFault};
+
+// 2 counts
+pub fn count_fault(most: u8, n: u8) -> u8
+    ensures { λ r. ⌜ r ≡ countFault most n ⌝ }
+{
+    refuse_outside(2, 1, most as u32, n as u32)
+}
+
+// 3 stray bit
+pub fn stray_fault(maps: u8, map: u8) -> u8
+    ensures { λ r. ⌜ r ≡ strayFault maps map ⌝ }
+{
+    refuse(3, maps <= map)
+}
+
+// 4 states
+pub fn states_fault(states: u8) -> u8
+    ensures { λ r. ⌜ r ≡ statesFault states ⌝ }
+{
+    refuse_outside(4, FEWEST_STATES, MOST_STATES, states as u32)
+}
+
+// 5 no state
+pub fn no_state_fault(states: u8, state: u8) -> u8
+    ensures { λ r. ⌜ r ≡ noStateFault states state ⌝ }
+{
+    refuse(5, states <= state)
+}
+
+// 6 over one: the sum of three numbers of four bytes needs more than four.
+pub fn sum_fault(p1: u32, p2: u32, p3: u32) -> u8
+    ensures { λ r. ⌜ r ≡ sumFault p1 p2 p3 ⌝ }
+{
+    refuse(6, (units::ONE as u64) < p1 as u64 + p2 as u64 + p3 as u64)
+}
+
+// 7 too wide
+pub fn width_fault(joint_states: u32) -> u8
+    ensures { λ r. ⌜ r ≡ widthFault «joint_states» ⌝ }
+{
+    refuse(7, MOST_JOINT_STATES < joint_states)
+}
+
+// 8 inputs
+pub fn inputs_fault(most: u8, n: u8) -> u8
+    ensures { λ r. ⌜ r ≡ inputsFault most n ⌝ }
+{
+    refuse_outside(8, 1, most as u32, n as u32)
+}
+
+// 9 no component
+pub fn no_component_fault(components: usize, component: u8) -> u8
+    ensures { λ r. ⌜ r ≡ noComponentFault components component ⌝ }
+{
+    refuse(9, components <= component as usize)
+}
+
+// 10 mask: with as many states as a mask has bits, or more, every bit has its state.
+pub fn mask_fault(states: u8, mask: u8) -> u8
+    ensures { λ r. ⌜ r ≡ maskFault states mask ⌝ }
+{
+    if 8 <= states {
+        return refuse(10, mask < 1);
+    }
+    refuse_outside(10, 1, (1u32 << states) - 1, mask as u32)
+}
+
+// 11 gate ahead
+pub fn ahead_fault(gate: usize, input: u8) -> u8
+    ensures { λ r. ⌜ r ≡ aheadFault gate input ⌝ }
+{
+    refuse(11, gate <= input as usize)
+}
+
+// 12 threshold
+pub fn threshold_fault(inputs: u32, threshold: u8) -> u8
+    ensures { λ r. ⌜ r ≡ thresholdFault inputs threshold ⌝ }
+{
+    refuse_outside(12, 1, inputs, threshold as u32)
+}
+
+// 13 no gate
+pub fn no_gate_fault(gates: u8, gate: u8) -> u8
+    ensures { λ r. ⌜ r ≡ noGateFault gates gate ⌝ }
+{
+    refuse(13, gates <= gate)
+}
+
+// 14 load size
+pub fn size_fault(most: u32, n: u32) -> u8
+    ensures { λ r. ⌜ r ≡ sizeFault most n ⌝ }
+{
+    refuse(14, most < n)
+}
+
+// 15 left over
+pub fn left_fault(bytes: usize) -> u8
+    ensures { λ r. ⌜ r ≡ leftFault bytes ⌝ }
+{
+    refuse(15, 0 < bytes)
+}
