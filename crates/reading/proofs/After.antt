@@ -18,26 +18,41 @@ first-asRead s p q n n′ v v′ f e = go (eqb p 0) refl
     go false t = rw (t, t)
 
 -- a reading, and after it another at its next place, is refused by the first breach of the two
-pub after : {A B : Type 0} {s : List ℕ} {p q n n′ : ℕ} {v : A} {v′ : B} {r : Read A} (f : A → Reader B)
-    → Reads s p n v r → Reads s q n′ v′ (f v (drop n s)) → Reads s (first p q) n′ v′ (andThen r f)
-after {s = s} {p = p} {q = q} {n = n} {n′ = n′} {v = v} {v′ = v′} f here there =
-    record { same = first-asRead s p q n n′ v v′ f (there .same) ∙ ap (λ (r : Read _). andThen r f) (here .same) }
+pub after : {A B : Type 0} {s : List ℕ} {p q n n′ refusal : ℕ} {v : A} {v′ : B} {r : Read A} (f : A → Reader B)
+    → Reads s p n v r → Reads s q n′ v′ (f v (drop n s)) → refusal ≡ first p q → Reads s refusal n′ v′ (andThen r f)
+after {s = s} {p = p} {q = q} {n = n} {n′ = n′} {v = v} {v′ = v′} f here there e =
+    record {
+      same =
+          ap (λ (x : ℕ). asRead s x n′ v′) e ∙ first-asRead s p q n n′ v v′ f (there .same) ∙ ap (λ (r : Read _). andThen r f) (here .same)
+    }
 
 -- a breach is judged as a reading that takes no byte
-pub judged : (s : List ℕ) (breach n : ℕ) → Reads s breach n tt (judge breach (drop n s))
+pub judged : {s : List ℕ} {refusal n : ℕ} (breach : ℕ) → refusal ≡ breach → Reads s refusal n tt (judge breach (drop n s))
 unfolding asRead
-judged s breach n = record { same = refl }
+judged breach e = record { same = rw e }
 
--- nothing more is read
-pub returned : {A : Type 0} (s : List ℕ) (n : ℕ) (v : A) → Reads s 0 n v (return v (drop n s))
+-- a breach is judged, and nothing more is read
+pub judged-last : {A : Type 0} {s : List ℕ} {refusal n : ℕ} {v : A} (breach : ℕ) → refusal ≡ breach
+    → Reads s refusal n v (andThen (judge breach (drop n s)) (λ u. return v))
 unfolding asRead
-returned s n v = record { same = refl }
-
--- a breach judged last
-pub judged-last : {A : Type 0} (s : List ℕ) (breach n : ℕ) (v : A) → Reads s breach n v (andThen (judge breach (drop n s)) (λ u. return v))
-unfolding asRead
-judged-last s breach n v = record { same = go (eqb breach 0) refl }
+judged-last {s = s} {n = n} {v = v} breach e = record { same = ap (λ (x : ℕ). asRead s x n v) e ∙ go (eqb breach 0) refl }
   where
     go : (t : Bool) → eqb breach 0 ≡ t → asRead s breach n v ≡ andThen (judge breach (drop n s)) (λ u. return v)
     go true t = rw t
+    go false t = rw t
+
+-- nothing is read
+pub returned : {A : Type 0} {s : List ℕ} {n : ℕ} {v : A} → Reads s 0 n v (return v (drop n s))
+unfolding asRead
+returned = record { same = refl }
+
+-- the value is worked on after the last reading
+pub finished : {A B : Type 0} {s : List ℕ} {p n : ℕ} {v : A} {v′ : B} {r : Read A} (f : A → B) → Reads s p n v r → v′ ≡ f v
+    → Reads s p n v′ (andThen r (λ x. return (f x)))
+unfolding asRead
+finished {s = s} {p = p} {n = n} {v = v} {v′ = v′} f here e =
+    record { same = go (eqb p 0) refl ∙ ap (λ (r : Read _). andThen r (λ x. return (f x))) (here .same) }
+  where
+    go : (t : Bool) → eqb p 0 ≡ t → asRead s p n v′ ≡ andThen (asRead s p n v) (λ x. return (f x))
+    go true t = rw (t, e)
     go false t = rw t

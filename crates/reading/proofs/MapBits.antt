@@ -1,21 +1,26 @@
 -- What carries the loop over a record's fields: as many fields are left to read as bits stand in what is left of the map.
 use Prim.Native.Nat.{ℕ, zero, suc, _+_, _-_, _/_, _%_, _^_, _<_, _≤_}
-use mathlib.Core.Path.{_≡_, refl, sym, ap, _∙_}
-use native.Mathlib.Nat.{div-one, div-eq-of-lt, le-add-right, le-of-eq, le-trans}
+use mathlib.Core.Path.{_≡_, refl, sym, ap, subst, _∙_}
+use mathlib.Core.List.{List}
+use native.Mathlib.Nat.{div-one, div-eq-of-lt}
 use native.Mathlib.Omega.{arith}
 use native.Mathlib.Decide.{decLt}
 use lib.Pow.{shr-shr}
 use lib.Count.{ones, ones-step}
-use lib.Dec.{eqb}
-use Rattle.lists.specs.Bits.{digit, bit}
+use lib.ListN.{drop}
+use Rattle.lists.specs.Bits.{digit}
 use Rattle.lists.specs.Run.{each}
 use Rattle.lists.proofs.Turns.{Turns, turns-start, turns-more}
-use Rattle.reading.specs.Reader.{Read, Reader, refused, got, turn}
-use Rattle.reading.specs.Fields.{fieldAt, mapBits}
+use Rattle.rules.specs.Breach.{first}
+use Rattle.reading.specs.Reader.{Read, Reader, Reads, refused, got, turn, asRead}
+use Rattle.reading.specs.Fields.{fieldAt, fields, mapBits}
+use Rattle.reading.proofs.After.{after}
 
--- The bits below k have had their fields read, with the reading r so far; `left` bits stand from k on.
-pub record FieldsLeft {A : Type 0} (field : ℕ → A → Reader A) (map : ℕ) (r₀ : Read A) (k left : ℕ) (r : Read A) : Type 0 where
-  pub turns : Turns (turn (fieldAt field map)) mapBits 0 r₀ k r
+-- From the place `at` the bits below k of the map have had their fields read, and the code holds a refusal, the next place and a value.
+-- `left` bits stand from k on.
+pub record FieldsLeft {A : Type 0} (field : ℕ → A → Reader A) (absent : A) (s : List ℕ) (at map refusal next : ℕ) (value : A) (left k : ℕ) : Type 0 where
+  pub map-byte : map < 2 ^ mapBits
+  pub turns : Turns (turn (fieldAt field map)) mapBits 0 (got absent (drop at s)) k (asRead s refusal next value)
   pub standing : left ≡ ones (map / 2 ^ k)
 
 -- the bits from k on are bit k and those from k + 1 on
@@ -37,32 +42,44 @@ module _ {A : Type 0} (field : ℕ → A → Reader A) (map : ℕ) where
       let rest : ones (map / 2 ^ (k + 1)) ≡ 0 = omega (arith, ones-from map k) in
       ap (each (turn (fieldAt field map)) n (k + 1)) (clear-turn k r clear) ∙ none-left n (k + 1) r rest
 
-module _ {A : Type 0} {field : ℕ → A → Reader A} {map : ℕ} {r₀ : Read A} where
-  pub fields-start : FieldsLeft field map r₀ 0 (ones map) r₀
-  fields-start = record { turns = turns-start (omega arith); standing = sym (ap ones (div-one map)) }
+module _ {A : Type 0} {field : ℕ → A → Reader A} {absent : A} {s : List ℕ} {at map : ℕ} where
+  pub fields-start : {value : A} {left : ℕ} → map < 2 ^ mapBits → value ≡ absent → left ≡ ones map → FieldsLeft field absent s at map 0 at value left 0
+  unfolding asRead
+  fields-start fits absent-value count =
+      record { map-byte = fits; turns = rw absent-value (turns-start (omega arith)); standing = count ∙ sym (ap ones (div-one map)) }
 
-  -- while a bit is left, k is a bit of the map byte
-  pub fields-bit : {k left : ℕ} {r : Read A} → map < 2 ^ mapBits → FieldsLeft field map r₀ k left r → (left ≡ 0 → ⊥) → k < mapBits
-  unfolding ones
-  fields-bit {k} {left} fits f some = go (decLt k mapBits)
-    where
-      past : (k ≡ mapBits) → left ≡ 0
-      past e = f .standing ∙ ap (λ (n : ℕ). ones (map / 2 ^ n)) e ∙ ap ones (div-eq-of-lt fits)
-      go : Dec (k < mapBits) → k < mapBits
-      go (yes h) = h
-      go (no h) = absurd (some (past (omega (arith, f .turns .inside))))
+  module _ {refusal next : ℕ} {value : A} {left k : ℕ} (f : FieldsLeft field absent s at map refusal next value left k) where
+    -- bit k is no more than the bits left
+    pub fields-digit : {d : ℕ} → d ≡ digit map k → d ≤ left
+    fields-digit e = omega (arith, e, f .standing, ones-from map k)
 
-  pub fields-digit : {k left : ℕ} {r : Read A} → FieldsLeft field map r₀ k left r → digit map k ≤ left
-  fields-digit {k} f = omega (arith, f .standing, ones-from map k)
+    -- while a bit is left, k is a bit of the map byte
+    pub fields-bit : (left ≡ 0 → ⊥) → k < mapBits
+    unfolding ones
+    fields-bit some = go (decLt k mapBits)
+      where
+        past : k ≡ mapBits → left ≡ 0
+        past e = f .standing ∙ ap (λ (n : ℕ). ones (map / 2 ^ n)) e ∙ ap ones (div-eq-of-lt (f .map-byte))
+        go : Dec (k < mapBits) → k < mapBits
+        go (yes h) = h
+        go (no h) = absurd (some (past (omega (arith, f .turns .inside))))
 
-  pub fields-more : {k left : ℕ} {r : Read A} → map < 2 ^ mapBits → FieldsLeft field map r₀ k left r → (left ≡ 0 → ⊥)
-      → FieldsLeft field map r₀ (k + 1) (left - digit map k) (turn (fieldAt field map) k r)
-  fields-more {k} {left} fits f some =
-      record {
-        turns = turns-more (f .turns) (fields-bit fits f some);
-        standing = omega (arith, f .standing, ones-from map k)
-      }
+    -- one more field
+    pub fields-more : {q n′ refusal′ d : ℕ} {v′ : A} → (left ≡ 0 → ⊥) → Reads s q n′ v′ (fieldAt field map k value (drop next s))
+        → refusal′ ≡ first refusal q → d ≡ digit map k → FieldsLeft field absent s at map refusal′ n′ v′ (left - d) (k + 1)
+    fields-more {refusal′ = refusal′} {d = d} some read e digits =
+        record {
+          map-byte = f .map-byte;
+          turns =
+              subst (Turns (turn (fieldAt field map)) mapBits 0 (got absent (drop at s)) (k + 1))
+              (sym (after (fieldAt field map k) (record { same = refl }) read e .same))
+              (turns-more (f .turns) (fields-bit some));
+          standing = omega (arith, digits, f .standing, ones-from map k)
+        }
 
-  pub fields-done : {k left : ℕ} {r : Read A} → FieldsLeft field map r₀ k left r → left ≡ 0 → r ≡ each (turn (fieldAt field map)) mapBits 0 r₀
-  fields-done {k} {left} {r} f none =
-      sym (none-left field map (mapBits - k) k r (sym (f .standing) ∙ none)) ∙ f .turns .same
+    -- no field is left
+    pub fields-done : left ≡ 0 → Reads s refusal next value (fields field map absent (drop at s))
+    fields-done none =
+        record {
+          same = sym (none-left field map (mapBits - k) k (asRead s refusal next value) (sym (f .standing) ∙ none)) ∙ f .turns .same
+        }

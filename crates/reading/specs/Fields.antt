@@ -17,9 +17,15 @@ fieldAt field map k a = cond (bit map k) (field k a) (return a)
 abbrev pub fields : {A : Type 0} → (ℕ → A → Reader A) → ℕ → A → Reader A
 fields field map absent = repeat (fieldAt field map) mapBits absent
 
--- a record: its map with no stray bit, then its fields
-abbrev pub fieldsByMap : {A : Type 0} → ℕ → (ℕ → A → Reader A) → A → Reader A
-fieldsByMap maps field absent = do
+-- a map with no stray bit
+unfoldable pub mapByte : ℕ → Reader ℕ
+mapByte maps = do
   map ← byte
   judge (strayFault maps map)
+  return map
+
+-- a record: its map, then its fields
+abbrev pub fieldsByMap : {A : Type 0} → ℕ → (ℕ → A → Reader A) → A → Reader A
+fieldsByMap maps field absent = do
+  map ← mapByte maps
   fields field map absent

@@ -5,6 +5,7 @@ ghost use Prim.Native.Nat.{_<_};
 ghost use lib.ListN.{drop};
 ghost use lib.Count.{ones};
 ghost use Rattle.lists.specs.Bits.{digit};
+ghost use Rattle.reading.specs.Fields.{mapByte};
 ghost use Rattle.reading.specs.Reader.{Reads, byte, word, number};
 
 pub struct ByteRead {
@@ -61,6 +62,18 @@ pub fn word_at(bytes: &[u8], at: usize) -> WordRead
         refusal: rules::SHORT,
         next: at,
         value: 0,
+    }
+}
+
+// The map at a place, with no stray bit.
+pub fn map_at(bytes: &[u8], at: usize, maps: u8) -> ByteRead
+    ensures { λ r. ⌜ Reads (now (bytes .entry)) (r .refusal) (r .next) (r .value) (mapByte maps (drop at (now (bytes .entry)))) ⌝ }
+{
+    let b = byte_at(bytes, at);
+    ByteRead {
+        refusal: rules::first(b.refusal, rules::stray_fault(maps, b.value)),
+        next: b.next,
+        value: b.value,
     }
 }
 

@@ -1,0 +1,158 @@
+// The study: its components, gates and loads, as an opened study holds them. Structs, their zero and absent values, and state counts.
+ghost use mathlib.Core.Path.{_≡_};
+ghost use Rattle.study.specs.Zero.{noComponents, zeroGate, noGates, noLoads, zeroStudy};
+ghost use Rattle.study.specs.Joint.{states};
+ghost use Rattle.study.specs.Absent.{absentComponent, absentGate, absentLoad};
+
+// A component: how many states it has, and the probability in units of its states 1 to 3. State 0 is "up" and has the rest of one.
+pub struct Component {
+    pub states: u8,
+    pub p1: u32,
+    pub p2: u32,
+    pub p3: u32,
+}
+
+// A voting gate: true when at least `threshold` of its inputs are. Its tests are pairs of a component and a mask of its states; its
+// gate inputs are numbers of lower gates.
+pub struct Gate {
+    pub threshold: u8,
+    pub tests: u8,
+    pub component: [u8; 12],
+    pub mask: [u8; 12],
+    pub gates: u8,
+    pub input: [u8; 31],
+}
+
+// A load point: its loss gate (`rules::NEVER`: it is never lost), its customers and its restore time in minutes.
+pub struct Load {
+    pub gate: u8,
+    pub customers: u32,
+    pub minutes: u32,
+}
+
+// A study: the number of records of each kind, and the places for them. Places that no record uses hold 0.
+pub struct Study {
+    pub components: u8,
+    pub gates: u8,
+    pub loads: u8,
+    pub component: [Component; 12],
+    pub gate: [Gate; 32],
+    pub load: [Load; 8],
+}
+
+// Whether a call was done, or the number of the refusal table by which it was refused.
+pub enum Outcome {
+    Done,
+    Refused(u8),
+}
+
+// What a call that makes a study answers: the outcome beside the study.
+pub struct StudyAnswer {
+    pub outcome: Outcome,
+    pub study: Study,
+}
+
+// Places that no record uses, and fields that a record does not give.
+
+pub fn no_components() -> [Component; 12]
+    ensures { λ r. ⌜ r ≡ noComponents ⌝ }
+{
+    let unused = Component {
+        states: 0,
+        p1: 0,
+        p2: 0,
+        p3: 0,
+    };
+    [unused; 12]
+}
+
+pub fn zero_gate() -> Gate
+    ensures { λ r. ⌜ r ≡ zeroGate ⌝ }
+{
+    let tests = [0u8; 12];
+    let inputs = [0u8; 31];
+    Gate {
+        threshold: 0,
+        tests: 0,
+        component: tests,
+        mask: tests,
+        gates: 0,
+        input: inputs,
+    }
+}
+
+pub fn no_gates() -> [Gate; 32]
+    ensures { λ r. ⌜ r ≡ noGates ⌝ }
+{
+    let unused = zero_gate();
+    [unused; 32]
+}
+
+pub fn no_loads() -> [Load; 8]
+    ensures { λ r. ⌜ r ≡ noLoads ⌝ }
+{
+    let unused = Load {
+        gate: 0,
+        customers: 0,
+        minutes: 0,
+    };
+    [unused; 8]
+}
+
+pub fn zero_study() -> Study
+    ensures { λ r. ⌜ r ≡ zeroStudy ⌝ }
+{
+    let component = no_components();
+    let gate = no_gates();
+    let load = no_loads();
+    Study {
+        components: 0,
+        gates: 0,
+        loads: 0,
+        component,
+        gate,
+        load,
+    }
+}
+
+pub fn absent_component() -> Component
+    ensures { λ r. ⌜ r ≡ absentComponent ⌝ }
+{
+    Component {
+        states: 2,
+        p1: 0,
+        p2: 0,
+        p3: 0,
+    }
+}
+
+pub fn absent_gate() -> Gate
+    ensures { λ r. ⌜ r ≡ absentGate ⌝ }
+{
+    let mut g = zero_gate();
+    g.threshold = 1;
+    g
+}
+
+pub fn absent_load() -> Load
+    ensures { λ r. ⌜ r ≡ absentLoad ⌝ }
+{
+    Load {
+        gate: rules::NEVER,
+        customers: 0,
+        minutes: 0,
+    }
+}
+
+// The state counts of all twelve component places; those of the study's components stand first.
+pub fn state_counts(component: [Component; 12]) -> [u8; 12]
+    ensures { λ r. ⌜ r ≡ states component ⌝ }
+{
+    let mut counts = [0u8; 12];
+    let mut i: usize = 0;
+    while i < 12 {
+        counts[i] = component[i].states;
+        i = i + 1;
+    }
+    counts
+}
