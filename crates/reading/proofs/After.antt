@@ -4,6 +4,7 @@ use mathlib.Core.Path.{_≡_, refl, sym, ap, _∙_}
 use mathlib.Core.Bool.{Bool, true, false}
 use mathlib.Core.List.{List}
 use lib.Dec.{eqb}
+use borrow.Author.Tests.{eq-eqb, ne-eqb}
 use lib.ListN.{drop}
 use Rattle.rules.specs.Breach.{first}
 use Rattle.reading.specs.Reader.{Read, Reader, Reads, andThen, judge, return, asRead}
@@ -56,3 +57,17 @@ finished {s = s} {p = p} {n = n} {v = v} {v′ = v′} f here e =
     go : (t : Bool) → eqb p 0 ≡ t → asRead s p n v′ ≡ andThen (asRead s p n v) (λ x. return (f x))
     go true t = rw (t, e)
     go false t = rw t
+
+-- a reading that was refused ends the whole, whatever value is held
+pub stopped : {A B : Type 0} {s : List ℕ} {p n n′ : ℕ} {v : A} {v′ : B} {r : Read A} (f : A → Reader B) → Reads s p n v r → (p ≡ 0 → ⊥)
+    → Reads s p n′ v′ (andThen r f)
+unfolding asRead
+stopped {s = s} {p = p} {n = n} {n′ = n′} {v = v} {v′ = v′} f here some =
+    record { same = rw (ne-eqb p 0 some) (ap (λ (r : Read _). andThen r f) (rw (ne-eqb p 0 some) at (here .same))) }
+
+-- a reading that was not refused hands its value on
+pub going : {A B : Type 0} {s : List ℕ} {p q n n′ : ℕ} {v : A} {v′ : B} {r : Read A} (f : A → Reader B) → Reads s p n v r → p ≡ 0
+    → Reads s q n′ v′ (f v (drop n s)) → Reads s q n′ v′ (andThen r f)
+unfolding asRead
+going {s = s} {p = p} {n = n} {v = v} f here none there =
+    record { same = there .same ∙ ap (λ (r : Read _). andThen r f) (rw (eq-eqb p 0 none) at (here .same)) }

@@ -1,6 +1,6 @@
 -- What carries the loop over a record's fields: as many fields are left to read as bits stand in what is left of the map.
 use Prim.Native.Nat.{ℕ, zero, suc, _+_, _-_, _/_, _%_, _^_, _<_, _≤_}
-use mathlib.Core.Path.{_≡_, refl, sym, ap, subst, _∙_}
+use mathlib.Core.Path.{_≡_, refl, sym, ap, _∙_}
 use mathlib.Core.List.{List}
 use native.Mathlib.Nat.{div-one, div-eq-of-lt}
 use native.Mathlib.Omega.{arith}
@@ -10,17 +10,16 @@ use lib.Count.{ones, ones-step}
 use lib.ListN.{drop}
 use Rattle.lists.specs.Bits.{digit}
 use Rattle.lists.specs.Run.{each}
-use Rattle.lists.proofs.Turns.{Turns, turns-start, turns-more}
 use Rattle.rules.specs.Breach.{first}
 use Rattle.reading.specs.Reader.{Read, Reader, Reads, refused, got, turn, asRead}
 use Rattle.reading.specs.Fields.{fieldAt, fields, mapBits}
-use Rattle.reading.proofs.After.{after}
+use Rattle.reading.proofs.Repeats.{RepeatLeft, repeat-start, repeat-more}
 
 -- From the place `at` the bits below k of the map have had their fields read, and the code holds a refusal, the next place and a value.
 -- `left` bits stand from k on.
 pub record FieldsLeft {A : Type 0} (field : ℕ → A → Reader A) (absent : A) (s : List ℕ) (at map refusal next : ℕ) (value : A) (left k : ℕ) : Type 0 where
   pub map-byte : map < 2 ^ mapBits
-  pub turns : Turns (turn (fieldAt field map)) mapBits 0 (got absent (drop at s)) k (asRead s refusal next value)
+  pub fields-read : RepeatLeft (fieldAt field map) mapBits absent s at refusal next value k
   pub standing : left ≡ ones (map / 2 ^ k)
 
 -- the bits from k on are bit k and those from k + 1 on
@@ -44,9 +43,8 @@ module _ {A : Type 0} (field : ℕ → A → Reader A) (map : ℕ) where
 
 module _ {A : Type 0} {field : ℕ → A → Reader A} {absent : A} {s : List ℕ} {at map : ℕ} where
   pub fields-start : {value : A} {left : ℕ} → map < 2 ^ mapBits → value ≡ absent → left ≡ ones map → FieldsLeft field absent s at map 0 at value left 0
-  unfolding asRead
   fields-start fits absent-value count =
-      record { map-byte = fits; turns = rw absent-value (turns-start (omega arith)); standing = count ∙ sym (ap ones (div-one map)) }
+      record { map-byte = fits; fields-read = rw absent-value repeat-start; standing = count ∙ sym (ap ones (div-one map)) }
 
   module _ {refusal next : ℕ} {value : A} {left k : ℕ} (f : FieldsLeft field absent s at map refusal next value left k) where
     -- bit k is no more than the bits left
@@ -62,7 +60,7 @@ module _ {A : Type 0} {field : ℕ → A → Reader A} {absent : A} {s : List �
         past e = f .standing ∙ ap (λ (n : ℕ). ones (map / 2 ^ n)) e ∙ ap ones (div-eq-of-lt (f .map-byte))
         go : Dec (k < mapBits) → k < mapBits
         go (yes h) = h
-        go (no h) = absurd (some (past (omega (arith, f .turns .inside))))
+        go (no h) = absurd (some (past (omega (arith, f .fields-read .turns .inside))))
 
     -- one more field
     pub fields-more : {q n′ refusal′ d : ℕ} {v′ : A} → (left ≡ 0 → ⊥) → Reads s q n′ v′ (fieldAt field map k value (drop next s))
@@ -70,10 +68,7 @@ module _ {A : Type 0} {field : ℕ → A → Reader A} {absent : A} {s : List �
     fields-more {refusal′ = refusal′} {d = d} some read e digits =
         record {
           map-byte = f .map-byte;
-          turns =
-              subst (Turns (turn (fieldAt field map)) mapBits 0 (got absent (drop at s)) (k + 1))
-              (sym (after (fieldAt field map k) (record { same = refl }) read e .same))
-              (turns-more (f .turns) (fields-bit some));
+          fields-read = repeat-more (f .fields-read) (fields-bit some) read e;
           standing = omega (arith, digits, f .standing, ones-from map k)
         }
 
@@ -81,5 +76,7 @@ module _ {A : Type 0} {field : ℕ → A → Reader A} {absent : A} {s : List �
     pub fields-done : left ≡ 0 → Reads s refusal next value (fields field map absent (drop at s))
     fields-done none =
         record {
-          same = sym (none-left field map (mapBits - k) k (asRead s refusal next value) (sym (f .standing) ∙ none)) ∙ f .turns .same
+          same =
+              sym (none-left field map (mapBits - k) k (asRead s refusal next value) (sym (f .standing) ∙ none))
+              ∙ f .fields-read .turns .same
         }

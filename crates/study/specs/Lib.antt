@@ -1,3 +1,5 @@
 pub mod Absent
+pub mod Edits
+pub mod Inputs
 pub mod Joint
 pub mod Zero

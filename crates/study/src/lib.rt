@@ -1,6 +1,8 @@
 // The study: its components, gates and loads, as an opened study holds them. Structs, their zero and absent values, and state counts.
 ghost use mathlib.Core.Path.{_≡_};
 ghost use Rattle.study.specs.Zero.{noComponents, zeroGate, noGates, noLoads, zeroStudy};
+ghost use Rattle.study.specs.Edits.{withProbabilities, withCustomers, withMinutes};
+ghost use Rattle.study.specs.Inputs.{inputCount};
 ghost use Rattle.study.specs.Joint.{states};
 ghost use Rattle.study.specs.Absent.{absentComponent, absentGate, absentLoad};
 
@@ -155,4 +157,44 @@ pub fn state_counts(component: [Component; 12]) -> [u8; 12]
         i = i + 1;
     }
     counts
+}
+
+// A record with one field anew.
+
+pub fn with_probabilities(p1: u32, p2: u32, p3: u32, c: Component) -> Component
+    ensures { λ r. ⌜ r ≡ withProbabilities p1 p2 p3 c ⌝ }
+{
+    Component {
+        states: c.states,
+        p1,
+        p2,
+        p3,
+    }
+}
+
+pub fn with_customers(n: u32, l: Load) -> Load
+    ensures { λ r. ⌜ r ≡ withCustomers n l ⌝ }
+{
+    Load {
+        gate: l.gate,
+        customers: n,
+        minutes: l.minutes,
+    }
+}
+
+pub fn with_minutes(n: u32, l: Load) -> Load
+    ensures { λ r. ⌜ r ≡ withMinutes n l ⌝ }
+{
+    Load {
+        gate: l.gate,
+        customers: l.customers,
+        minutes: n,
+    }
+}
+
+// How many inputs a gate has, tests and gates together.
+pub fn input_count(g: Gate) -> u32
+    ensures { λ r. ⌜ r ≡ inputCount g ⌝ }
+{
+    g.tests as u32 + g.gates as u32
 }

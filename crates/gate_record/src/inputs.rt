@@ -1,0 +1,98 @@
+// The gate inputs of a gate: a count, then so many numbers of lower gates.
+use crate::GateRead;
+use reading::byte_at;
+use reading::ByteRead;
+use rules::ahead_fault;
+use rules::first;
+use rules::inputs_fault;
+use rules::MOST_GATE_INPUTS;
+use study::Gate;
+ghost use mathlib.Core.Path.{_≡_};
+ghost use Prim.Native.Nat.{_<_, _≤_};
+ghost use lib.ListN.{drop};
+ghost use Rattle.reading.specs.Reader.{Reads, repeat};
+ghost use Rattle.gate_record.specs.Gate.{inputsByte, withInput, input, inputs};
+
+// A count of tests or of gate inputs, which is in range where it is not refused.
+pub fn inputs_at(bytes: &[u8], at: usize, most: u8) -> ByteRead
+    ensures {
+        λ r. ⌜ Reads (now (bytes .entry)) (r .refusal) (r .next) (r .value) (inputsByte most (drop at (now (bytes .entry)))) ⌝
+    }
+    ensures { λ r. ⌜ (r .refusal ≡ 0 → r .value ≤ most) ⌝ }
+{
+    let b = byte_at(bytes, at);
+    ByteRead {
+        refusal: first(b.refusal, inputs_fault(most, b.value)),
+        next: b.next,
+        value: b.value,
+    }
+}
+
+// The gate with gate input j anew.
+fn with_input(j: usize, gate: u8, g: Gate) -> Gate
+    requires { ⌜ j < 31 ⌝ }
+    ensures { λ r. ⌜ r ≡ withInput j gate g ⌝ }
+{
+    let mut h = g;
+    h.input[j] = gate;
+    h
+}
+
+// Gate input j of the gate with this number.
+fn read_input(bytes: &[u8], at: usize, number: usize, j: usize, g: Gate) -> GateRead
+    requires { ⌜ j < 31 ⌝ }
+    ensures {
+        λ r. ⌜ Reads (now (bytes .entry)) (r .refusal) (r .next) (r .gate) (input number j g (drop at (now (bytes .entry)))) ⌝
+    }
+{
+    let b = byte_at(bytes, at);
+    GateRead {
+        refusal: first(b.refusal, ahead_fault(number, b.value)),
+        next: b.next,
+        gate: with_input(j, b.value, g),
+    }
+}
+
+// So many gate inputs.
+fn read_input_list(bytes: &[u8], at: usize, number: usize, n: usize, g: Gate) -> GateRead
+    requires { ⌜ n ≤ 31 ⌝ }
+    ensures {
+        λ r. ⌜ Reads (now (bytes .entry)) (r .refusal) (r .next) (r .gate) (repeat (input number) n g (drop at (now (bytes .entry)))) ⌝
+    }
+{
+    let mut refusal: u8 = 0;
+    let mut next = at;
+    let mut gate = g;
+    let mut j: usize = 0;
+    while j < n {
+        let t = read_input(bytes, next, number, j, gate);
+        refusal = first(refusal, t.refusal);
+        next = t.next;
+        gate = t.gate;
+        j = j + 1;
+    }
+    GateRead {
+        refusal,
+        next,
+        gate,
+    }
+}
+
+// The field of bit 2.
+pub fn read_inputs(bytes: &[u8], at: usize, number: usize, g: Gate) -> GateRead
+    ensures {
+        λ r. ⌜ Reads (now (bytes .entry)) (r .refusal) (r .next) (r .gate) (inputs number g (drop at (now (bytes .entry)))) ⌝
+    }
+{
+    let n = inputs_at(bytes, at, MOST_GATE_INPUTS);
+    if n.refusal != 0 {
+        return GateRead {
+            refusal: n.refusal,
+            next: at,
+            gate: g,
+        };
+    }
+    let mut h = g;
+    h.gates = n.value;
+    read_input_list(bytes, n.next, number, n.value as usize, h)
+}

@@ -1,0 +1,100 @@
+// The tests of a gate: a count, then so many pairs of a component and a mask of its states.
+use crate::GateRead;
+use reading::byte_at;
+use rules::first;
+use rules::mask_fault;
+use rules::no_component_fault;
+use rules::MOST_TESTS;
+use study::Gate;
+ghost use mathlib.Core.Path.{_≡_};
+ghost use Prim.Native.Nat.{_<_, _≤_};
+ghost use lib.ListN.{drop, getD};
+ghost use Rattle.reading.specs.Reader.{Reads, repeat};
+ghost use Rattle.gate_record.specs.Gate.{withTest, test, tests};
+
+// The state count of a component, and 0 for one that is not in the study.
+fn states_of(counts: &[u8], component: u8) -> u8
+    ensures { λ r. ⌜ r ≡ getD (now (counts .entry)) component 0 ⌝ }
+{
+    let i = component as usize;
+    if i < counts.len() {
+        return counts[i];
+    }
+    0
+}
+
+// The gate with test j anew.
+fn with_test(j: usize, component: u8, mask: u8, g: Gate) -> Gate
+    requires { ⌜ j < 12 ⌝ }
+    ensures { λ r. ⌜ r ≡ withTest j component mask g ⌝ }
+{
+    let mut h = g;
+    h.component[j] = component;
+    h.mask[j] = mask;
+    h
+}
+
+// Test j: the component, then the mask, each judged as soon as it is read.
+fn read_test(bytes: &[u8], at: usize, counts: &[u8], j: usize, g: Gate) -> GateRead
+    requires { ⌜ j < 12 ⌝ }
+    ensures {
+        λ r.
+        ⌜ Reads (now (bytes .entry)) (r .refusal) (r .next) (r .gate) (test (now (counts .entry)) j g (drop at (now (bytes .entry)))) ⌝
+    }
+{
+    let c = byte_at(bytes, at);
+    let m = byte_at(bytes, c.next);
+    let component = no_component_fault(counts.len(), c.value);
+    let mask = mask_fault(states_of(counts, c.value), m.value);
+    GateRead {
+        refusal: first(c.refusal, first(component, first(m.refusal, mask))),
+        next: m.next,
+        gate: with_test(j, c.value, m.value, g),
+    }
+}
+
+// So many tests.
+fn read_test_list(bytes: &[u8], at: usize, counts: &[u8], n: usize, g: Gate) -> GateRead
+    requires { ⌜ n ≤ 12 ⌝ }
+    ensures {
+        λ r.
+        ⌜ Reads (now (bytes .entry)) (r .refusal) (r .next) (r .gate) (repeat (test (now (counts .entry))) n g (drop at (now (bytes .entry)))) ⌝
+    }
+{
+    let mut refusal: u8 = 0;
+    let mut next = at;
+    let mut gate = g;
+    let mut j: usize = 0;
+    while j < n {
+        let t = read_test(bytes, next, counts, j, gate);
+        refusal = first(refusal, t.refusal);
+        next = t.next;
+        gate = t.gate;
+        j = j + 1;
+    }
+    GateRead {
+        refusal,
+        next,
+        gate,
+    }
+}
+
+// The field of bit 1.
+pub fn read_tests(bytes: &[u8], at: usize, counts: &[u8], g: Gate) -> GateRead
+    ensures {
+        λ r.
+        ⌜ Reads (now (bytes .entry)) (r .refusal) (r .next) (r .gate) (tests (now (counts .entry)) g (drop at (now (bytes .entry)))) ⌝
+    }
+{
+    let n = crate::inputs::inputs_at(bytes, at, MOST_TESTS);
+    if n.refusal != 0 {
+        return GateRead {
+            refusal: n.refusal,
+            next: at,
+            gate: g,
+        };
+    }
+    let mut h = g;
+    h.tests = n.value;
+    read_test_list(bytes, n.next, counts, n.value as usize, h)
+}

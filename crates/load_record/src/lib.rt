@@ -1,0 +1,156 @@
+// Reads one load record. Not for callers from outside.
+use reading::byte_at;
+use reading::field_count;
+use reading::map_at;
+use reading::map_digit;
+use reading::word_at;
+use reading::WordRead;
+use rules::first;
+use rules::no_gate_fault;
+use rules::size_fault;
+use rules::LOAD_MAPS;
+use rules::MOST_CUSTOMERS;
+use rules::MOST_MINUTES;
+use study::absent_load;
+use study::with_customers;
+use study::with_minutes;
+use study::Load;
+ghost use Prim.Native.Nat.{_<_};
+ghost use lib.ListN.{drop};
+ghost use Rattle.reading.specs.Reader.{Reads};
+ghost use Rattle.reading.specs.Fields.{fieldAt, fields};
+ghost use Rattle.study.specs.Absent.{absentLoad};
+ghost use Rattle.load_record.specs.Load.{lossGate, size, customers, minutes, loadField, load};
+
+pub struct LoadRead {
+    pub refusal: u8,
+    pub next: usize,
+    pub load: Load,
+}
+
+// The field of bit 0.
+fn read_loss_gate(bytes: &[u8], at: usize, gates: u8, l: Load) -> LoadRead
+    ensures {
+        λ r. ⌜ Reads (now (bytes .entry)) (r .refusal) (r .next) (r .load) (lossGate gates l (drop at (now (bytes .entry)))) ⌝
+    }
+{
+    let b = byte_at(bytes, at);
+    LoadRead {
+        refusal: first(b.refusal, no_gate_fault(gates, b.value)),
+        next: b.next,
+        load: Load {
+            gate: b.value,
+            customers: l.customers,
+            minutes: l.minutes,
+        },
+    }
+}
+
+// A number of four bytes that is at most `most`.
+fn read_size(bytes: &[u8], at: usize, most: u32) -> WordRead
+    ensures {
+        λ r. ⌜ Reads (now (bytes .entry)) (r .refusal) (r .next) (r .value) (size most (drop at (now (bytes .entry)))) ⌝
+    }
+{
+    let w = word_at(bytes, at);
+    WordRead {
+        refusal: first(w.refusal, size_fault(most, w.value)),
+        next: w.next,
+        value: w.value,
+    }
+}
+
+// The field of bit 1.
+fn read_customers(bytes: &[u8], at: usize, l: Load) -> LoadRead
+    ensures {
+        λ r. ⌜ Reads (now (bytes .entry)) (r .refusal) (r .next) (r .load) (customers l (drop at (now (bytes .entry)))) ⌝
+    }
+{
+    let n = read_size(bytes, at, MOST_CUSTOMERS);
+    LoadRead {
+        refusal: n.refusal,
+        next: n.next,
+        load: with_customers(n.value, l),
+    }
+}
+
+// The field of bit 2.
+fn read_minutes(bytes: &[u8], at: usize, l: Load) -> LoadRead
+    ensures {
+        λ r. ⌜ Reads (now (bytes .entry)) (r .refusal) (r .next) (r .load) (minutes l (drop at (now (bytes .entry)))) ⌝
+    }
+{
+    let n = read_size(bytes, at, MOST_MINUTES);
+    LoadRead {
+        refusal: n.refusal,
+        next: n.next,
+        load: with_minutes(n.value, l),
+    }
+}
+
+// The field of bit k, where the bit stands in the map.
+fn read_field(bytes: &[u8], at: usize, gates: u8, map: u8, k: u8, l: Load) -> LoadRead
+    requires { ⌜ k < 8 ⌝ }
+    ensures {
+        λ r.
+        ⌜ Reads (now (bytes .entry)) (r .refusal) (r .next) (r .load) (fieldAt (loadField gates) map k l (drop at (now (bytes .entry)))) ⌝
+    }
+{
+    if map_digit(map, k) != 1 {
+        return LoadRead {
+            refusal: 0,
+            next: at,
+            load: l,
+        };
+    }
+    if k == 0 {
+        return read_loss_gate(bytes, at, gates, l);
+    }
+    if k == 1 {
+        return read_customers(bytes, at, l);
+    }
+    read_minutes(bytes, at, l)
+}
+
+// The fields whose bit stands in the map, lowest bit first, over their absent values: as many as the map has ones.
+fn read_fields(bytes: &[u8], at: usize, gates: u8, map: u8) -> LoadRead
+    ensures {
+        λ r.
+        ⌜ Reads (now (bytes .entry)) (r .refusal) (r .next) (r .load) (fields (loadField gates) map absentLoad (drop at (now (bytes .entry)))) ⌝
+    }
+{
+    let mut refusal: u8 = 0;
+    let mut next = at;
+    let mut load = absent_load();
+    let mut left = field_count(map);
+    let mut k: u8 = 0;
+    while left != 0 {
+        let field = read_field(bytes, next, gates, map, k, load);
+        refusal = first(refusal, field.refusal);
+        next = field.next;
+        load = field.load;
+        left = left - map_digit(map, k) as u32;
+        k = k + 1;
+    }
+    LoadRead {
+        refusal,
+        next,
+        load,
+    }
+}
+
+// One load record of a study with so many gates.
+pub fn read_load(bytes: &[u8], at: usize, gates: u8) -> LoadRead
+    ensures {
+        λ r. ⌜ Reads (now (bytes .entry)) (r .refusal) (r .next) (r .load) (load gates (drop at (now (bytes .entry)))) ⌝
+    }
+{
+    let m = map_at(bytes, at, LOAD_MAPS);
+    let f = read_fields(bytes, m.next, gates, m.value);
+    let l = f.load;
+    LoadRead {
+        refusal: first(m.refusal, f.refusal),
+        next: f.next,
+        load: l,
+    }
+}

@@ -1,0 +1,49 @@
+-- What a breach of 0 tells: the rule behind it is kept. These carry a rule from the refusal table to the facts that a proof needs.
+use Prim.Native.Nat.{ℕ, zero, suc, _<_, _≤_}
+use mathlib.Core.Path.{_≡_, refl, sym, _∙_}
+use mathlib.Core.Bool.{Bool, true, false, _||_, true≢false}
+use mathlib.Core.List.{List, [], _∷_}
+use native.Mathlib.Omega.{arith}
+use lib.Dec.{eqb, ltb, leb}
+use borrow.Author.Tests.{ltb-false, leb-false, eqb-true, eqb-false}
+use Rattle.rules.specs.Breach.{refuse, first, outside, given}
+
+-- neither of two is a breach
+pub record Neither (a b : ℕ) : Type 0 where
+  pub left : a ≡ 0
+  pub right : b ≡ 0
+
+pub first-kept : (a b : ℕ) → first a b ≡ 0 → Neither a b
+unfolding first
+first-kept a b e = go (eqb a 0) refl
+  where
+    go : (t : Bool) → eqb a 0 ≡ t → Neither a b
+    go true t = record { left = eqb-true a 0 t; right = rw t at e }
+    go false t = absurd (eqb-false a 0 t (rw t at e))
+
+pub first-none : (a b : ℕ) → a ≡ 0 → b ≡ 0 → first a b ≡ 0
+unfolding first
+first-none a b p q = rw p q
+
+-- the rule of a row is kept
+pub refuse-kept : (n : ℕ) (broken : Bool) → refuse (suc n) broken ≡ 0 → broken ≡ false
+unfolding refuse
+refuse-kept n true e = absurd (omega arith)
+refuse-kept n false e = refl
+
+-- n is one of lowest to highest
+pub record Within (lowest highest n : ℕ) : Type 0 where
+  pub least : lowest ≤ n
+  pub most : n ≤ highest
+
+pub outside-kept : (lowest highest n : ℕ) → outside lowest highest n ≡ false → Within lowest highest n
+unfolding outside
+outside-kept lowest highest n e = go (ltb n lowest) refl
+  where
+    go : (t : Bool) → ltb n lowest ≡ t → Within lowest highest n
+    go true t = absurd (true≢false (rw t at e))
+    go false t = record { least = ltb-false n lowest t; most = ltb-false highest n (rw t at e) }
+
+-- a field at its absent value, or one that keeps its rule
+pub range-kept : (row lowest highest n : ℕ) → refuse (suc row) (outside lowest highest n) ≡ 0 → Within lowest highest n
+range-kept row lowest highest n e = outside-kept lowest highest n (refuse-kept row (outside lowest highest n) e)
