@@ -1,0 +1,19 @@
+-- `opening::loads::bytes_left` meets its contract: what is dropped from the length is left of it.
+use mathlib.Core.Path.{_≡_, sym}
+use native.Mathlib.Omega.{arith}
+use lib.ListN.{length-drop}
+use borrow.Author.Needs.{needs}
+use Rattle.opening.proofs.loads.bytes_left.Statement.{statement}
+use Rattle.opening.proofs.loads.bytes_left.Tie as tie
+
+sub-result : tie.Need-sub-result
+sub-result c = search needs
+
+returns : tie.Need-returns
+returns c = rw length-drop
+
+returns-2 : tie.Need-returns-2
+returns-2 c = simp length-drop (omega arith)
+
+pub bytes-left-spec : {M : Type 1} → statement M
+bytes-left-spec = tie.close (tie.spec sub-result returns returns-2)

@@ -1,0 +1,86 @@
+-- Opening a study: the three counts, then the component, gate and load records, then the end of the bytes.
+use Prim.Native.Nat.{ℕ, _*_}
+use mathlib.Core.List.{List}
+use lib.ListN.{length, take, set}
+use Rattle.lists.specs.Product.{product}
+use Rattle.rules.specs.Limits.{mostComponents, mostGates, mostLoads}
+use Rattle.rules.specs.Table.{countFault, widthFault, leftFault}
+use Rattle.reading.specs.Reader.{Read, refused, got, Reader, byte, judge, return, repeat, _>>=_, _>>_}
+use Rattle.component_record.specs.Component.{component}
+use Rattle.gate_record.specs.Gate.{gate}
+use Rattle.load_record.specs.Load.{load}
+use Rattle.study.specs.declared.Component.{Component}
+use Rattle.study.specs.declared.Gate.{Gate}
+use Rattle.study.specs.declared.Load.{Load}
+use Rattle.study.specs.declared.Study.{Study}
+use Rattle.study.specs.declared.Outcome.the-variants.{Done, Refused}
+use Rattle.study.specs.declared.StudyAnswer.{StudyAnswer}
+use Rattle.study.specs.Joint.{states}
+use Rattle.study.specs.Zero.{noComponents, noGates, noLoads, zeroStudy}
+
+-- one of the first three bytes
+unfoldable pub count : ℕ → Reader ℕ
+count most = do
+  n ← byte
+  judge (countFault most n)
+  return n
+
+-- a component after others that have so many joint states
+unfoldable pub componentAfter : ℕ → Reader Component
+componentAfter jointStates = do
+  c ← component
+  judge (widthFault (jointStates * c .states))
+  return c
+
+-- component i; those before it have as many joint states as the product of their state counts
+unfoldable pub componentRecord : ℕ → List Component → Reader Component
+componentRecord i cs = componentAfter (product (take i (states cs)))
+
+-- gate i; `counts` has the state count of each component
+abbrev pub gateRecord : List ℕ → ℕ → List Gate → Reader Gate
+gateRecord counts i gs = gate counts i
+
+-- a load of a study with so many gates
+abbrev pub loadRecord : ℕ → ℕ → List Load → Reader Load
+loadRecord gates j ls = load gates
+
+-- each record goes to its own place
+abbrev pub placing : {A : Type 0} → (ℕ → List A → Reader A) → ℕ → List A → Reader (List A)
+placing next i places = do
+  a ← next i places
+  return (set places i a)
+
+-- the bytes end here
+unfoldable pub end : Reader (Unit {0})
+end bytes = judge (leftFault (length bytes)) bytes
+
+-- so many load records, and the end
+unfoldable pub loadsToEnd : ℕ → ℕ → Reader (List Load)
+loadsToEnd gates loads = do
+  ls ← repeat (placing (loadRecord gates)) loads noLoads
+  end
+  return ls
+
+-- the records of a study with these counts, and the end
+unfoldable pub records : ℕ → ℕ → ℕ → Reader Study
+records components gates loads = do
+  cs ← repeat (placing componentRecord) components noComponents
+  gs ← repeat (placing (gateRecord (take components (states cs)))) gates noGates
+  ls ← loadsToEnd gates loads
+  return (record { components = components; gates = gates; loads = loads; component = cs; gate = gs; load = ls })
+
+unfoldable pub study : Reader Study
+study = do
+  components ← count mostComponents
+  gates ← count mostGates
+  loads ← count mostLoads
+  records components gates loads
+
+-- a refused opening answers the number and a study of zeros
+unfoldable pub answer : Read Study → StudyAnswer
+answer (refused n) = record { outcome = Refused n; study = zeroStudy }
+answer (got t rest) = record { outcome = Done; study = t }
+
+-- what opening answers
+unfoldable pub opened : List ℕ → StudyAnswer
+opened bytes = answer (study bytes)

@@ -1,0 +1,70 @@
+// The component records of a study.
+use component_record::read_component;
+use component_record::ComponentRead;
+use rules::first;
+use rules::width_fault;
+use study::no_components;
+use study::Component;
+ghost use mathlib.Core.Path.{_≡_};
+ghost use Prim.Native.Nat.{_*_, _≤_};
+ghost use lib.ListN.{drop};
+ghost use Rattle.reading.specs.Reader.{Reads, repeat};
+ghost use Rattle.study.specs.Zero.{noComponents};
+ghost use Rattle.opening.specs.Opening.{componentAfter, componentRecord, placing};
+
+pub struct ComponentsRead {
+    pub refusal: u8,
+    pub next: usize,
+    pub component: [Component; 12],
+}
+
+// A component after others that have so many joint states; where it is not refused, they stay within the limit.
+fn read_component_after(bytes: &[u8], at: usize, joint: u32) -> ComponentRead
+    requires { ⌜ joint ≤ 4096 ⌝ }
+    ensures {
+        λ r. ⌜ Reads (now (bytes .entry)) (r .refusal) (r .next) (r .component) (componentAfter joint (drop at (now (bytes .entry)))) ⌝
+    }
+    ensures { λ r. ⌜ (r .refusal ≡ 0 → joint * r .component .states ≤ 4096) ⌝ }
+{
+    let r = read_component(bytes, at);
+    let c = r.component;
+    ComponentRead {
+        refusal: first(r.refusal, width_fault(joint * c.states as u32)),
+        next: r.next,
+        component: c,
+    }
+}
+
+// So many component records, each in its place, up to the first breach.
+pub fn read_components(bytes: &[u8], at: usize, n: usize) -> ComponentsRead
+    requires { ⌜ n ≤ 12 ⌝ }
+    ensures {
+        λ r.
+        ⌜ Reads (now (bytes .entry)) (r .refusal) (r .next) (r .component) (repeat (placing componentRecord) n noComponents (drop at (now (bytes .entry)))) ⌝
+    }
+{
+    let mut next = at;
+    let mut component = no_components();
+    let mut joint: u32 = 1;
+    let mut i: usize = 0;
+    while i < n {
+        let r = read_component_after(bytes, next, joint);
+        if r.refusal != 0 {
+            return ComponentsRead {
+                refusal: r.refusal,
+                next,
+                component,
+            };
+        }
+        let c = r.component;
+        component[i] = c;
+        joint = joint * c.states as u32;
+        next = r.next;
+        i = i + 1;
+    }
+    ComponentsRead {
+        refusal: 0,
+        next,
+        component,
+    }
+}

@@ -1,0 +1,47 @@
+// The gate records of a study.
+use gate_record::read_gate;
+use study::no_gates;
+use study::Gate;
+ghost use Prim.Native.Nat.{_≤_};
+ghost use lib.ListN.{drop};
+ghost use Rattle.reading.specs.Reader.{Reads, repeat};
+ghost use Rattle.study.specs.Zero.{noGates};
+ghost use Rattle.opening.specs.Opening.{gateRecord, placing};
+
+pub struct GatesRead {
+    pub refusal: u8,
+    pub next: usize,
+    pub gate: [Gate; 32],
+}
+
+// So many gate records, each in its place, up to the first breach; `counts` has the state count of each component.
+pub fn read_gates(bytes: &[u8], at: usize, counts: &[u8], n: usize) -> GatesRead
+    requires { ⌜ n ≤ 32 ⌝ }
+    ensures {
+        λ r.
+        ⌜ Reads (now (bytes .entry)) (r .refusal) (r .next) (r .gate) (repeat (placing (gateRecord (now (counts .entry)))) n noGates (drop at (now (bytes .entry)))) ⌝
+    }
+{
+    let mut next = at;
+    let mut gate = no_gates();
+    let mut i: usize = 0;
+    while i < n {
+        let r = read_gate(bytes, next, counts, i);
+        if r.refusal != 0 {
+            return GatesRead {
+                refusal: r.refusal,
+                next,
+                gate,
+            };
+        }
+        let g = r.gate;
+        gate[i] = g;
+        next = r.next;
+        i = i + 1;
+    }
+    GatesRead {
+        refusal: 0,
+        next,
+        gate,
+    }
+}

@@ -1,0 +1,108 @@
+// Opens a study: bytes to a study, refused with the number of the first breach. Not for callers from outside: those call `planning`.
+mod components;
+mod gates;
+mod loads;
+
+use components::read_components;
+use gates::read_gates;
+use loads::read_loads_to_end;
+use reading::byte_at;
+use reading::ByteRead;
+use rules::count_fault;
+use rules::first;
+use rules::MOST_COMPONENTS;
+use rules::MOST_GATES;
+use rules::MOST_LOADS;
+use study::state_counts;
+use study::zero_study;
+use study::Outcome;
+use study::Study;
+use study::StudyAnswer;
+ghost use mathlib.Core.Path.{_≡_};
+ghost use Prim.Native.Nat.{_≤_};
+ghost use lib.ListN.{drop};
+ghost use Rattle.reading.specs.Reader.{Reads, refused};
+ghost use Rattle.opening.specs.Opening.{count, records, answer, opened};
+
+// One of the first three bytes, which is in range where it is not refused.
+fn count_at(bytes: &[u8], at: usize, most: u8) -> ByteRead
+    ensures {
+        λ r. ⌜ Reads (now (bytes .entry)) (r .refusal) (r .next) (r .value) (count most (drop at (now (bytes .entry)))) ⌝
+    }
+    ensures { λ r. ⌜ (r .refusal ≡ 0 → r .value ≤ most) ⌝ }
+{
+    let b = byte_at(bytes, at);
+    ByteRead {
+        refusal: first(b.refusal, count_fault(most, b.value)),
+        next: b.next,
+        value: b.value,
+    }
+}
+
+// The answer of an opening that is refused.
+fn refused_opening(number: u8) -> StudyAnswer
+    ensures { λ r. ⌜ r ≡ answer (refused number) ⌝ }
+{
+    let study = zero_study();
+    StudyAnswer {
+        outcome: Outcome::Refused(number),
+        study,
+    }
+}
+
+// The records of a study with these counts, and the end of the bytes.
+fn open_records(bytes: &[u8], at: usize, components: u8, gates: u8, loads: u8) -> StudyAnswer
+    requires { ⌜ components ≤ 12 ⌝ }
+    requires { ⌜ gates ≤ 32 ⌝ }
+    requires { ⌜ loads ≤ 8 ⌝ }
+    ensures { λ r. ⌜ r ≡ answer (records components gates loads (drop at (now (bytes .entry)))) ⌝ }
+{
+    let n = components as usize;
+    let cs = read_components(bytes, at, n);
+    if cs.refusal != 0 {
+        return refused_opening(cs.refusal);
+    }
+    let component = cs.component;
+    let counts = state_counts(component);
+    let gs = read_gates(bytes, cs.next, &counts[..n], gates as usize);
+    if gs.refusal != 0 {
+        return refused_opening(gs.refusal);
+    }
+    let ls = read_loads_to_end(bytes, gs.next, gates, loads as usize);
+    if ls.refusal != 0 {
+        return refused_opening(ls.refusal);
+    }
+    let gate = gs.gate;
+    let load = ls.load;
+    let study = Study {
+        components,
+        gates,
+        loads,
+        component,
+        gate,
+        load,
+    };
+    StudyAnswer {
+        outcome: Outcome::Done,
+        study,
+    }
+}
+
+// Opens a study.
+pub fn open(bytes: &[u8]) -> StudyAnswer
+    ensures { λ r. ⌜ r ≡ opened (now (bytes .entry)) ⌝ }
+{
+    let c = count_at(bytes, 0, MOST_COMPONENTS);
+    if c.refusal != 0 {
+        return refused_opening(c.refusal);
+    }
+    let g = count_at(bytes, c.next, MOST_GATES);
+    if g.refusal != 0 {
+        return refused_opening(g.refusal);
+    }
+    let l = count_at(bytes, g.next, MOST_LOADS);
+    if l.refusal != 0 {
+        return refused_opening(l.refusal);
+    }
+    open_records(bytes, l.next, c.value, g.value, l.value)
+}
