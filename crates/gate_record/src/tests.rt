@@ -5,23 +5,13 @@ use rules::first;
 use rules::mask_fault;
 use rules::no_component_fault;
 use rules::MOST_TESTS;
+use study::states_of;
 use study::Gate;
 ghost use mathlib.Core.Path.{_≡_};
 ghost use Prim.Native.Nat.{_<_, _≤_};
-ghost use lib.ListN.{drop, getD};
+ghost use lib.ListN.{drop};
 ghost use Rattle.reading.specs.Reader.{Reads, repeat};
 ghost use Rattle.gate_record.specs.Gate.{withTest, test, tests};
-
-// The state count of a component, and 0 for one that is not in the study.
-fn states_of(counts: &[u8], component: u8) -> u8
-    ensures { λ r. ⌜ r ≡ getD (now (counts .entry)) component 0 ⌝ }
-{
-    let i = component as usize;
-    if i < counts.len() {
-        return counts[i];
-    }
-    0
-}
 
 // The gate with test j anew.
 fn with_test(j: usize, component: u8, mask: u8, g: Gate) -> Gate

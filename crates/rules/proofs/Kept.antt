@@ -1,12 +1,12 @@
 -- What a breach of 0 tells: the rule behind it is kept. These carry a rule from the refusal table to the facts that a proof needs.
-use Prim.Native.Nat.{ℕ, zero, suc, _<_, _≤_}
+use Prim.Native.Nat.{ℕ, suc, _≤_}
 use mathlib.Core.Path.{_≡_, refl, sym, _∙_}
-use mathlib.Core.Bool.{Bool, true, false, _||_, true≢false}
-use mathlib.Core.List.{List, [], _∷_}
+use mathlib.Core.Bool.{Bool, true, false, true≢false}
+use mathlib.Core.List.{List, _∷_}
 use native.Mathlib.Omega.{arith}
-use lib.Dec.{eqb, ltb, leb}
-use borrow.Author.Tests.{ltb-false, leb-false, eqb-true, eqb-false}
-use Rattle.rules.specs.Breach.{refuse, first, outside, given}
+use lib.Dec.{eqb, ltb}
+use borrow.Author.Tests.{ltb-false, eqb-true, eqb-false}
+use Rattle.rules.specs.Breach.{refuse, first, firstBreach, outside}
 
 -- neither of two is a breach
 pub record Neither (a b : ℕ) : Type 0 where
@@ -24,6 +24,20 @@ first-kept a b e = go (eqb a 0) refl
 pub first-none : (a b : ℕ) → a ≡ 0 → b ≡ 0 → first a b ≡ 0
 unfolding first
 first-none a b p q = rw p q
+
+-- no breach in a list: none at its front, and none behind it
+pub list-kept : (b : ℕ) (bs : List ℕ) → firstBreach (b ∷ bs) ≡ 0 → Neither b (firstBreach bs)
+unfolding firstBreach
+list-kept b bs e = first-kept b (firstBreach bs) e
+
+-- nothing is judged after the last
+pub first-last : (a : ℕ) → first a 0 ≡ a
+unfolding first
+first-last a = go (eqb a 0) refl
+  where
+    go : (t : Bool) → eqb a 0 ≡ t → first a 0 ≡ a
+    go true t = rw t (sym (eqb-true a 0 t))
+    go false t = rw t
 
 -- the rule of a row is kept
 pub refuse-kept : (n : ℕ) (broken : Bool) → refuse (suc n) broken ≡ 0 → broken ≡ false

@@ -3,6 +3,7 @@ use Prim.Native.Nat.{ℕ}
 use mathlib.Core.Bool.{Bool, true, false, _||_, cond}
 use mathlib.Core.List.{List, [], _∷_}
 use lib.Dec.{ltb, eqb}
+use Rattle.lists.specs.Run.{each}
 
 -- the row's number where its rule is broken
 unfoldable pub refuse : ℕ → Bool → ℕ
@@ -17,9 +18,18 @@ unfoldable pub firstBreach : List ℕ → ℕ
 firstBreach [] = 0
 firstBreach (b ∷ bs) = first b (firstBreach bs)
 
+-- the first breach among f i, f (i + 1), .. , n of them
+unfoldable pub firstOf : (ℕ → ℕ) → ℕ → ℕ → ℕ
+unfolding first
+firstOf f n i = each (λ (k breach : ℕ). first breach (f k)) n i 0
+
 -- n is not one of lowest to highest
 unfoldable pub outside : ℕ → ℕ → ℕ → Bool
 outside lowest highest n = ltb n lowest || ltb highest n
+
+-- a place below the count keeps the rules of its record, and any other is unused
+abbrev pub inUse : ℕ → ℕ → ℕ → ℕ → ℕ
+inUse count place used unused = cond (ltb place count) used unused
 
 -- a field that holds its absent value breaks no rule of a field that is given
 unfoldable pub given : ℕ → ℕ → ℕ → ℕ

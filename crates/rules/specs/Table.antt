@@ -1,5 +1,6 @@
 -- The refusal table: each row once, on plain numbers, with its number and its rule.
 use Prim.Native.Nat.{ℕ, _+_, _-_, _^_}
+use mathlib.Core.Bool.{Bool, not}
 use lib.Dec.{ltb, leb}
 use Rattle.units.specs.One.{one}
 use Rattle.rules.specs.Limits.{fewestStates, mostStates, mostJointStates}
@@ -64,3 +65,14 @@ sizeFault most n = refuse 14 (ltb most n)
 -- 15 left over: bytes after the last load
 abbrev pub leftFault : ℕ → ℕ
 leftFault bytes = refuse 15 (ltb 0 bytes)
+
+-- 16 unsound: an opened study that breaks a rule above, or holds anything but 0 in a place that no record uses
+abbrev pub unsoundFault : Bool → ℕ
+unsoundFault sound = refuse 16 (not sound)
+
+abbrev pub unusedFault : ℕ → ℕ
+unusedFault value = refuse 16 (ltb 0 value)
+
+-- 17 no item: a call names a component or load that is not in the study
+abbrev pub itemFault : ℕ → ℕ → ℕ
+itemFault count item = refuse 17 (leb count item)

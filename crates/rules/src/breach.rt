@@ -1,6 +1,6 @@
 // A breach is the number of a row of the refusal table, or 0; the first breach decides.
 ghost use mathlib.Core.Path.{_≡_};
-ghost use Rattle.rules.specs.Breach.{refuse, first, outside, given};
+ghost use Rattle.rules.specs.Breach.{outside, inUse};
 
 // The row's number where its rule is broken.
 pub fn refuse(number: u8, broken: bool) -> u8
@@ -21,6 +21,13 @@ pub fn given(absent: u32, value: u32, breach: u8) -> u8
     ensures { λ r. ⌜ r ≡ Rattle.rules.specs.Breach.given absent value breach ⌝ }
 {
     if value == absent { 0 } else { breach }
+}
+
+// The breach of a place below the count, and of any other place the breach of an unused one.
+pub fn in_use(count: u8, place: usize, used: u8, unused: u8) -> u8
+    ensures { λ r. ⌜ r ≡ inUse count place used unused ⌝ }
+{
+    if place < count as usize { used } else { unused }
 }
 
 // The row's number where n is not one of lowest to highest.

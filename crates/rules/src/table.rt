@@ -7,6 +7,7 @@ use crate::limits::MOST_STATES;
 ghost use mathlib.Core.Path.{_≡_};
 ghost use Rattle.rules.specs.Table.{countFault, strayFault, statesFault, noStateFault, sumFault, widthFault, inputsFault};
 ghost use Rattle.rules.specs.Table.{noComponentFault, maskFault, aheadFault, thresholdFault, noGateFault, sizeFault, leftFault};
+ghost use Rattle.rules.specs.Table.{unsoundFault, unusedFault, itemFault};
 
 // 2 counts
 pub fn count_fault(most: u8, n: u8) -> u8
@@ -107,4 +108,25 @@ pub fn left_fault(bytes: usize) -> u8
     ensures { λ r. ⌜ r ≡ leftFault bytes ⌝ }
 {
     refuse(15, 0 < bytes)
+}
+
+// 16 unsound
+pub fn unsound_fault(sound: bool) -> u8
+    ensures { λ r. ⌜ r ≡ unsoundFault sound ⌝ }
+{
+    refuse(16, !sound)
+}
+
+// 16 unsound: a place that no record uses
+pub fn unused_fault(value: u32) -> u8
+    ensures { λ r. ⌜ r ≡ unusedFault value ⌝ }
+{
+    refuse(16, 0 < value)
+}
+
+// 17 no item
+pub fn item_fault(count: u8, item: usize) -> u8
+    ensures { λ r. ⌜ r ≡ itemFault count item ⌝ }
+{
+    refuse(17, count as usize <= item)
 }

@@ -1,10 +1,9 @@
 -- A record with one field anew, and a study with one record anew.
 use Prim.Native.Nat.{ℕ}
-use lib.ListN.{getD, set}
+use lib.ListN.{set}
 use Rattle.study.specs.declared.Component.{Component}
 use Rattle.study.specs.declared.Load.{Load}
 use Rattle.study.specs.declared.Study.{Study}
-use Rattle.study.specs.Zero.{zeroComponent, zeroLoad}
 
 abbrev pub withProbabilities : ℕ → ℕ → ℕ → Component → Component
 withProbabilities p1 p2 p3 c = record { states = c .states; p1 = p1; p2 = p2; p3 = p3 }
@@ -14,13 +13,6 @@ withCustomers n l = record { gate = l .gate; customers = n; minutes = l .minutes
 
 abbrev pub withMinutes : ℕ → Load → Load
 withMinutes n l = record { gate = l .gate; customers = l .customers; minutes = n }
-
--- component i of a study, and load j
-abbrev pub componentAt : Study → ℕ → Component
-componentAt t i = getD (t .component) i zeroComponent
-
-abbrev pub loadAt : Study → ℕ → Load
-loadAt t j = getD (t .load) j zeroLoad
 
 abbrev pub withComponent : ℕ → Component → Study → Study
 withComponent i c t =

@@ -1,5 +1,8 @@
 // The study: its components, gates and loads, as an opened study holds them. Structs, their zero and absent values, and state counts.
+ghost use Prim.Native.Nat.{ℕ, _≤_, _<_};
 ghost use mathlib.Core.Path.{_≡_};
+ghost use lib.ListN.{length, getD};
+ghost use Rattle.lists.specs.Product.{product};
 ghost use Rattle.study.specs.Zero.{noComponents, zeroGate, noGates, noLoads, zeroStudy};
 ghost use Rattle.study.specs.Edits.{withProbabilities, withCustomers, withMinutes};
 ghost use Rattle.study.specs.Inputs.{inputCount};
@@ -157,6 +160,32 @@ pub fn state_counts(component: [Component; 12]) -> [u8; 12]
         i = i + 1;
     }
     counts
+}
+
+// The state count of a component, and 0 for one that is not in the study.
+pub fn states_of(counts: &[u8], component: u8) -> u8
+    ensures { λ r. ⌜ r ≡ getD (now (counts .entry)) component 0 ⌝ }
+{
+    let i = component as usize;
+    if i < counts.len() {
+        return counts[i];
+    }
+    0
+}
+
+// The number of joint states of components with these state counts, each at most 4.
+pub fn joint_states(counts: &[u8]) -> u32
+    requires { ⌜ length (now counts) ≤ 12 ⌝ }
+    requires { ⌜ ((k : ℕ) → k < length (now counts) → getD (now counts) k 0 ≤ 4) ⌝ }
+    ensures { λ r. ⌜ r ≡ product (now (counts .entry)) ⌝ }
+{
+    let mut joint: u32 = 1;
+    let mut i: usize = 0;
+    while i < counts.len() {
+        joint = joint * counts[i] as u32;
+        i = i + 1;
+    }
+    joint
 }
 
 // A record with one field anew.

@@ -1,10 +1,10 @@
--- `gate_record::tests::states_of` meets its contract: past the end of the counts the definition gives 0.
+-- `study::states_of` meets its contract: past the end of the counts the definition gives 0.
 use mathlib.Core.Path.{sym}
 use lib.ListN.{List·getD-eq-default}
 use denote.Ref.{now}
 use borrow.Author.Needs.{needs}
-use Rattle.gate_record.proofs.tests.states_of.Statement.{statement}
-use Rattle.gate_record.proofs.tests.states_of.Tie as tie
+use Rattle.study.proofs.states_of.Statement.{statement}
+use Rattle.study.proofs.states_of.Tie as tie
 
 shared-slice-read-result : tie.Need-shared-slice-read-result
 shared-slice-read-result c = search needs

@@ -1,0 +1,127 @@
+-- The soundness check as it is computed: the first breach among all the rules of `Sound`. A theorem of the project says that there is none
+-- exactly when the study is sound.
+use Prim.Native.Nat.{ℕ}
+use mathlib.Core.Bool.{Bool}
+use mathlib.Core.List.{List, [], _∷_}
+use lib.Dec.{eqb}
+use lib.ListN.{length, getD}
+use Rattle.lists.specs.Product.{product}
+use Rattle.rules.specs.Breach.{firstBreach, first, firstOf, given, inUse}
+use Rattle.rules.specs.Limits.{mostComponents, mostGates, mostLoads, mostTests, mostGateInputs, mostCustomers, mostMinutes, never}
+use Rattle.rules.specs.Table.{countFault, statesFault, noStateFault, sumFault, widthFault, inputsFault, noComponentFault, maskFault}
+use Rattle.rules.specs.Table.{aheadFault, thresholdFault, noGateFault, sizeFault, unusedFault}
+use Rattle.study.specs.declared.Component.{Component}
+use Rattle.study.specs.declared.Gate.{Gate}
+use Rattle.study.specs.declared.Load.{Load}
+use Rattle.study.specs.declared.Study.{Study}
+use Rattle.study.specs.Inputs.{inputCount}
+use Rattle.study.specs.Joint.{stateCounts}
+use Rattle.study.specs.Places.{noGate}
+use Rattle.study.specs.Zero.{zeroComponent, zeroLoad}
+
+unfoldable pub componentFault : Component → ℕ
+componentFault c =
+    firstBreach (
+      statesFault (c .states)
+      ∷ given 0 (c .p1) (noStateFault (c .states) 1)
+      ∷ given 0 (c .p2) (noStateFault (c .states) 2)
+      ∷ given 0 (c .p3) (noStateFault (c .states) 3)
+      ∷ sumFault (c .p1) (c .p2) (c .p3)
+      ∷ []
+    )
+
+unfoldable pub unusedComponentFault : Component → ℕ
+unusedComponentFault c =
+    firstBreach (unusedFault (c .states) ∷ unusedFault (c .p1) ∷ unusedFault (c .p2) ∷ unusedFault (c .p3) ∷ [])
+
+-- test place j of a gate with so many tests, and what stands there
+unfoldable pub testPlaceFault : List ℕ → ℕ → ℕ → ℕ → ℕ → ℕ
+testPlaceFault counts tests j component mask =
+    inUse tests j
+    (first (noComponentFault (length counts) component) (maskFault (getD counts component 0) mask))
+    (first (unusedFault component) (unusedFault mask))
+
+unfoldable pub testsFault : List ℕ → ℕ → List ℕ → List ℕ → ℕ
+testsFault counts tests component mask =
+    firstOf (λ (j : ℕ). testPlaceFault counts tests j (getD component j 0) (getD mask j 0)) mostTests 0
+
+-- gate input place j of gate i with so many gate inputs, and what stands there
+unfoldable pub inputPlaceFault : ℕ → ℕ → ℕ → ℕ → ℕ
+inputPlaceFault i gates j input = inUse gates j (aheadFault i input) (unusedFault input)
+
+unfoldable pub gateInputsFault : ℕ → ℕ → List ℕ → ℕ
+gateInputsFault i gates input = firstOf (λ (j : ℕ). inputPlaceFault i gates j (getD input j 0)) mostGateInputs 0
+
+-- the places of gate i
+unfoldable pub inputPlacesFault : List ℕ → ℕ → Gate → ℕ
+inputPlacesFault counts i g = first (testsFault counts (g .tests) (g .component) (g .mask)) (gateInputsFault i (g .gates) (g .input))
+
+unfoldable pub gateFault : List ℕ → ℕ → Gate → ℕ
+gateFault counts i g =
+    firstBreach (
+      given 0 (g .tests) (inputsFault mostTests (g .tests))
+      ∷ given 0 (g .gates) (inputsFault mostGateInputs (g .gates))
+      ∷ thresholdFault (inputCount g) (g .threshold)
+      ∷ inputPlacesFault counts i g
+      ∷ []
+    )
+
+unfoldable pub unusedGateFault : List ℕ → ℕ → Gate → ℕ
+unusedGateFault counts i g =
+    firstBreach (unusedFault (g .threshold) ∷ unusedFault (g .tests) ∷ unusedFault (g .gates) ∷ inputPlacesFault counts i g ∷ [])
+
+unfoldable pub loadFault : ℕ → Load → ℕ
+loadFault gates l =
+    firstBreach (
+      given never (l .gate) (noGateFault gates (l .gate))
+      ∷ sizeFault mostCustomers (l .customers)
+      ∷ sizeFault mostMinutes (l .minutes)
+      ∷ []
+    )
+
+unfoldable pub unusedLoadFault : Load → ℕ
+unusedLoadFault l = firstBreach (unusedFault (l .gate) ∷ unusedFault (l .customers) ∷ unusedFault (l .minutes) ∷ [])
+
+-- place i of a kind of record, with what stands there, and all such places
+unfoldable pub componentPlaceFault : ℕ → ℕ → Component → ℕ
+componentPlaceFault n i c = inUse n i (componentFault c) (unusedComponentFault c)
+
+unfoldable pub componentsFault : ℕ → List Component → ℕ
+componentsFault n cs = firstOf (λ (i : ℕ). componentPlaceFault n i (getD cs i zeroComponent)) mostComponents 0
+
+unfoldable pub gatePlaceFault : List ℕ → ℕ → ℕ → Gate → ℕ
+gatePlaceFault counts n i g = inUse n i (gateFault counts i g) (unusedGateFault counts i g)
+
+unfoldable pub gatesFault : List ℕ → ℕ → List Gate → ℕ
+gatesFault counts n gs = firstOf (λ (i : ℕ). gatePlaceFault counts n i (getD gs i noGate)) mostGates 0
+
+unfoldable pub loadPlaceFault : ℕ → ℕ → ℕ → Load → ℕ
+loadPlaceFault gates n j l = inUse n j (loadFault gates l) (unusedLoadFault l)
+
+unfoldable pub loadsFault : ℕ → ℕ → List Load → ℕ
+loadsFault gates n ls = firstOf (λ (j : ℕ). loadPlaceFault gates n j (getD ls j zeroLoad)) mostLoads 0
+
+-- the counts, and the components
+unfoldable pub frontFault : Study → ℕ
+frontFault t =
+    firstBreach (
+      countFault mostComponents (t .components)
+      ∷ countFault mostGates (t .gates)
+      ∷ countFault mostLoads (t .loads)
+      ∷ componentsFault (t .components) (t .component)
+      ∷ []
+    )
+
+-- the joint states, the gates and the loads
+unfoldable pub restFault : Study → ℕ
+restFault t =
+    firstBreach (
+      widthFault (product (stateCounts t))
+      ∷ gatesFault (stateCounts t) (t .gates) (t .gate)
+      ∷ loadsFault (t .gates) (t .loads) (t .load)
+      ∷ []
+    )
+
+-- no rule is broken
+unfoldable pub sound : Study → Bool
+sound t = eqb (first (frontFault t) (restFault t)) 0

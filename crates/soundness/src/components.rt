@@ -1,0 +1,51 @@
+// The component places of a study.
+use rules::first;
+use rules::given;
+use rules::in_use;
+use rules::no_state_fault;
+use rules::states_fault;
+use rules::sum_fault;
+use rules::unused_fault;
+use study::Component;
+ghost use mathlib.Core.Path.{_≡_};
+ghost use Rattle.soundness.specs.Check.{componentFault, unusedComponentFault, componentPlaceFault, componentsFault};
+
+// The first breach of a component in use.
+fn component_fault(c: Component) -> u8
+    ensures { λ r. ⌜ r ≡ componentFault c ⌝ }
+{
+    let state1 = given(0, c.p1, no_state_fault(c.states, 1));
+    let state2 = given(0, c.p2, no_state_fault(c.states, 2));
+    let state3 = given(0, c.p3, no_state_fault(c.states, 3));
+    let sum = sum_fault(c.p1, c.p2, c.p3);
+    first(states_fault(c.states), first(state1, first(state2, first(state3, sum))))
+}
+
+// The first breach of a component place that no record uses.
+fn unused_component_fault(c: Component) -> u8
+    ensures { λ r. ⌜ r ≡ unusedComponentFault c ⌝ }
+{
+    let probabilities = first(unused_fault(c.p1), first(unused_fault(c.p2), unused_fault(c.p3)));
+    first(unused_fault(c.states as u32), probabilities)
+}
+
+// The breach of a component place of a study with so many components.
+fn component_place_fault(n: u8, i: usize, c: Component) -> u8
+    ensures { λ r. ⌜ r ≡ componentPlaceFault n i c ⌝ }
+{
+    in_use(n, i, component_fault(c), unused_component_fault(c))
+}
+
+// The first breach among the component places.
+pub fn components_fault(n: u8, component: [Component; 12]) -> u8
+    ensures { λ r. ⌜ r ≡ componentsFault n component ⌝ }
+{
+    let mut fault: u8 = 0;
+    let mut i: usize = 0;
+    while i < 12 {
+        let c = component[i];
+        fault = first(fault, component_place_fault(n, i, c));
+        i = i + 1;
+    }
+    fault
+}

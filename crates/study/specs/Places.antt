@@ -1,0 +1,22 @@
+-- What stands at a place of a study.
+use Prim.Native.Nat.{ℕ}
+use mathlib.Core.List.{[]}
+use lib.ListN.{getD}
+use Rattle.study.specs.declared.Component.{Component}
+use Rattle.study.specs.declared.Gate.{Gate}
+use Rattle.study.specs.declared.Load.{Load}
+use Rattle.study.specs.declared.Study.{Study}
+use Rattle.study.specs.Zero.{zeroComponent, zeroLoad}
+
+-- what is read past the last gate place
+abbrev pub noGate : Gate
+noGate = record { threshold = 0; tests = 0; component = []; mask = []; gates = 0; input = [] }
+
+abbrev pub componentAt : Study → ℕ → Component
+componentAt t i = getD (t .component) i zeroComponent
+
+abbrev pub gateAt : Study → ℕ → Gate
+gateAt t i = getD (t .gate) i noGate
+
+abbrev pub loadAt : Study → ℕ → Load
+loadAt t j = getD (t .load) j zeroLoad
