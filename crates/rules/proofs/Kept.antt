@@ -5,7 +5,7 @@ use mathlib.Core.Bool.{Bool, true, false, true≢false}
 use mathlib.Core.List.{List, _∷_}
 use native.Mathlib.Omega.{arith}
 use lib.Dec.{eqb, ltb}
-use borrow.Author.Tests.{ltb-false, eqb-true, eqb-false}
+use borrow.Author.Tests.{ne-eqb, ltb-false, eqb-true, eqb-false}
 use Rattle.rules.specs.Breach.{refuse, first, firstBreach, outside}
 
 -- neither of two is a breach
@@ -24,6 +24,25 @@ first-kept a b e = go (eqb a 0) refl
 pub first-none : (a b : ℕ) → a ≡ 0 → b ≡ 0 → first a b ≡ 0
 unfolding first
 first-none a b p q = rw p q
+
+-- a breach is the first, whatever follows
+pub first-some : (a b : ℕ) → (a ≡ 0 → ⊥) → first a b ≡ a
+unfolding first
+first-some a b some = rw (ne-eqb a 0 some)
+
+-- where the first is none, the next decides
+pub first-next : (a b : ℕ) → a ≡ 0 → first a b ≡ b
+unfolding first
+first-next a b none = rw none
+
+-- two are judged before a third
+pub first-assoc : (a b c : ℕ) → first (first a b) c ≡ first a (first b c)
+unfolding first
+first-assoc a b c = go (eqb a 0) refl
+  where
+    go : (t : Bool) → eqb a 0 ≡ t → first (first a b) c ≡ first a (first b c)
+    go true t = rw t
+    go false t = rw (t, t)
 
 -- no breach in a list: none at its front, and none behind it
 pub list-kept : (b : ℕ) (bs : List ℕ) → firstBreach (b ∷ bs) ≡ 0 → Neither b (firstBreach bs)

@@ -19,16 +19,19 @@ use Rattle.study.specs.Joint.{stateCounts}
 use Rattle.study.specs.Places.{noGate}
 use Rattle.study.specs.Zero.{zeroComponent, zeroLoad}
 
-unfoldable pub componentFault : Component → ℕ
-componentFault c =
+-- probabilities of states 1 to 3 of a component with so many states: 5 for one above 0 of a state that it lacks, then 6
+unfoldable pub probabilitiesFault : ℕ → ℕ → ℕ → ℕ → ℕ
+probabilitiesFault states p1 p2 p3 =
     firstBreach (
-      statesFault (c .states)
-      ∷ given 0 (c .p1) (noStateFault (c .states) 1)
-      ∷ given 0 (c .p2) (noStateFault (c .states) 2)
-      ∷ given 0 (c .p3) (noStateFault (c .states) 3)
-      ∷ sumFault (c .p1) (c .p2) (c .p3)
+      given 0 p1 (noStateFault states 1)
+      ∷ given 0 p2 (noStateFault states 2)
+      ∷ given 0 p3 (noStateFault states 3)
+      ∷ sumFault p1 p2 p3
       ∷ []
     )
+
+unfoldable pub componentFault : Component → ℕ
+componentFault c = first (statesFault (c .states)) (probabilitiesFault (c .states) (c .p1) (c .p2) (c .p3))
 
 unfoldable pub unusedComponentFault : Component → ℕ
 unusedComponentFault c =

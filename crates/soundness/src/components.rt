@@ -8,17 +8,23 @@ use rules::sum_fault;
 use rules::unused_fault;
 use study::Component;
 ghost use mathlib.Core.Path.{_≡_};
-ghost use Rattle.soundness.specs.Check.{componentFault, unusedComponentFault, componentPlaceFault, componentsFault};
+ghost use Rattle.soundness.specs.Check.{probabilitiesFault, componentFault, unusedComponentFault, componentPlaceFault, componentsFault};
+
+// The first breach among probabilities of states 1 to 3 of a component with so many states.
+pub fn probabilities_fault(states: u8, p1: u32, p2: u32, p3: u32) -> u8
+    ensures { λ r. ⌜ r ≡ probabilitiesFault states p1 p2 p3 ⌝ }
+{
+    let state1 = given(0, p1, no_state_fault(states, 1));
+    let state2 = given(0, p2, no_state_fault(states, 2));
+    let state3 = given(0, p3, no_state_fault(states, 3));
+    first(state1, first(state2, first(state3, sum_fault(p1, p2, p3))))
+}
 
 // The first breach of a component in use.
 fn component_fault(c: Component) -> u8
     ensures { λ r. ⌜ r ≡ componentFault c ⌝ }
 {
-    let state1 = given(0, c.p1, no_state_fault(c.states, 1));
-    let state2 = given(0, c.p2, no_state_fault(c.states, 2));
-    let state3 = given(0, c.p3, no_state_fault(c.states, 3));
-    let sum = sum_fault(c.p1, c.p2, c.p3);
-    first(states_fault(c.states), first(state1, first(state2, first(state3, sum))))
+    first(states_fault(c.states), probabilities_fault(c.states, c.p1, c.p2, c.p3))
 }
 
 // The first breach of a component place that no record uses.

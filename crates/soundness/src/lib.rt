@@ -6,6 +6,7 @@ mod loads;
 mod places;
 
 use components::components_fault;
+pub use components::probabilities_fault;
 use gates::gates_fault;
 use loads::loads_fault;
 use rules::count_fault;

@@ -4,7 +4,7 @@ ghost use mathlib.Core.Path.{_≡_};
 ghost use lib.ListN.{length, getD};
 ghost use Rattle.lists.specs.Product.{product};
 ghost use Rattle.study.specs.Zero.{noComponents, zeroGate, noGates, noLoads, zeroStudy};
-ghost use Rattle.study.specs.Edits.{withProbabilities, withCustomers, withMinutes};
+ghost use Rattle.study.specs.Edits.{withProbabilities, withCustomers, withMinutes, withComponent, withLoad};
 ghost use Rattle.study.specs.Inputs.{inputCount};
 ghost use Rattle.study.specs.Joint.{states};
 ghost use Rattle.study.specs.Absent.{absentComponent, absentGate, absentLoad};
@@ -226,4 +226,24 @@ pub fn input_count(g: Gate) -> u32
     ensures { λ r. ⌜ r ≡ inputCount g ⌝ }
 {
     g.tests as u32 + g.gates as u32
+}
+
+// A study with one record anew.
+
+pub fn with_component(i: usize, c: Component, t: Study) -> Study
+    requires { ⌜ i < 12 ⌝ }
+    ensures { λ r. ⌜ r ≡ withComponent i c t ⌝ }
+{
+    let mut u = t;
+    u.component[i] = c;
+    u
+}
+
+pub fn with_load(j: usize, l: Load, t: Study) -> Study
+    requires { ⌜ j < 8 ⌝ }
+    ensures { λ r. ⌜ r ≡ withLoad j l t ⌝ }
+{
+    let mut u = t;
+    u.load[j] = l;
+    u
 }

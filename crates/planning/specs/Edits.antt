@@ -1,0 +1,40 @@
+-- The three edits of a study: the first breach refuses, and hands the study back as it was; otherwise one field is anew and nothing else.
+use Prim.Native.Nat.{ℕ}
+use mathlib.Core.Bool.{cond}
+use mathlib.Core.List.{[], _∷_}
+use lib.Dec.{eqb}
+use Rattle.rules.specs.Breach.{firstBreach}
+use Rattle.rules.specs.Limits.{mostCustomers, mostMinutes}
+use Rattle.rules.specs.Table.{unsoundFault, itemFault, sizeFault}
+use Rattle.study.specs.declared.Study.{Study}
+use Rattle.study.specs.declared.Outcome.the-variants.{Done, Refused}
+use Rattle.study.specs.declared.StudyAnswer.{StudyAnswer}
+use Rattle.study.specs.Edits.{withProbabilities, withCustomers, withMinutes, withComponent, withLoad}
+use Rattle.study.specs.Places.{componentAt, loadAt}
+use Rattle.soundness.specs.Check.{sound, probabilitiesFault}
+
+-- done with the new study, or refused with the old one
+unfoldable pub edited : ℕ → Study → Study → StudyAnswer
+edited breach old new = cond (eqb breach 0) (record { outcome = Done; study = new }) (record { outcome = Refused breach; study = old })
+
+-- 16, then 17, then 5 for a probability above 0 of a state that the component lacks, then 6
+unfoldable pub componentEditFault : Study → ℕ → ℕ → ℕ → ℕ → ℕ
+componentEditFault t i p1 p2 p3 =
+    firstBreach (unsoundFault (sound t) ∷ itemFault (t .components) i ∷ probabilitiesFault (componentAt t i .states) p1 p2 p3 ∷ [])
+
+-- the probabilities of states 1 to 3 of component i
+unfoldable pub probabilitiesSet : Study → ℕ → ℕ → ℕ → ℕ → StudyAnswer
+probabilitiesSet t i p1 p2 p3 =
+    edited (componentEditFault t i p1 p2 p3) t (withComponent i (withProbabilities p1 p2 p3 (componentAt t i)) t)
+
+-- 16, then 17, then 14
+unfoldable pub loadEditFault : Study → ℕ → ℕ → ℕ → ℕ
+loadEditFault t j most n = firstBreach (unsoundFault (sound t) ∷ itemFault (t .loads) j ∷ sizeFault most n ∷ [])
+
+-- the customers of load j
+unfoldable pub customersSet : Study → ℕ → ℕ → StudyAnswer
+customersSet t j n = edited (loadEditFault t j mostCustomers n) t (withLoad j (withCustomers n (loadAt t j)) t)
+
+-- the minutes of load j
+unfoldable pub minutesSet : Study → ℕ → ℕ → StudyAnswer
+minutesSet t j n = edited (loadEditFault t j mostMinutes n) t (withLoad j (withMinutes n (loadAt t j)) t)

@@ -1,0 +1,17 @@
+// The calls of the planning package. None asks anything of its caller: what is wrong is refused, with the number of the first breach met, and
+// nothing that was lent or handed in is changed then.
+mod edits;
+
+pub use edits::set_customers;
+pub use edits::set_minutes;
+pub use edits::set_probabilities;
+use study::StudyAnswer;
+ghost use mathlib.Core.Path.{_≡_};
+ghost use Rattle.opening.specs.Opening.{opened};
+
+// Opens a study. Refused by the first breach met, 1 to 15, with a study of zeros.
+pub fn open(bytes: &[u8]) -> StudyAnswer
+    ensures { λ r. ⌜ r ≡ opened (now (bytes .entry)) ⌝ }
+{
+    opening::open(bytes)
+}
