@@ -1,17 +1,17 @@
 -- What opening answers where a reading is refused, and where it is not.
 use Prim.Native.Nat.{ℕ}
-use mathlib.Core.Path.{_≡_, refl, sym, ap, _∙_}
+use mathlib.Core.Path.{_≡_, ap}
 use mathlib.Core.List.{List}
 use borrow.Author.Tests.{eq-eqb, ne-eqb}
 use lib.ListN.{drop}
-use Rattle.reading.specs.Reader.{Read, refused, Reader, Reads, andThen, asRead}
+use Rattle.reading.specs.Reader.{Read, Reader, Reads, andThen, asRead}
 use Rattle.study.specs.declared.Study.{Study}
-use Rattle.opening.specs.Opening.{answer}
+use Rattle.opening.specs.Opening.{answer, refusedOpening}
 
 -- a reading that is refused is the whole answer
 pub answer-refused : {A : Type 0} {s : List ℕ} {p n : ℕ} {v : A} {r : Read A} (f : A → Reader Study) → Reads s p n v r → (p ≡ 0 → ⊥)
-    → answer (refused p) ≡ answer (andThen r f)
-unfolding asRead
+    → refusedOpening p ≡ answer (andThen r f)
+unfolding asRead answer
 answer-refused {p = p} f here some = ap (λ (r : Read _). answer (andThen r f)) (rw (ne-eqb p 0 some) at (here .same))
 
 -- a reading that is not refused goes on

@@ -1,6 +1,8 @@
 -- Opening a study: the three counts, then the component, gate and load records, then the end of the bytes.
 use Prim.Native.Nat.{ℕ, _*_}
+use mathlib.Core.Bool.{cond}
 use mathlib.Core.List.{List}
+use lib.Dec.{eqb}
 use lib.ListN.{length, take, set}
 use Rattle.lists.specs.Product.{product}
 use Rattle.rules.specs.Limits.{mostComponents, mostGates, mostLoads}
@@ -50,23 +52,12 @@ placing next i places = do
   a ← next i places
   return (set places i a)
 
--- the bytes end here
-unfoldable pub end : Reader (Unit {0})
-end bytes = judge (leftFault (length bytes)) bytes
-
--- so many load records, and the end
-unfoldable pub loadsToEnd : ℕ → ℕ → Reader (List Load)
-loadsToEnd gates loads = do
-  ls ← repeat (placing (loadRecord gates)) loads noLoads
-  end
-  return ls
-
--- the records of a study with these counts, and the end
+-- the records of a study with these counts
 unfoldable pub records : ℕ → ℕ → ℕ → Reader Study
 records components gates loads = do
   cs ← repeat (placing componentRecord) components noComponents
   gs ← repeat (placing (gateRecord (take components (states cs)))) gates noGates
-  ls ← loadsToEnd gates loads
+  ls ← repeat (placing (loadRecord gates)) loads noLoads
   return (record { components = components; gates = gates; loads = loads; component = cs; gate = gs; load = ls })
 
 unfoldable pub study : Reader Study
@@ -77,9 +68,14 @@ study = do
   records components gates loads
 
 -- a refused opening answers the number and a study of zeros
+unfoldable pub refusedOpening : ℕ → StudyAnswer
+refusedOpening n = record { outcome = Refused n; study = zeroStudy }
+
+-- the answer to a reading; the end is judged last
 unfoldable pub answer : Read Study → StudyAnswer
-answer (refused n) = record { outcome = Refused n; study = zeroStudy }
-answer (got t rest) = record { outcome = Done; study = t }
+answer (refused n) = refusedOpening n
+answer (got t rest) =
+    cond (eqb (leftFault (length rest)) 0) (record { outcome = Done; study = t }) (refusedOpening (leftFault (length rest)))
 
 -- what opening answers
 unfoldable pub opened : List ℕ → StudyAnswer

@@ -5,11 +5,12 @@ mod loads;
 
 use components::read_components;
 use gates::read_gates;
-use loads::read_loads_to_end;
+use loads::read_loads;
 use reading::byte_at;
 use reading::ByteRead;
 use rules::count_fault;
 use rules::first;
+use rules::left_fault;
 use rules::MOST_COMPONENTS;
 use rules::MOST_GATES;
 use rules::MOST_LOADS;
@@ -20,9 +21,9 @@ use study::Study;
 use study::StudyAnswer;
 ghost use mathlib.Core.Path.{_≡_};
 ghost use Prim.Native.Nat.{_≤_};
-ghost use lib.ListN.{drop};
-ghost use Rattle.reading.specs.Reader.{Reads, refused};
-ghost use Rattle.opening.specs.Opening.{count, records, answer, opened};
+ghost use lib.ListN.{length, drop};
+ghost use Rattle.reading.specs.Reader.{Reads, got};
+ghost use Rattle.opening.specs.Opening.{count, records, refusedOpening, answer, opened};
 
 // One of the first three bytes, which is in range where it is not refused.
 fn count_at(bytes: &[u8], at: usize, most: u8) -> ByteRead
@@ -39,13 +40,37 @@ fn count_at(bytes: &[u8], at: usize, most: u8) -> ByteRead
     }
 }
 
+// How many bytes stand at a place and behind it.
+fn bytes_left(bytes: &[u8], at: usize) -> usize
+    ensures { λ r. ⌜ r ≡ length (drop at (now (bytes .entry))) ⌝ }
+{
+    if at < bytes.len() {
+        return bytes.len() - at;
+    }
+    0
+}
+
 // The answer of an opening that is refused.
 fn refused_opening(number: u8) -> StudyAnswer
-    ensures { λ r. ⌜ r ≡ answer (refused number) ⌝ }
+    ensures { λ r. ⌜ r ≡ refusedOpening number ⌝ }
 {
     let study = zero_study();
     StudyAnswer {
         outcome: Outcome::Refused(number),
+        study,
+    }
+}
+
+// The answer once every record is read: the bytes must end at this place.
+fn ended(bytes: &[u8], at: usize, study: Study) -> StudyAnswer
+    ensures { λ r. ⌜ r ≡ answer (got study (drop at (now (bytes .entry)))) ⌝ }
+{
+    let left = left_fault(bytes_left(bytes, at));
+    if left != 0 {
+        return refused_opening(left);
+    }
+    StudyAnswer {
+        outcome: Outcome::Done,
         study,
     }
 }
@@ -68,7 +93,7 @@ fn open_records(bytes: &[u8], at: usize, components: u8, gates: u8, loads: u8) -
     if gs.refusal != 0 {
         return refused_opening(gs.refusal);
     }
-    let ls = read_loads_to_end(bytes, gs.next, gates, loads as usize);
+    let ls = read_loads(bytes, gs.next, gates, loads as usize);
     if ls.refusal != 0 {
         return refused_opening(ls.refusal);
     }
@@ -82,10 +107,7 @@ fn open_records(bytes: &[u8], at: usize, components: u8, gates: u8, loads: u8) -
         gate,
         load,
     };
-    StudyAnswer {
-        outcome: Outcome::Done,
-        study,
-    }
+    ended(bytes, ls.next, study)
 }
 
 // Opens a study.

@@ -1,11 +1,10 @@
 -- `opening::open_records` meets its contract: each kind of record is read in turn, and the first refusal is the answer.
 use mathlib.Core.Path.{_≡_, _∙_, sym}
-use mathlib.Core.Path.{_∙_, sym}
 use native.Mathlib.Omega.{arith}
 use lib.ListN.{length}
 use lib.Seq.{length-take-le}
 use borrow.Author.Needs.{needs}
-use Rattle.opening.specs.Opening.{answer, records}
+use Rattle.opening.specs.Opening.{records}
 use Rattle.opening.proofs.Answers.{answer-refused, answer-going}
 use Rattle.opening.proofs.open_records.Statement.{statement}
 use Rattle.opening.proofs.open_records.Tie as tie
@@ -46,8 +45,8 @@ returns-2 c =
     let gates = rw counts at (c .before .before .before .read-gates .ensures) in
     c .refused-opening2 .ensures ∙ answer-refused _ gates (c .before .if2 .taken) ∙ answer-going _ components (c .before .before .before .before .before .before .before .if1 .left)
 
-read-loads-to-end-requires : tie.Need-read-loads-to-end-requires
-read-loads-to-end-requires c κs = search needs
+read-loads-requires : tie.Need-read-loads-requires
+read-loads-requires c κs = search needs
 
 refused-opening-requires-3 : tie.Need-refused-opening-requires-3
 refused-opening-requires-3 c κs = search needs
@@ -58,20 +57,26 @@ returns-3 c =
     let components = c .before .before .before .before .before .before .before .before .before .before .before .before .read-components .ensures in
     let counts = c .before .before .before .before .before .before .before .before .state-counts .ensures in
     let gates = rw counts at (c .before .before .before .before .before .before .read-gates .ensures) in
-    let loads = c .before .before .before .read-loads-to-end .ensures in
+    let loads = c .before .before .before .read-loads .ensures in
     c .refused-opening3 .ensures
     ∙ answer-refused _ loads (c .before .if3 .taken)
     ∙ answer-going _ gates (c .before .before .before .before .if2 .left)
     ∙ answer-going _ components (c .before .before .before .before .before .before .before .before .before .before .if1 .left)
 
+ended-requires : tie.Need-ended-requires
+ended-requires c κs = search needs
+
 returns-4 : tie.Need-returns-4
-unfolding records answer
+unfolding records
 returns-4 c =
-    let components = c .before .before .before .before .before .before .before .before .before .before .before .before .before .read-components .ensures in
-    let counts = c .before .before .before .before .before .before .before .before .before .state-counts .ensures in
-    let gates = rw counts at (c .before .before .before .before .before .before .before .read-gates .ensures) in
-    let loads = c .before .before .before .before .read-loads-to-end .ensures in
-    answer-going _ loads (c .before .before .if3 .left) ∙ answer-going _ gates (c .before .before .before .before .before .if2 .left) ∙ answer-going _ components (c .before .before .before .before .before .before .before .before .before .before .before .if1 .left)
+    let components = c .before .before .before .before .before .before .before .before .before .before .before .before .before .before .read-components .ensures in
+    let counts = c .before .before .before .before .before .before .before .before .before .before .state-counts .ensures in
+    let gates = rw counts at (c .before .before .before .before .before .before .before .before .read-gates .ensures) in
+    let loads = c .before .before .before .before .before .read-loads .ensures in
+    c .ended .ensures
+    ∙ answer-going _ loads (c .before .before .before .if3 .left)
+    ∙ answer-going _ gates (c .before .before .before .before .before .before .if2 .left)
+    ∙ answer-going _ components (c .before .before .before .before .before .before .before .before .before .before .before .before .if1 .left)
 
 pub open-records-spec : {M : Type 1} → statement M
 open-records-spec =
@@ -86,7 +91,8 @@ open-records-spec =
     read-gates-requires
     refused-opening-requires-2
     returns-2
-    read-loads-to-end-requires
+    read-loads-requires
     refused-opening-requires-3
     returns-3
+    ended-requires
     returns-4)

@@ -1,6 +1,6 @@
 -- `opening::refused_opening` meets its contract: the study is `zero_study`'s.
 use borrow.Author.Needs.{needs}
-use Rattle.opening.specs.Opening.{answer}
+use Rattle.opening.specs.Opening.{refusedOpening}
 use Rattle.opening.proofs.refused_opening.Statement.{statement}
 use Rattle.opening.proofs.refused_opening.Tie as tie
 
@@ -8,7 +8,7 @@ zero-study-requires : tie.Need-zero-study-requires
 zero-study-requires c κs = search needs
 
 returns : tie.Need-returns
-unfolding answer
+unfolding refusedOpening
 returns c = rw (c .zero-study .ensures)
 
 pub refused-opening-spec : {M : Type 1} → statement M

@@ -1,10 +1,10 @@
--- `opening::loads::bytes_left` meets its contract: what is dropped from the length is left of it.
+-- `opening::bytes_left` meets its contract: what is dropped from the length is left of it.
 use mathlib.Core.Path.{_≡_, sym}
 use native.Mathlib.Omega.{arith}
 use lib.ListN.{length-drop}
 use borrow.Author.Needs.{needs}
-use Rattle.opening.proofs.loads.bytes_left.Statement.{statement}
-use Rattle.opening.proofs.loads.bytes_left.Tie as tie
+use Rattle.opening.proofs.bytes_left.Statement.{statement}
+use Rattle.opening.proofs.bytes_left.Tie as tie
 
 sub-result : tie.Need-sub-result
 sub-result c = search needs
