@@ -1,4 +1,6 @@
 pub mod After
 pub mod Bytes
+pub mod Held
+pub mod Local
 pub mod MapBits
 pub mod Repeats

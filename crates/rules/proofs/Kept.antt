@@ -1,12 +1,12 @@
 -- What a breach of 0 tells: the rule behind it is kept. These carry a rule from the refusal table to the facts that a proof needs.
 use Prim.Native.Nat.{ℕ, suc, _≤_}
 use mathlib.Core.Path.{_≡_, refl, sym, _∙_}
-use mathlib.Core.Bool.{Bool, true, false, true≢false}
+use mathlib.Core.Bool.{Bool, true, false, cond, true≢false}
 use mathlib.Core.List.{List, _∷_}
 use native.Mathlib.Omega.{arith}
 use lib.Dec.{eqb, ltb}
-use borrow.Author.Tests.{ne-eqb, ltb-false, eqb-true, eqb-false}
-use Rattle.rules.specs.Breach.{refuse, first, firstBreach, outside}
+use borrow.Author.Tests.{eq-eqb, ne-eqb, ltb-false, eqb-true, eqb-false}
+use Rattle.rules.specs.Breach.{refuse, first, firstBreach, outside, given}
 
 -- neither of two is a breach
 pub record Neither (a b : ℕ) : Type 0 where
@@ -77,6 +77,19 @@ outside-kept lowest highest n e = go (ltb n lowest) refl
     go true t = absurd (true≢false (rw t at e))
     go false t = record { least = ltb-false n lowest t; most = ltb-false highest n (rw t at e) }
 
--- a field at its absent value, or one that keeps its rule
+-- a row over a range is kept
 pub range-kept : (row lowest highest n : ℕ) → refuse (suc row) (outside lowest highest n) ≡ 0 → Within lowest highest n
 range-kept row lowest highest n e = outside-kept lowest highest n (refuse-kept row (outside lowest highest n) e)
+
+-- a field at its absent value breaks no rule, and neither does one that keeps its own
+pub given-absent : (absent breach : ℕ) → given absent absent breach ≡ 0
+unfolding given
+given-absent absent breach = rw (eq-eqb absent absent refl)
+
+pub given-kept : (absent value breach : ℕ) → breach ≡ 0 → given absent value breach ≡ 0
+unfolding given
+given-kept absent value breach e = rw e (both (eqb value absent))
+  where
+    both : (b : Bool) → _≡_ {A = ℕ} (cond b 0 0) 0
+    both true = refl
+    both false = refl

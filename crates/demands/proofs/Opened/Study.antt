@@ -1,0 +1,166 @@
+-- An opening that is not refused returns a sound study. What carries it: the records of each kind fill their places from the front, each
+-- sound by itself, and the joint states so far are judged with each component.
+use Prim.Native.Nat.{ℕ, _+_, _*_, _<_, _≤_}
+use mathlib.Core.Path.{_≡_, refl, sym, ap, subst, _∙_}
+use mathlib.Core.Bool.{Bool, true, false, cond}
+use mathlib.Core.List.{List}
+use native.Mathlib.Omega.{arith}
+use lib.Dec.{eqb}
+use lib.ListN.{length, getD, take, set, replicate, getD-replicate}
+use Rattle.lists.specs.Product.{product}
+use Rattle.lists.proofs.Filled.{Filled, filled-none, filled-more}
+use Rattle.rules.specs.Breach.{refuse}
+use Rattle.rules.specs.Limits.{mostComponents, mostGates, mostLoads}
+use Rattle.rules.specs.Table.{countFault, widthFault, leftFault}
+use Rattle.rules.proofs.Kept.{range-kept}
+use Rattle.reading.specs.Reader.{Read, refused, got, byte, repeat}
+use Rattle.reading.proofs.Held.{Held, Gives, gives-any, gives-then, gives-judge, gives-return, gives-repeat}
+use Rattle.opening.specs.Opening.{count, componentAfter, componentRecord, gateRecord, loadRecord, placing, records, study, refusedOpening, answer, opened}
+use Rattle.opening.proofs.Places.{joint-placed}
+use Rattle.component_record.specs.Component.{component}
+use Rattle.study.specs.declared.Component.{Component}
+use Rattle.study.specs.declared.Gate.{Gate}
+use Rattle.study.specs.declared.Load.{Load}
+use Rattle.study.specs.declared.Study.{Study}
+use Rattle.study.specs.declared.Outcome.{Outcome}
+use Rattle.study.specs.declared.Outcome.the-variants.{Done, Refused}
+use Rattle.study.specs.Joint.{states}
+use Rattle.study.specs.Places.{noGate}
+use Rattle.study.specs.Zero.{zeroComponent, zeroGate, zeroLoad, noComponents, noGates, noLoads}
+use Rattle.soundness.specs.Sound.{SoundComponent, SoundGate, UnusedGate, SoundLoad, Sound}
+use Rattle.demands.specs.Demand1.{OpenedSound}
+use Rattle.demands.proofs.Opened.Component.{component-sound}
+use Rattle.demands.proofs.Opened.Gate.{gate-sound}
+use Rattle.demands.proofs.Opened.Load.{load-sound}
+
+count-sound : (most : ℕ) → Gives (count most) (λ (n : ℕ). countFault most n ≡ 0)
+unfolding count
+count-sound most = gives-then (gives-any byte) (λ n u. gives-then (gives-judge (countFault most n)) (λ u kept. gives-return kept))
+
+-- records of one kind, each sound, fill the places from the front
+module _ {A : Type 0} (Kept : ℕ → A → Type 0) (Unused : A → Type 0) (d : A) (size : ℕ) where
+  placed : (reader : ℕ → List A → Rattle.reading.specs.Reader.Reader A) (i : ℕ) (l : List A) → i < size → Filled Kept Unused d size i l
+      → Gives (reader i l) (Kept i) → Gives (placing reader i l) (Filled Kept Unused d size (i + 1))
+  placed reader i l room f read = gives-then read (λ a kept. gives-return (filled-more f room kept))
+
+-- components
+abbrev ComponentsFilled : ℕ → List Component → Type 0
+ComponentsFilled = Filled (λ (k : ℕ) (c : Component). SoundComponent c) (λ (c : Component). c ≡ zeroComponent) zeroComponent mostComponents
+
+record ComponentsSoFar (i : ℕ) (cs : List Component) : Type 0 where
+  filled : ComponentsFilled i cs
+  width : widthFault (product (take i (states cs))) ≡ 0
+
+no-components : ComponentsSoFar 0 noComponents
+unfolding noComponents product refuse
+no-components = record { filled = filled-none refl (λ k h. getD-replicate mostComponents k zeroComponent zeroComponent h); width = refl }
+
+record Fitting (jointStates : ℕ) (c : Component) : Type 0 where
+  is-sound : SoundComponent c
+  width : widthFault (jointStates * c .states) ≡ 0
+
+after-sound : (jointStates : ℕ) → Gives (componentAfter jointStates) (Fitting jointStates)
+unfolding componentAfter
+after-sound jointStates =
+    gives-then component-sound
+    (λ c s. gives-then (gives-judge (widthFault (jointStates * c .states))) (λ u kept. gives-return (record { is-sound = s; width = kept })))
+
+component-placed : (i : ℕ) (cs : List Component) → i < mostComponents → ComponentsSoFar i cs → Gives (placing componentRecord i cs) (ComponentsSoFar (i + 1))
+unfolding componentRecord
+component-placed i cs room s =
+    gives-then (after-sound (product (take i (states cs))))
+    (λ c fits.
+    gives-return (
+      record {
+        filled = filled-more (s .filled) room (fits .is-sound);
+        width = rw (joint-placed cs i c (rw (s .filled .long) room)) (fits .width)
+      }
+    ))
+
+-- gates
+zero-unused : UnusedGate zeroGate
+unfolding zeroGate
+zero-unused =
+    record {
+      threshold = refl;
+      tests = refl;
+      gates = refl;
+      behind =
+          record {
+            component = λ j from less. getD-replicate 12 j 0 0 less;
+            mask = λ j from less. getD-replicate 12 j 0 0 less;
+            input = λ j from less. getD-replicate 31 j 0 0 less
+          }
+    }
+
+no-gates : (counts : List ℕ) → Filled (SoundGate counts) UnusedGate noGate mostGates 0 noGates
+unfolding noGates
+no-gates counts = filled-none refl (λ k h. subst UnusedGate (sym (getD-replicate mostGates k zeroGate noGate h)) zero-unused)
+
+-- loads
+no-loads : (gates : ℕ) → Filled (λ (k : ℕ). SoundLoad gates) (λ (l : Load). l ≡ zeroLoad) zeroLoad mostLoads 0 noLoads
+unfolding noLoads
+no-loads gates = filled-none refl (λ k h. getD-replicate mostLoads k zeroLoad zeroLoad h)
+
+records-sound : (components gates loads : ℕ) → countFault mostComponents components ≡ 0 → countFault mostGates gates ≡ 0 → countFault mostLoads loads ≡ 0
+    → Gives (records components gates loads) Sound
+unfolding records
+records-sound components gates loads c g l =
+    gives-then
+    (gives-repeat ComponentsSoFar (placing componentRecord) components noComponents
+    (λ i cs less s. component-placed i cs (omega (arith, range-kept 1 1 12 components c .most)) s) no-components)
+    (λ cs components-sound.
+    let counts = take components (states cs) in
+    gives-then
+    (gives-repeat (Filled (SoundGate counts) UnusedGate noGate mostGates) (placing (gateRecord counts)) gates noGates
+    (λ i gs less f.
+    placed (SoundGate counts) UnusedGate noGate mostGates (gateRecord counts) i gs (omega (arith, range-kept 1 1 32 gates g .most)) f (gate-sound counts i))
+    (no-gates counts))
+    (λ gs gates-sound.
+    gives-then
+    (gives-repeat (Filled (λ (k : ℕ). SoundLoad gates) (λ (x : Load). x ≡ zeroLoad) zeroLoad mostLoads) (placing (loadRecord gates)) loads noLoads
+    (λ j ls less f.
+    placed (λ (k : ℕ). SoundLoad gates) (λ (x : Load). x ≡ zeroLoad) zeroLoad mostLoads (loadRecord gates) j ls
+    (omega (arith, range-kept 1 1 8 loads l .most)) f (load-sound gates))
+    (no-loads gates))
+    (λ ls loads-sound.
+    gives-return (
+      record {
+        components = c;
+        gates = g;
+        loads = l;
+        component = components-sound .filled .below;
+        no-component = components-sound .filled .behind;
+        width = components-sound .width;
+        gate = gates-sound .below;
+        no-gate = gates-sound .behind;
+        load = loads-sound .below;
+        no-load = loads-sound .behind
+      }
+    ))))
+
+study-sound : Gives study Sound
+unfolding study
+study-sound =
+    gives-then (count-sound mostComponents)
+    (λ components c.
+    gives-then (count-sound mostGates)
+    (λ gates g. gives-then (count-sound mostLoads) (λ loads l. records-sound components gates loads c g l)))
+
+refused-done : (n : ℕ) → Refused n ≡ Done → ⊥
+refused-done n e = let z : _≡_ {A = ℕ} 0 1 = cc in omega arith
+
+answer-sound : (r : Read Study) → Held Sound r → answer r .outcome ≡ Done → Sound (answer r .study)
+unfolding answer refusedOpening
+answer-sound (refused n) h e = absurd (refused-done n e)
+answer-sound (got t rest) h e = go (eqb (leftFault (length rest)) 0) e
+  where
+    go : (b : Bool)
+        → (cond b (record { outcome = Done; study = t }) (refusedOpening (leftFault (length rest)))) .outcome ≡ Done
+        → Sound ((cond b (record { outcome = Done; study = t }) (refusedOpening (leftFault (length rest)))) .study)
+    go true d = h
+    go false d = absurd (refused-done _ d)
+
+pub opened-sound : OpenedSound
+unfolding opened
+opened-sound bytes done = answer-sound (study bytes) (study-sound .held bytes) done

@@ -1,0 +1,64 @@
+-- Demand 1, refusals: what is refused and what is not, over the definitions that the contracts of opening, the check and the edits cite.
+use Prim.Native.Nat.{ℕ}
+use mathlib.Core.Path.{_≡_}
+use mathlib.Core.Bool.{true, false}
+use mathlib.Core.List.{List, [], _++_}
+use lib.ListN.{length}
+use Rattle.rules.specs.Limits.{mostComponents, mostLoads}
+use Rattle.study.specs.declared.Outcome.the-variants.{Done, Refused}
+use Rattle.study.specs.declared.Study.{Study}
+use Rattle.study.specs.Zero.{zeroStudy}
+use Rattle.opening.specs.Opening.{opened}
+use Rattle.soundness.specs.Sound.{Sound}
+use Rattle.soundness.specs.Check.{sound}
+use Rattle.planning.specs.Answers.{refusalOf}
+use Rattle.demands.specs.Edits.{Edit, edit, breach, after, Table, tableOf, tableAfter, Others, othersOf}
+
+-- The check for 16 says of any value of the struct whether it is sound.
+pub record CheckDecides : Type 0 where
+  pub accepts : (t : Study) → Sound t → sound t ≡ true
+  pub refuses : (t : Study) → sound t ≡ true → Sound t
+
+-- What a refused opening returns is itself unsound.
+abbrev pub ZeroUnsound : Type 0
+ZeroUnsound = sound zeroStudy ≡ false
+
+-- An opening that is not refused returns a sound study.
+abbrev pub OpenedSound : Type 0
+OpenedSound = (bytes : List ℕ) → opened bytes .outcome ≡ Done → Sound (opened bytes .study)
+
+-- An edit that is not refused returns a sound study.
+abbrev pub EditedSound : Type 0
+EditedSound = (e : Edit) (t : Study) → edit e t .outcome ≡ Done → Sound (edit e t .study)
+
+-- Opening refuses by the first breach met from the left.
+pub record FirstBreach : Type 0 where
+  -- a front part of the bytes that breaks a rule decides, whatever follows
+  pub decided : (front rest : List ℕ) (n : ℕ) → opened front .outcome ≡ Refused n → (n ≡ 1 → ⊥) → opened (front ++ rest) .outcome ≡ Refused n
+  -- a front part of bytes that open is only too short
+  pub too-short : (front rest : List ℕ) → opened (front ++ rest) .outcome ≡ Done → (rest ≡ [] → ⊥) → opened front .outcome ≡ Refused 1
+  -- bytes behind bytes that open are left over
+  pub left-over : (front rest : List ℕ) → opened front .outcome ≡ Done → (rest ≡ [] → ⊥) → opened (front ++ rest) .outcome ≡ Refused 15
+
+-- An edit is refused by the first breach of its list, and hands the study back as it was.
+pub record EditRefused : Type 0 where
+  pub number : (e : Edit) (t : Study) → refusalOf (edit e t .outcome) ≡ breach e t
+  pub kept : (e : Edit) (t : Study) → (breach e t ≡ 0 → ⊥) → edit e t .study ≡ t
+
+-- Every value of the struct has twelve component places and eight load places.
+pub record Shaped (t : Study) : Type 0 where
+  pub components : length (t .component) ≡ mostComponents
+  pub loads : length (t .load) ≡ mostLoads
+
+-- The fields after a row of edits are those of a plain table, column by column.
+pub record SameFields (a b : Table) : Type 0 where
+  pub p1 : (i : ℕ) → a .p1 i ≡ b .p1 i
+  pub p2 : (i : ℕ) → a .p2 i ≡ b .p2 i
+  pub p3 : (i : ℕ) → a .p3 i ≡ b .p3 i
+  pub customers : (j : ℕ) → a .customers j ≡ b .customers j
+  pub minutes : (j : ℕ) → a .minutes j ≡ b .minutes j
+
+-- A row of edits leaves what a plain table of fields would hold, and changes nothing else.
+pub record EditFields : Type 0 where
+  pub fields : (es : List Edit) (t : Study) → Shaped t → SameFields (tableOf (after es t)) (tableAfter es t (tableOf t))
+  pub others : (es : List Edit) (t : Study) → othersOf (after es t) ≡ othersOf t

@@ -1,0 +1,79 @@
+-- What a front part of the bytes gives: it ends too soon, which is refusal 1, or what it gives stands, whatever bytes follow.
+use Prim.Native.Nat.{ℕ, zero, suc, _+_}
+use mathlib.Core.Path.{_≡_, refl, ap, subst, sym, _∙_}
+use mathlib.Core.Bool.{Bool, true, false, cond}
+use mathlib.Core.List.{List, [], _∷_, _++_}
+use mathlib.Core.Logic.{_⊎_, inl, inr}
+use lib.Dec.{eqb}
+use Rattle.lists.specs.Run.{each}
+use Rattle.lists.specs.Bits.{bit}
+use Rattle.rules.specs.Table.{short, strayFault}
+use Rattle.reading.specs.Reader.{Read, refused, got, Reader, andThen, return, judge, byte, word, turn, repeat, _>>=_}
+use Rattle.reading.specs.Fields.{fieldAt, fields, mapByte, fieldsByMap}
+
+-- the same with more bytes behind
+abbrev pub more : {A : Type 0} → List ℕ → Read A → Read A
+more ys (refused n) = refused n
+more ys (got a rest) = got a (rest ++ ys)
+
+-- r is what a front part gives, and r′ what the whole gives, which has ys behind the front part
+abbrev pub Stands : {A : Type 0} → List ℕ → Read A → Read A → Type 0
+Stands ys r r′ = (r ≡ refused short) ⊎ (r′ ≡ more ys r)
+
+pub record Local {A : Type 0} (m : Reader A) : Type 0 where
+  pub stands : (xs ys : List ℕ) → Stands ys (m xs) (m (xs ++ ys))
+
+-- a reading goes on after a front part as after the whole
+then-stands : {A B : Type 0} (ys : List ℕ) (r r′ : Read A) (f : A → Reader B) → ((a : A) → Local (f a)) → Stands ys r r′
+    → Stands ys (andThen r f) (andThen r′ f)
+then-stands ys r r′ f on (inl e) = inl (ap (λ (q : Read _). andThen q f) e)
+then-stands ys (refused n) r′ f on (inr e) = inr (ap (λ (q : Read _). andThen q f) e)
+then-stands ys (got a rest) r′ f on (inr e) =
+    subst (λ (q : Read _). Stands ys (f a rest) (andThen q f)) (sym e) (on a .stands rest ys)
+
+pub local-then : {A B : Type 0} {m : Reader A} {f : A → Reader B} → Local m → ((a : A) → Local (f a)) → Local (m >>= f)
+local-then {m = m} {f = f} here on = record { stands = λ xs ys. then-stands ys (m xs) (m (xs ++ ys)) f on (here .stands xs ys) }
+
+pub local-return : {A : Type 0} (a : A) → Local (return a)
+local-return a = record { stands = λ xs ys. inr refl }
+
+pub local-judge : (breach : ℕ) → Local (judge breach)
+local-judge breach = record { stands = λ xs ys. inr (go (eqb breach 0) xs ys) }
+  where
+    go : (b : Bool) (xs ys : List ℕ) → cond b (got (tt {0}) (xs ++ ys)) (refused breach) ≡ more ys (cond b (got (tt {0}) xs) (refused breach))
+    go true xs ys = refl
+    go false xs ys = refl
+
+byte-stands : (xs ys : List ℕ) → Stands ys (byte xs) (byte (xs ++ ys))
+unfolding byte
+byte-stands [] ys = inl refl
+byte-stands (b ∷ xs) ys = inr refl
+
+pub local-byte : Local byte
+local-byte = record { stands = byte-stands }
+
+pub local-word : Local word
+unfolding word
+local-word = local-then local-byte (λ b0. local-then local-byte (λ b1. local-then local-byte (λ b2. local-then local-byte (λ b3. local-return _))))
+
+pub local-cond : {A : Type 0} (b : Bool) {m k : Reader A} → Local m → Local k → Local (cond b m k)
+local-cond true here there = here
+local-cond false here there = there
+
+run-stands : {A : Type 0} (step : ℕ → A → Reader A) → ((i : ℕ) (a : A) → Local (step i a)) → (ys : List ℕ) (n i : ℕ) (r r′ : Read A) → Stands ys r r′
+    → Stands ys (each (turn step) n i r) (each (turn step) n i r′)
+unfolding each
+run-stands step on ys zero i r r′ h = h
+run-stands step on ys (suc n) i r r′ h =
+    run-stands step on ys n (i + 1) (andThen r (step i)) (andThen r′ (step i)) (then-stands ys r r′ (step i) (on i) h)
+
+pub local-repeat : {A : Type 0} (step : ℕ → A → Reader A) (n : ℕ) (a : A) → ((i : ℕ) (a : A) → Local (step i a)) → Local (repeat step n a)
+local-repeat step n a on = record { stands = λ xs ys. run-stands step on ys n 0 (got a xs) (got a (xs ++ ys)) (inr refl) }
+
+-- a record is read locally where each of its fields is
+pub local-fields : {A : Type 0} (maps : ℕ) (field : ℕ → A → Reader A) (absent : A) → ((k : ℕ) (a : A) → Local (field k a))
+    → Local (fieldsByMap maps field absent)
+unfolding mapByte
+local-fields maps field absent on =
+    local-then (local-then local-byte (λ map. local-then (local-judge (strayFault maps map)) (λ u. local-return map)))
+    (λ map. local-repeat (fieldAt field map) 8 absent (λ k a. local-cond (bit map k) (on k a) (local-return a)))
