@@ -1,1 +1,2 @@
+pub mod FirstBreach
 pub mod Opened
