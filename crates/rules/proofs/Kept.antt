@@ -1,12 +1,13 @@
 -- What a breach of 0 tells: the rule behind it is kept. These carry a rule from the refusal table to the facts that a proof needs.
-use Prim.Native.Nat.{ℕ, suc, _≤_}
+use Prim.Native.Nat.{ℕ, suc, _<_, _≤_}
 use mathlib.Core.Path.{_≡_, refl, sym, _∙_}
 use mathlib.Core.Bool.{Bool, true, false, cond, true≢false}
-use mathlib.Core.List.{List, _∷_}
+use mathlib.Core.List.{List, [], _∷_}
 use native.Mathlib.Omega.{arith}
 use lib.Dec.{eqb, ltb}
-use borrow.Author.Tests.{eq-eqb, ne-eqb, ltb-false, eqb-true, eqb-false}
-use Rattle.rules.specs.Breach.{refuse, first, firstBreach, outside, given}
+use borrow.Author.Tests.{eq-eqb, ne-eqb, lt-ltb, le-ltb, ltb-true, ltb-false, eqb-true, eqb-false}
+use Rattle.rules.specs.Breach.{refuse, first, firstBreach, outside, given, inUse}
+use Rattle.rules.specs.Table.{unusedFault}
 
 -- neither of two is a breach
 pub record Neither (a b : ℕ) : Type 0 where
@@ -48,6 +49,14 @@ first-assoc a b c = go (eqb a 0) refl
 pub list-kept : (b : ℕ) (bs : List ℕ) → firstBreach (b ∷ bs) ≡ 0 → Neither b (firstBreach bs)
 unfolding firstBreach
 list-kept b bs e = first-kept b (firstBreach bs) e
+
+pub list-none : (b : ℕ) (bs : List ℕ) → b ≡ 0 → firstBreach bs ≡ 0 → firstBreach (b ∷ bs) ≡ 0
+unfolding firstBreach
+list-none b bs p q = first-none b (firstBreach bs) p q
+
+pub none-none : firstBreach [] ≡ 0
+unfolding firstBreach
+none-none = refl
 
 -- nothing is judged after the last
 pub first-last : (a : ℕ) → first a 0 ≡ a
@@ -93,3 +102,25 @@ given-kept absent value breach e = rw e (both (eqb value absent))
     both : (b : Bool) → _≡_ {A = ℕ} (cond b 0 0) 0
     both true = refl
     both false = refl
+
+-- a place in use, and one that is not
+pub used-kept : (count place used unused : ℕ) → place < count → inUse count place used unused ≡ 0 → used ≡ 0
+used-kept count place used unused h e = rw (lt-ltb place count h) at e
+
+pub unused-kept : (count place used unused : ℕ) → count ≤ place → inUse count place used unused ≡ 0 → unused ≡ 0
+unused-kept count place used unused h e = rw (le-ltb place count h) at e
+
+pub in-use-none : (count place used unused : ℕ) → (place < count → used ≡ 0) → (count ≤ place → unused ≡ 0) → inUse count place used unused ≡ 0
+in-use-none count place used unused below behind = go (ltb place count) refl
+  where
+    go : (b : Bool) → ltb place count ≡ b → cond b used unused ≡ 0
+    go true e = below (ltb-true place count e)
+    go false e = behind (ltb-false place count e)
+
+-- a place that no record uses holds 0
+pub zero-kept : (n : ℕ) → unusedFault n ≡ 0 → n ≡ 0
+zero-kept n e = omega (arith, ltb-false 0 n (refuse-kept 15 (ltb 0 n) e))
+
+pub zero-none : (n : ℕ) → n ≡ 0 → unusedFault n ≡ 0
+unfolding refuse
+zero-none n e = rw e
