@@ -1,3 +1,5 @@
 pub mod Checked
+pub mod Edited
 pub mod FirstBreach
 pub mod Opened
+pub mod Zero

@@ -12,7 +12,7 @@ use Rattle.opening.specs.Opening.{opened}
 use Rattle.soundness.specs.Sound.{Sound}
 use Rattle.soundness.specs.Check.{sound}
 use Rattle.planning.specs.Answers.{refusalOf}
-use Rattle.demands.specs.Edits.{Edit, edit, breach, after, Table, tableOf, tableAfter, Others, othersOf}
+use Rattle.demands.specs.Edits.{Edit, edit, breach, after, tableOf, tableAfter, othersOf}
 
 -- The check for 16 says of any value of the struct whether it is sound.
 pub record CheckDecides : Type 0 where
@@ -50,15 +50,7 @@ pub record Shaped (t : Study) : Type 0 where
   pub components : length (t .component) ≡ mostComponents
   pub loads : length (t .load) ≡ mostLoads
 
--- The fields after a row of edits are those of a plain table, column by column.
-pub record SameFields (a b : Table) : Type 0 where
-  pub p1 : (i : ℕ) → a .p1 i ≡ b .p1 i
-  pub p2 : (i : ℕ) → a .p2 i ≡ b .p2 i
-  pub p3 : (i : ℕ) → a .p3 i ≡ b .p3 i
-  pub customers : (j : ℕ) → a .customers j ≡ b .customers j
-  pub minutes : (j : ℕ) → a .minutes j ≡ b .minutes j
-
 -- A row of edits leaves what a plain table of fields would hold, and changes nothing else.
 pub record EditFields : Type 0 where
-  pub fields : (es : List Edit) (t : Study) → Shaped t → SameFields (tableOf (after es t)) (tableAfter es t (tableOf t))
+  pub fields : (es : List Edit) (t : Study) → Shaped t → tableOf (after es t) ≡ tableAfter es t (tableOf t)
   pub others : (es : List Edit) (t : Study) → othersOf (after es t) ≡ othersOf t

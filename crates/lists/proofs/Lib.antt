@@ -1,4 +1,5 @@
 pub mod Filled
 pub mod Filling
 pub mod Products
+pub mod Sets
 pub mod Turns
