@@ -1,4 +1,5 @@
 pub mod Checked
+pub mod DeskExamples
 pub mod Edited
 pub mod FirstBreach
 pub mod Opened

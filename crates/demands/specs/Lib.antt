@@ -1,2 +1,3 @@
 pub mod Demand1
+pub mod DeskExamples
 pub mod Edits

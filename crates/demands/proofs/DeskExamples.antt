@@ -1,0 +1,19 @@
+-- The desk examples hold, by computation over the definitions.
+use mathlib.Core.Path.{refl}
+use Rattle.lists.specs.Run.{each}
+use Rattle.lists.specs.Product.{product}
+use Rattle.rules.specs.Breach.{refuse, outside}
+use Rattle.reading.specs.Reader.{byte, word}
+use Rattle.reading.specs.Fields.{mapByte}
+use Rattle.component_record.specs.Component.{stateCount, probability, componentField, component}
+use Rattle.gate_record.specs.Gate.{threshold, inputsByte, test, tests, input, inputs, gateField, gate}
+use Rattle.load_record.specs.Load.{lossGate, size, customers, minutes, loadField, load}
+use Rattle.opening.specs.Opening.{count, componentAfter, componentRecord, records, study, refusedOpening, answer, opened}
+use Rattle.study.specs.Absent.{absentGate}
+use Rattle.study.specs.Zero.{zeroGate, noComponents, noGates, noLoads, zeroStudy}
+use Rattle.demands.specs.DeskExamples.{DeskExamples, padded, votes, opens}
+
+pub desk-examples : DeskExamples
+unfolding each product refuse outside byte word mapByte stateCount probability componentField component threshold inputsByte test tests input inputs gateField gate lossGate size customers minutes loadField load count componentAfter componentRecord records study refusedOpening answer opened absentGate zeroGate noComponents noGates noLoads zeroStudy padded votes opens
+desk-examples =
+    (refl, (refl, (refl, (refl, (refl, (refl, (refl, (refl, (refl, (refl, (refl, (refl, (refl, (refl, (refl, tt)))))))))))))))

@@ -1,0 +1,153 @@
+-- The desk examples of document 01 that are marked with a star, as rows of data, and the one claim about them: each row is true of the
+-- definitions that the contracts cite.
+use Prim.Native.Nat.{ℕ, _-_}
+use mathlib.Core.Path.{_≡_}
+use mathlib.Core.List.{List, [], _∷_, _++_, map}
+use lib.ListN.{length, replicate}
+use Rattle.rules.specs.Limits.{mostComponents, mostGates, mostLoads, mostTests, mostGateInputs, never}
+use Rattle.study.specs.declared.Component.{Component}
+use Rattle.study.specs.declared.Gate.{Gate}
+use Rattle.study.specs.declared.Load.{Load}
+use Rattle.study.specs.declared.Outcome.the-variants.{Done}
+use Rattle.study.specs.declared.StudyAnswer.{StudyAnswer}
+use Rattle.study.specs.Zero.{zeroComponent, zeroGate, zeroLoad}
+use Rattle.opening.specs.Opening.{opened, refusedOpening}
+
+-- ---- studies in few words
+
+abbrev twoStates : ℕ → Component
+twoStates p1 = record { states = 2; p1 = p1; p2 = 0; p3 = 0 }
+
+abbrev fourStates : ℕ → ℕ → ℕ → Component
+fourStates p1 p2 p3 = record { states = 4; p1 = p1; p2 = p2; p3 = p3 }
+
+-- places in use, and zeros behind them
+unfoldable pub padded : {A : Type 0} → ℕ → A → List A → List A
+padded size z l = l ++ replicate (size - length l) z
+
+-- a test: the component, and the mask of its states
+pub record Test : Type 0 where
+  pub component : ℕ
+  pub mask : ℕ
+
+abbrev test : ℕ → ℕ → Test
+test component mask = record { component = component; mask = mask }
+
+-- a gate over tests alone
+unfoldable pub votes : ℕ → List Test → Gate
+unfolding padded
+votes threshold tests =
+    record {
+      threshold = threshold;
+      tests = length tests;
+      component = padded mostTests 0 (map (λ (t : Test). t .component) tests);
+      mask = padded mostTests 0 (map (λ (t : Test). t .mask) tests);
+      gates = 0;
+      input = replicate mostGateInputs 0
+    }
+
+abbrev lostBy : ℕ → ℕ → ℕ → Load
+lostBy gate customers minutes = record { gate = gate; customers = customers; minutes = minutes }
+
+-- the answer that holds a study with these records
+unfoldable pub opens : List Component → List Gate → List Load → StudyAnswer
+unfolding padded zeroGate
+opens cs gs ls =
+    record {
+      outcome = Done;
+      study =
+          record {
+            components = length cs;
+            gates = length gs;
+            loads = length ls;
+            component = padded mostComponents zeroComponent cs;
+            gate = padded mostGates zeroGate gs;
+            load = padded mostLoads zeroLoad ls
+          }
+    }
+
+-- ---- the rows
+
+-- an example: its bytes, and what opening them answers
+pub record Example : Type 0 where
+  pub bytes : List ℕ
+  pub opening : StudyAnswer
+
+abbrev example : List ℕ → StudyAnswer → Example
+example bytes opening = record { bytes = bytes; opening = opening }
+
+-- component 0 in state 1, by itself
+abbrev failed0 : Gate
+unfolding votes
+failed0 = votes 1 (test 0 2 ∷ [])
+
+abbrev pub examples : List Example
+unfolding opens refusedOpening votes
+examples =
+    -- A: two components, lost when either fails
+    example (2 ∷ 1 ∷ 1
+      ∷ 0x02 ∷ 0x00 ∷ 0xE1 ∷ 0xF5 ∷ 0x05
+      ∷ 0x02 ∷ 0x00 ∷ 0xC2 ∷ 0xEB ∷ 0x0B
+      ∷ 0x02 ∷ 2 ∷ 0 ∷ 2 ∷ 1 ∷ 2
+      ∷ 0x07 ∷ 0 ∷ 0x64 ∷ 0 ∷ 0 ∷ 0 ∷ 0x3C ∷ 0 ∷ 0 ∷ 0 ∷ [])
+    (opens (twoStates 100_000_000 ∷ twoStates 200_000_000 ∷ []) (votes 1 (test 0 2 ∷ test 1 2 ∷ []) ∷ []) (lostBy 0 100 60 ∷ []))
+    -- B: two components, lost when both fail
+    ∷ example (2 ∷ 1 ∷ 1
+      ∷ 0x02 ∷ 0x55 ∷ 0x43 ∷ 0xDE ∷ 0x13
+      ∷ 0x02 ∷ 0x55 ∷ 0x43 ∷ 0xDE ∷ 0x13
+      ∷ 0x03 ∷ 2 ∷ 2 ∷ 0 ∷ 2 ∷ 1 ∷ 2
+      ∷ 0x01 ∷ 0 ∷ [])
+    (opens (twoStates 333_333_333 ∷ twoStates 333_333_333 ∷ []) (votes 2 (test 0 2 ∷ test 1 2 ∷ []) ∷ []) (lostBy 0 0 0 ∷ []))
+    -- C: a load without a gate
+    ∷ example (1 ∷ 1 ∷ 1 ∷ 0x00 ∷ 0x02 ∷ 1 ∷ 0 ∷ 2 ∷ 0x00 ∷ [])
+    (opens (twoStates 0 ∷ []) (failed0 ∷ []) (lostBy never 0 0 ∷ []))
+    -- D: a full mask
+    ∷ example (1 ∷ 1 ∷ 1 ∷ 0x00 ∷ 0x02 ∷ 1 ∷ 0 ∷ 3 ∷ 0x01 ∷ 0 ∷ [])
+    (opens (twoStates 0 ∷ []) (votes 1 (test 0 3 ∷ []) ∷ []) (lostBy 0 0 0 ∷ []))
+    -- E: three components, lost when the first and the last fail
+    ∷ example (3 ∷ 1 ∷ 1 ∷ 0x00 ∷ 0x00 ∷ 0x00 ∷ 0x03 ∷ 2 ∷ 2 ∷ 0 ∷ 2 ∷ 2 ∷ 2 ∷ 0x01 ∷ 0 ∷ [])
+    (opens (twoStates 0 ∷ twoStates 0 ∷ twoStates 0 ∷ []) (votes 2 (test 0 2 ∷ test 2 2 ∷ []) ∷ []) (lostBy 0 0 0 ∷ []))
+    -- F: six components of four states, and a seventh of two
+    ∷ example (6 ∷ 1 ∷ 1
+      ∷ 0x01 ∷ 4 ∷ 0x01 ∷ 4 ∷ 0x01 ∷ 4 ∷ 0x01 ∷ 4 ∷ 0x01 ∷ 4 ∷ 0x01 ∷ 4
+      ∷ 0x02 ∷ 1 ∷ 0 ∷ 2 ∷ 0x01 ∷ 0 ∷ [])
+    (opens (replicate 6 (fourStates 0 0 0)) (failed0 ∷ []) (lostBy 0 0 0 ∷ []))
+    ∷ example (7 ∷ 1 ∷ 1
+      ∷ 0x01 ∷ 4 ∷ 0x01 ∷ 4 ∷ 0x01 ∷ 4 ∷ 0x01 ∷ 4 ∷ 0x01 ∷ 4 ∷ 0x01 ∷ 4 ∷ 0x00
+      ∷ 0x02 ∷ 1 ∷ 0 ∷ 2 ∷ 0x01 ∷ 0 ∷ [])
+    (refusedOpening 7)
+    -- G: states 1 to 3 that sum to one, and to one unit more
+    ∷ example (1 ∷ 1 ∷ 1
+      ∷ 0x0F ∷ 4 ∷ 0x00 ∷ 0x65 ∷ 0xCD ∷ 0x1D ∷ 0x00 ∷ 0xA3 ∷ 0xE1 ∷ 0x11 ∷ 0x00 ∷ 0xC2 ∷ 0xEB ∷ 0x0B
+      ∷ 0x02 ∷ 1 ∷ 0 ∷ 2 ∷ 0x01 ∷ 0 ∷ [])
+    (opens (fourStates 500_000_000 300_000_000 200_000_000 ∷ []) (failed0 ∷ []) (lostBy 0 0 0 ∷ []))
+    ∷ example (1 ∷ 1 ∷ 1
+      ∷ 0x0F ∷ 4 ∷ 0x00 ∷ 0x65 ∷ 0xCD ∷ 0x1D ∷ 0x00 ∷ 0xA3 ∷ 0xE1 ∷ 0x11 ∷ 0x01 ∷ 0xC2 ∷ 0xEB ∷ 0x0B
+      ∷ 0x02 ∷ 1 ∷ 0 ∷ 2 ∷ 0x01 ∷ 0 ∷ [])
+    (refusedOpening 6)
+    -- H: no bytes; first byte 13; the single byte 1
+    ∷ example [] (refusedOpening 1)
+    ∷ example (13 ∷ []) (refusedOpening 2)
+    ∷ example (1 ∷ []) (refusedOpening 1)
+    -- I: threshold 3 over two inputs
+    ∷ example (2 ∷ 1 ∷ 1 ∷ 0x00 ∷ 0x00 ∷ 0x03 ∷ 3 ∷ 2 ∷ 0 ∷ 2 ∷ 1 ∷ 2 ∷ 0x01 ∷ 0 ∷ []) (refusedOpening 12)
+    -- J: threshold 2 over one test that stands twice
+    ∷ example (1 ∷ 1 ∷ 1 ∷ 0x00 ∷ 0x03 ∷ 2 ∷ 2 ∷ 0 ∷ 2 ∷ 0 ∷ 2 ∷ 0x01 ∷ 0 ∷ [])
+    (opens (twoStates 0 ∷ []) (votes 2 (test 0 2 ∷ test 0 2 ∷ []) ∷ []) (lostBy 0 0 0 ∷ []))
+    -- K: state 1 at 0, and a load of one customer that is lost in it
+    ∷ example (1 ∷ 1 ∷ 1 ∷ 0x00 ∷ 0x02 ∷ 1 ∷ 0 ∷ 2 ∷ 0x03 ∷ 0 ∷ 1 ∷ 0 ∷ 0 ∷ 0 ∷ [])
+    (opens (twoStates 0 ∷ []) (failed0 ∷ []) (lostBy 0 1 0 ∷ []))
+    ∷ []
+
+-- ---- the claim
+
+-- a row is true where opening its bytes answers what it says
+abbrev pub Holds : Example → Type 0
+Holds e = opened (e .bytes) ≡ e .opening
+
+abbrev pub Each : List Example → Type 0
+Each [] = Unit {0}
+Each (e ∷ es) = Holds e × Each es
+
+abbrev pub DeskExamples : Type 0
+DeskExamples = Each examples
