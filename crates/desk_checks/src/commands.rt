@@ -1,0 +1,109 @@
+// The commands of the script. Each is a letter and bytes, calls the library, and writes one line of numbers.
+//
+//     o BYTES                     opens a study: the refusal, 0 for none; what the call returns is the current study from then on
+//     f BYTES                     opens each strict front part of the bytes, the shortest first: the refusals
+//     p ITEM P1 P2 P3             edits the probabilities of a component: the refusal; what the call returns is then current
+//     c ITEM N                    edits the customers of a load, likewise
+//     m ITEM N                    edits the minutes of a load, likewise
+//     a FIELD ITEM PLACE VALUE    alters a field of a copy of the current study (see `alter`), and edits the copy so that nothing
+//                                 changes: the refusal
+//     s KIND ITEM                 shows a record of the current study (see `show`)
+//
+// P1, P2, P3, N and VALUE have four bytes, lowest byte first, and the others one. A byte that is missing counts as 0. Any other
+// letter writes an empty line.
+use crate::alter::altered;
+use crate::hexadecimal::byte_at;
+use crate::hexadecimal::number_at;
+use crate::numbers;
+use crate::show::show;
+use study::Outcome;
+use study::Study;
+use study::StudyAnswer;
+ghost use Rattle.io.specs.Counts.{Counts};
+
+// The number by which a call was refused, and 0 for one that was done.
+fn refusal(answer: StudyAnswer) -> u32 {
+    let outcome = answer.outcome;
+    match outcome {
+        Outcome::Done => 0,
+        Outcome::Refused(number) => number as u32,
+    }
+}
+
+// Writes the refusal of a call on a line, and hands on the study that the call returned.
+fn answered(answer: StudyAnswer) -> Study {
+    numbers::first(refusal(answer));
+    numbers::end();
+    answer.study
+}
+
+// Opens the front part of this size, and writes the refusal in its place of the line.
+fn open_front_part(bytes: &[u8], size: usize)
+    requires { ⌜ Counts size (now bytes) ⌝ }
+{
+    let number = refusal(planning::open(&bytes[..size]));
+    if size == 0 {
+        numbers::first(number);
+    } else {
+        numbers::next(number);
+    }
+}
+
+// Opens each strict front part.
+fn open_front_parts(bytes: &[u8]) {
+    let mut size: usize = 0;
+    while size < bytes.len() {
+        open_front_part(bytes, size);
+        size = size + 1;
+    }
+    numbers::end();
+}
+
+// Edits probabilities, customers or minutes.
+fn edited(letter: u8, bytes: &[u8], study: Study) -> StudyAnswer {
+    let item = byte_at(bytes, 0) as usize;
+    let n = number_at(bytes, 1);
+    match letter {
+        b'c' => planning::set_customers(study, item, n),
+        b'm' => planning::set_minutes(study, item, n),
+        _ => planning::set_probabilities(study, item, n, number_at(bytes, 5), number_at(bytes, 9)),
+    }
+}
+
+// Alters a copy of the study, and edits the copy so that nothing changes.
+fn try_altered(bytes: &[u8], study: Study) {
+    let field = byte_at(bytes, 0);
+    let item = byte_at(bytes, 1) as usize;
+    let place = byte_at(bytes, 2) as usize;
+    let copy = altered(
+        field / 16,
+        field % 16,
+        item,
+        place,
+        number_at(bytes, 3),
+        study,
+    );
+    answered(planning::set_minutes(copy, 0, copy.load[0].minutes));
+}
+
+// Obeys a command that leaves the current study as it is.
+fn look(letter: u8, bytes: &[u8], study: Study) {
+    match letter {
+        b'f' => open_front_parts(bytes),
+        b'a' => try_altered(bytes, study),
+        b's' => show(byte_at(bytes, 0), byte_at(bytes, 1) as usize, study),
+        _ => numbers::end(),
+    }
+}
+
+// Obeys a command, and hands on the study that is current after it.
+pub fn obey(letter: u8, bytes: &[u8], study: Study) -> Study {
+    match letter {
+        b'o' => answered(planning::open(bytes)),
+        b'p' | b'c' | b'm' => answered(edited(letter, bytes, study)),
+        _ => {
+            look(letter, bytes, study);
+            study
+        }
+    }
+}
