@@ -19,7 +19,7 @@ withProbability state p c =
       states = c .states;
       p1 = cond (eqb state 1) p (c .p1);
       p2 = cond (eqb state 2) p (c .p2);
-      p3 = cond (eqb state 3) p (c .p3)
+      p3 = cond (eqb state 3) p (c .p3);
     }
 
 unfoldable pub stateCount : Component → Reader Component

@@ -4,13 +4,13 @@ use reading::field_count;
 use reading::map_at;
 use reading::map_digit;
 use reading::word_at;
+use rules::COMPONENT_MAPS;
 use rules::first;
 use rules::no_state_fault;
 use rules::states_fault;
 use rules::sum_fault;
-use rules::COMPONENT_MAPS;
-use study::absent_component;
 use study::Component;
+use study::absent_component;
 ghost use mathlib.Core.Path.{_≡_};
 ghost use mathlib.Core.Bool.{cond};
 ghost use Prim.Native.Nat.{_<_};
@@ -47,10 +47,8 @@ fn with_probability(state: u8, p: u32, c: Component) -> Component
 
 // The field of bit 0.
 fn read_state_count(bytes: &[u8], at: usize, c: Component) -> ComponentRead
-    ensures {
-        λ r.
-        ⌜ Reads (now (bytes .entry)) (r .refusal) (r .next) (r .component) (stateCount c (drop at (now (bytes .entry)))) ⌝
-    }
+    ensures { λ r.
+        ⌜ Reads (now (bytes .entry)) (r .refusal) (r .next) (r .component) (stateCount c (drop at (now (bytes .entry)))) ⌝ }
 {
     let b = byte_at(bytes, at);
     ComponentRead {
@@ -67,10 +65,8 @@ fn read_state_count(bytes: &[u8], at: usize, c: Component) -> ComponentRead
 
 // The field of bit 1, 2 or 3.
 fn read_probability(bytes: &[u8], at: usize, state: u8, c: Component) -> ComponentRead
-    ensures {
-        λ r.
-        ⌜ Reads (now (bytes .entry)) (r .refusal) (r .next) (r .component) (probability state c (drop at (now (bytes .entry)))) ⌝
-    }
+    ensures { λ r.
+        ⌜ Reads (now (bytes .entry)) (r .refusal) (r .next) (r .component) (probability state c (drop at (now (bytes .entry)))) ⌝ }
 {
     let lacking = no_state_fault(c.states, state);
     let w = word_at(bytes, at);
@@ -84,10 +80,8 @@ fn read_probability(bytes: &[u8], at: usize, state: u8, c: Component) -> Compone
 // The field of bit k, where the bit stands in the map.
 fn read_field(bytes: &[u8], at: usize, map: u8, k: u8, c: Component) -> ComponentRead
     requires { ⌜ k < 8 ⌝ }
-    ensures {
-        λ r.
-        ⌜ Reads (now (bytes .entry)) (r .refusal) (r .next) (r .component) (fieldAt componentField map k c (drop at (now (bytes .entry)))) ⌝
-    }
+    ensures { λ r.
+        ⌜ Reads (now (bytes .entry)) (r .refusal) (r .next) (r .component) (fieldAt componentField map k c (drop at (now (bytes .entry)))) ⌝ }
 {
     if map_digit(map, k) != 1 {
         return ComponentRead {
@@ -104,10 +98,8 @@ fn read_field(bytes: &[u8], at: usize, map: u8, k: u8, c: Component) -> Componen
 
 // The fields whose bit stands in the map, lowest bit first, over their absent values: as many as the map has ones.
 fn read_fields(bytes: &[u8], at: usize, map: u8) -> ComponentRead
-    ensures {
-        λ r.
-        ⌜ Reads (now (bytes .entry)) (r .refusal) (r .next) (r .component) (fields componentField map absentComponent (drop at (now (bytes .entry)))) ⌝
-    }
+    ensures { λ r.
+        ⌜ Reads (now (bytes .entry)) (r .refusal) (r .next) (r .component) (fields componentField map absentComponent (drop at (now (bytes .entry)))) ⌝ }
 {
     let mut refusal: u8 = 0;
     let mut next = at;
@@ -131,10 +123,8 @@ fn read_fields(bytes: &[u8], at: usize, map: u8) -> ComponentRead
 
 // One component record.
 pub fn read_component(bytes: &[u8], at: usize) -> ComponentRead
-    ensures {
-        λ r.
-        ⌜ Reads (now (bytes .entry)) (r .refusal) (r .next) (r .component) (component (drop at (now (bytes .entry)))) ⌝
-    }
+    ensures { λ r.
+        ⌜ Reads (now (bytes .entry)) (r .refusal) (r .next) (r .component) (component (drop at (now (bytes .entry)))) ⌝ }
 {
     let m = map_at(bytes, at, COMPONENT_MAPS);
     let f = read_fields(bytes, m.next, m.value);

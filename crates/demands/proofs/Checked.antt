@@ -56,7 +56,7 @@ no-component-kept c e =
       states = zero-kept (c .states) (states .left) i;
       p1 = zero-kept (c .p1) (one .left) i;
       p2 = zero-kept (c .p2) (two .left) i;
-      p3 = zero-kept (c .p3) (three .left) i
+      p3 = zero-kept (c .p3) (three .left) i;
     }
 
 no-component-none : (c : Component) → c ≡ zeroComponent → unusedComponentFault c ≡ 0
@@ -88,7 +88,7 @@ behind-kept counts i g p =
     record {
       component = λ j from less. zero-kept _ (first-kept _ _ (unused-kept _ _ _ _ from (p .tests j less)) .left);
       mask = λ j from less. zero-kept _ (first-kept _ _ (unused-kept _ _ _ _ from (p .tests j less)) .right);
-      input = λ j from less. zero-kept _ (unused-kept _ _ _ _ from (p .inputs j less))
+      input = λ j from less. zero-kept _ (unused-kept _ _ _ _ from (p .inputs j less));
     }
 
 -- the counts of a gate in use are within its places
@@ -116,7 +116,7 @@ gate-kept counts i g e =
       mask = λ j less. first-kept _ _ (used-kept _ _ _ _ less (places .tests j (omega arith))) .right;
       input = λ j less. used-kept _ _ _ _ less (places .inputs j (omega arith));
       threshold = threshold .left;
-      behind = behind-kept counts i g places
+      behind = behind-kept counts i g places;
     }
 
 gate-none : (counts : List ℕ) (i : ℕ) (g : Gate) → SoundGate counts i g → gateFault counts i g ≡ 0
@@ -132,7 +132,7 @@ gate-none counts i g s =
           λ j less.
           in-use-none _ _ _ _ (λ used. first-none _ _ (s .component j used) (s .mask j used))
           (λ from. first-none _ _ (zero-none _ (s .behind .component j from less)) (zero-none _ (s .behind .mask j from less)));
-      inputs = λ j less. in-use-none _ _ _ _ (λ used. s .input j used) (λ from. zero-none _ (s .behind .input j from less))
+      inputs = λ j less. in-use-none _ _ _ _ (λ used. s .input j used) (λ from. zero-none _ (s .behind .input j from less));
     }))
     none-none)))
 
@@ -146,7 +146,7 @@ no-gate-kept counts i g e =
       threshold = zero-kept _ (threshold .left);
       tests = zero-kept _ (tests .left);
       gates = zero-kept _ (gates .left);
-      behind = behind-kept counts i g (places-kept counts i g (list-kept _ _ (gates .right) .left))
+      behind = behind-kept counts i g (places-kept counts i g (list-kept _ _ (gates .right) .left));
     }
 
 no-gate-none : (counts : List ℕ) (i : ℕ) (g : Gate) → UnusedGate g → unusedGateFault counts i g ≡ 0
@@ -162,7 +162,7 @@ no-gate-none counts i g u =
           λ j less.
           in-use-none _ _ _ _ (λ used. absurd (omega (arith, u .tests)))
           (λ from. first-none _ _ (zero-none _ (u .behind .component j from less)) (zero-none _ (u .behind .mask j from less)));
-      inputs = λ j less. in-use-none _ _ _ _ (λ used. absurd (omega (arith, u .gates))) (λ from. zero-none _ (u .behind .input j from less))
+      inputs = λ j less. in-use-none _ _ _ _ (λ used. absurd (omega (arith, u .gates))) (λ from. zero-none _ (u .behind .input j from less));
     }))
     none-none)))
 
@@ -189,7 +189,7 @@ no-load-kept l e =
     record {
       gate = zero-kept (l .gate) (gate .left) i;
       customers = zero-kept (l .customers) (customers .left) i;
-      minutes = zero-kept (l .minutes) (minutes .left) i
+      minutes = zero-kept (l .minutes) (minutes .left) i;
     }
 
 no-load-none : (l : Load) → l ≡ zeroLoad → unusedLoadFault l ≡ 0
@@ -225,7 +225,7 @@ kept t e =
       gate = λ i less. gate-kept (stateCounts t) i (gateAt t i) (used-kept _ _ _ _ less (gate i (omega arith)));
       no-gate = λ i from less. no-gate-kept (stateCounts t) i (gateAt t i) (unused-kept _ _ _ _ from (gate i less));
       load = λ j less. load-kept (t .gates) (loadAt t j) (used-kept _ _ _ _ less (load j (omega arith)));
-      no-load = λ j from less. no-load-kept (loadAt t j) (unused-kept _ _ _ _ from (load j less))
+      no-load = λ j from less. no-load-kept (loadAt t j) (unused-kept _ _ _ _ from (load j less));
     }
 
 none : (t : Study) → Sound t → sound t ≡ true

@@ -57,7 +57,7 @@ pub edit-refused : EditRefused
 edit-refused =
     record {
       number = λ e t. rw (edit-is e t) (number (breach e t) t (changed e t));
-      kept = λ e t some. rw (edit-is e t, edited-refused (breach e t) t (changed e t) some)
+      kept = λ e t some. rw (edit-is e t, edited-refused (breach e t) t (changed e t) some);
     }
 
 -- an edit that is done has no breach
@@ -119,7 +119,7 @@ component-edited t i c s below same new =
       gate = λ k less. subst (λ (l : List ℕ). SoundGate l k (gateAt t k)) (sym counts) (s .gate k less);
       no-gate = s .no-gate;
       load = s .load;
-      no-load = s .no-load
+      no-load = s .no-load;
     }
 
 load-edited : (t : Study) (j : ℕ) (l : Load) → Sound t → j < t .loads → SoundLoad (t .gates) l → Sound (withLoad j l t)
@@ -134,7 +134,7 @@ load-edited t j l s below new =
       gate = s .gate;
       no-gate = s .no-gate;
       load = λ k less. set-keeps (t .load) j l zeroLoad (SoundLoad (t .gates)) k (s .load k less) (λ here. new);
-      no-load = λ k from less. getD-set-other (t .load) j k l zeroLoad (λ here. omega arith) ∙ s .no-load k from less
+      no-load = λ k from less. getD-set-other (t .load) j k l zeroLoad (λ here. omega arith) ∙ s .no-load k from less;
     }
 
 changed-sound : (e : Edit) (t : Study) → breach e t ≡ 0 → Sound (changed e t)
@@ -178,7 +178,7 @@ changed-table (probabilities i p1 p2 p3) t shaped none =
       p2 = fun-ext (column (λ (c : Component). c .p2) p2 room refl) x;
       p3 = fun-ext (column (λ (c : Component). c .p3) p3 room refl) x;
       customers = λ j. loadAt t j .customers;
-      minutes = λ j. loadAt t j .minutes
+      minutes = λ j. loadAt t j .minutes;
     }
 changed-table (customers j n) t shaped none =
     let room = load-room t j mostCustomers n shaped none in
@@ -189,7 +189,7 @@ changed-table (customers j n) t shaped none =
       p2 = λ i. componentAt t i .p2;
       p3 = λ i. componentAt t i .p3;
       customers = fun-ext (set-column (t .load) j new zeroLoad (λ (l : Load). l .customers) n room refl) x;
-      minutes = fun-ext (set-column-kept (t .load) j new zeroLoad (λ (l : Load). l .minutes) refl) x
+      minutes = fun-ext (set-column-kept (t .load) j new zeroLoad (λ (l : Load). l .minutes) refl) x;
     }
 changed-table (minutes j n) t shaped none =
     let room = load-room t j mostMinutes n shaped none in
@@ -200,7 +200,7 @@ changed-table (minutes j n) t shaped none =
       p2 = λ i. componentAt t i .p2;
       p3 = λ i. componentAt t i .p3;
       customers = fun-ext (set-column-kept (t .load) j new zeroLoad (λ (l : Load). l .customers) refl) x;
-      minutes = fun-ext (set-column (t .load) j new zeroLoad (λ (l : Load). l .minutes) n room refl) x
+      minutes = fun-ext (set-column (t .load) j new zeroLoad (λ (l : Load). l .minutes) n room refl) x;
     }
 
 edit-table : (e : Edit) (t : Study) → Shaped t → tableOf (edit e t .study) ≡ cond (eqb (breach e t) 0) (write e (tableOf t)) (tableOf t)
@@ -242,7 +242,7 @@ load-others t j l same =
       loads = t .loads;
       component = map (withProbabilities 0 0 0) (t .component);
       gate = t .gate;
-      load = map-set-same (λ (l : Load). withCustomers 0 (withMinutes 0 l)) (t .load) j l zeroLoad same x
+      load = map-set-same (λ (l : Load). withCustomers 0 (withMinutes 0 l)) (t .load) j l zeroLoad same x;
     }
 
 changed-others : (e : Edit) (t : Study) → othersOf (changed e t) ≡ othersOf t
@@ -255,7 +255,7 @@ changed-others (probabilities i p1 p2 p3) t =
       component =
           map-set-same (withProbabilities 0 0 0) (t .component) i (withProbabilities p1 p2 p3 (componentAt t i)) zeroComponent refl x;
       gate = t .gate;
-      load = map (λ (l : Load). withCustomers 0 (withMinutes 0 l)) (t .load)
+      load = map (λ (l : Load). withCustomers 0 (withMinutes 0 l)) (t .load);
     }
 changed-others (customers j n) t = load-others t j (withCustomers n (loadAt t j)) refl
 changed-others (minutes j n) t = load-others t j (withMinutes n (loadAt t j)) refl

@@ -173,5 +173,5 @@ first-breach =
     record {
       decided = λ front rest n is other. decides rest (study front) (study (front ++ rest)) n (local-study .stands front rest) is other;
       too-short = λ front rest done some. shortens rest (study front) (study (front ++ rest)) (local-study .stands front rest) done some;
-      left-over = λ front rest done some. leaves rest (study front) (study (front ++ rest)) (local-study .stands front rest) done some
+      left-over = λ front rest done some. leaves rest (study front) (study (front ++ rest)) (local-study .stands front rest) done some;
     }

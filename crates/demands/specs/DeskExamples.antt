@@ -43,7 +43,7 @@ votes threshold tests =
       component = padded mostTests 0 (map (λ (t : Test). t .component) tests);
       mask = padded mostTests 0 (map (λ (t : Test). t .mask) tests);
       gates = 0;
-      input = replicate mostGateInputs 0
+      input = replicate mostGateInputs 0;
     }
 
 abbrev lostBy : ℕ → ℕ → ℕ → Load
@@ -62,8 +62,8 @@ opens cs gs ls =
             loads = length ls;
             component = padded mostComponents zeroComponent cs;
             gate = padded mostGates zeroGate gs;
-            load = padded mostLoads zeroLoad ls
-          }
+            load = padded mostLoads zeroLoad ls;
+          };
     }
 
 -- ---- the rows
@@ -86,17 +86,17 @@ unfolding opens refusedOpening votes
 examples =
     -- A: two components, lost when either fails
     example (2 ∷ 1 ∷ 1
-      ∷ 0x02 ∷ 0x00 ∷ 0xE1 ∷ 0xF5 ∷ 0x05
-      ∷ 0x02 ∷ 0x00 ∷ 0xC2 ∷ 0xEB ∷ 0x0B
-      ∷ 0x02 ∷ 2 ∷ 0 ∷ 2 ∷ 1 ∷ 2
-      ∷ 0x07 ∷ 0 ∷ 0x64 ∷ 0 ∷ 0 ∷ 0 ∷ 0x3C ∷ 0 ∷ 0 ∷ 0 ∷ [])
+    ∷ 0x02 ∷ 0x00 ∷ 0xE1 ∷ 0xF5 ∷ 0x05
+    ∷ 0x02 ∷ 0x00 ∷ 0xC2 ∷ 0xEB ∷ 0x0B
+    ∷ 0x02 ∷ 2 ∷ 0 ∷ 2 ∷ 1 ∷ 2
+    ∷ 0x07 ∷ 0 ∷ 0x64 ∷ 0 ∷ 0 ∷ 0 ∷ 0x3C ∷ 0 ∷ 0 ∷ 0 ∷ [])
     (opens (twoStates 100_000_000 ∷ twoStates 200_000_000 ∷ []) (votes 1 (test 0 2 ∷ test 1 2 ∷ []) ∷ []) (lostBy 0 100 60 ∷ []))
     -- B: two components, lost when both fail
     ∷ example (2 ∷ 1 ∷ 1
-      ∷ 0x02 ∷ 0x55 ∷ 0x43 ∷ 0xDE ∷ 0x13
-      ∷ 0x02 ∷ 0x55 ∷ 0x43 ∷ 0xDE ∷ 0x13
-      ∷ 0x03 ∷ 2 ∷ 2 ∷ 0 ∷ 2 ∷ 1 ∷ 2
-      ∷ 0x01 ∷ 0 ∷ [])
+    ∷ 0x02 ∷ 0x55 ∷ 0x43 ∷ 0xDE ∷ 0x13
+    ∷ 0x02 ∷ 0x55 ∷ 0x43 ∷ 0xDE ∷ 0x13
+    ∷ 0x03 ∷ 2 ∷ 2 ∷ 0 ∷ 2 ∷ 1 ∷ 2
+    ∷ 0x01 ∷ 0 ∷ [])
     (opens (twoStates 333_333_333 ∷ twoStates 333_333_333 ∷ []) (votes 2 (test 0 2 ∷ test 1 2 ∷ []) ∷ []) (lostBy 0 0 0 ∷ []))
     -- C: a load without a gate
     ∷ example (1 ∷ 1 ∷ 1 ∷ 0x00 ∷ 0x02 ∷ 1 ∷ 0 ∷ 2 ∷ 0x00 ∷ [])
@@ -109,21 +109,21 @@ examples =
     (opens (twoStates 0 ∷ twoStates 0 ∷ twoStates 0 ∷ []) (votes 2 (test 0 2 ∷ test 2 2 ∷ []) ∷ []) (lostBy 0 0 0 ∷ []))
     -- F: six components of four states, and a seventh of two
     ∷ example (6 ∷ 1 ∷ 1
-      ∷ 0x01 ∷ 4 ∷ 0x01 ∷ 4 ∷ 0x01 ∷ 4 ∷ 0x01 ∷ 4 ∷ 0x01 ∷ 4 ∷ 0x01 ∷ 4
-      ∷ 0x02 ∷ 1 ∷ 0 ∷ 2 ∷ 0x01 ∷ 0 ∷ [])
+    ∷ 0x01 ∷ 4 ∷ 0x01 ∷ 4 ∷ 0x01 ∷ 4 ∷ 0x01 ∷ 4 ∷ 0x01 ∷ 4 ∷ 0x01 ∷ 4
+    ∷ 0x02 ∷ 1 ∷ 0 ∷ 2 ∷ 0x01 ∷ 0 ∷ [])
     (opens (replicate 6 (fourStates 0 0 0)) (failed0 ∷ []) (lostBy 0 0 0 ∷ []))
     ∷ example (7 ∷ 1 ∷ 1
-      ∷ 0x01 ∷ 4 ∷ 0x01 ∷ 4 ∷ 0x01 ∷ 4 ∷ 0x01 ∷ 4 ∷ 0x01 ∷ 4 ∷ 0x01 ∷ 4 ∷ 0x00
-      ∷ 0x02 ∷ 1 ∷ 0 ∷ 2 ∷ 0x01 ∷ 0 ∷ [])
+    ∷ 0x01 ∷ 4 ∷ 0x01 ∷ 4 ∷ 0x01 ∷ 4 ∷ 0x01 ∷ 4 ∷ 0x01 ∷ 4 ∷ 0x01 ∷ 4 ∷ 0x00
+    ∷ 0x02 ∷ 1 ∷ 0 ∷ 2 ∷ 0x01 ∷ 0 ∷ [])
     (refusedOpening 7)
     -- G: states 1 to 3 that sum to one, and to one unit more
     ∷ example (1 ∷ 1 ∷ 1
-      ∷ 0x0F ∷ 4 ∷ 0x00 ∷ 0x65 ∷ 0xCD ∷ 0x1D ∷ 0x00 ∷ 0xA3 ∷ 0xE1 ∷ 0x11 ∷ 0x00 ∷ 0xC2 ∷ 0xEB ∷ 0x0B
-      ∷ 0x02 ∷ 1 ∷ 0 ∷ 2 ∷ 0x01 ∷ 0 ∷ [])
+    ∷ 0x0F ∷ 4 ∷ 0x00 ∷ 0x65 ∷ 0xCD ∷ 0x1D ∷ 0x00 ∷ 0xA3 ∷ 0xE1 ∷ 0x11 ∷ 0x00 ∷ 0xC2 ∷ 0xEB ∷ 0x0B
+    ∷ 0x02 ∷ 1 ∷ 0 ∷ 2 ∷ 0x01 ∷ 0 ∷ [])
     (opens (fourStates 500_000_000 300_000_000 200_000_000 ∷ []) (failed0 ∷ []) (lostBy 0 0 0 ∷ []))
     ∷ example (1 ∷ 1 ∷ 1
-      ∷ 0x0F ∷ 4 ∷ 0x00 ∷ 0x65 ∷ 0xCD ∷ 0x1D ∷ 0x00 ∷ 0xA3 ∷ 0xE1 ∷ 0x11 ∷ 0x01 ∷ 0xC2 ∷ 0xEB ∷ 0x0B
-      ∷ 0x02 ∷ 1 ∷ 0 ∷ 2 ∷ 0x01 ∷ 0 ∷ [])
+    ∷ 0x0F ∷ 4 ∷ 0x00 ∷ 0x65 ∷ 0xCD ∷ 0x1D ∷ 0x00 ∷ 0xA3 ∷ 0xE1 ∷ 0x11 ∷ 0x01 ∷ 0xC2 ∷ 0xEB ∷ 0x0B
+    ∷ 0x02 ∷ 1 ∷ 0 ∷ 2 ∷ 0x01 ∷ 0 ∷ [])
     (refusedOpening 6)
     -- H: no bytes; first byte 13; the single byte 1
     ∷ example [] (refusedOpening 1)

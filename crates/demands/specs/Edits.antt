@@ -50,7 +50,7 @@ tableOf t =
       p2 = λ i. componentAt t i .p2;
       p3 = λ i. componentAt t i .p3;
       customers = λ j. loadAt t j .customers;
-      minutes = λ j. loadAt t j .minutes
+      minutes = λ j. loadAt t j .minutes;
     }
 
 -- a column with n at one item
@@ -88,5 +88,5 @@ othersOf t =
       loads = t .loads;
       component = map (withProbabilities 0 0 0) (t .component);
       gate = t .gate;
-      load = map (λ (l : Load). withCustomers 0 (withMinutes 0 l)) (t .load)
+      load = map (λ (l : Load). withCustomers 0 (withMinutes 0 l)) (t .load);
     }

@@ -33,7 +33,7 @@ withTest j component mask g =
       component = set (g .component) j component;
       mask = set (g .mask) j mask;
       gates = g .gates;
-      input = g .input
+      input = g .input;
     }
 
 -- gate input j is this gate
@@ -45,7 +45,7 @@ withInput j gate g =
       component = g .component;
       mask = g .mask;
       gates = g .gates;
-      input = set (g .input) j gate
+      input = set (g .input) j gate;
     }
 
 unfoldable pub threshold : Gate → Reader Gate

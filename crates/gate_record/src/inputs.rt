@@ -1,11 +1,11 @@
 // The gate inputs of a gate: a count, then so many numbers of lower gates.
 use crate::GateRead;
-use reading::byte_at;
 use reading::ByteRead;
+use reading::byte_at;
+use rules::MOST_GATE_INPUTS;
 use rules::ahead_fault;
 use rules::first;
 use rules::inputs_fault;
-use rules::MOST_GATE_INPUTS;
 use study::Gate;
 ghost use mathlib.Core.Path.{_≡_};
 ghost use Prim.Native.Nat.{_<_, _≤_};
@@ -15,9 +15,7 @@ ghost use Rattle.gate_record.specs.Gate.{inputsByte, withInput, input, i
 
 // A count of tests or of gate inputs, which is in range where it is not refused.
 pub fn inputs_at(bytes: &[u8], at: usize, most: u8) -> ByteRead
-    ensures {
-        λ r. ⌜ Reads (now (bytes .entry)) (r .refusal) (r .next) (r .value) (inputsByte most (drop at (now (bytes .entry)))) ⌝
-    }
+    ensures { λ r. ⌜ Reads (now (bytes .entry)) (r .refusal) (r .next) (r .value) (inputsByte most (drop at (now (bytes .entry)))) ⌝ }
     ensures { λ r. ⌜ (r .refusal ≡ 0 → r .value ≤ most) ⌝ }
 {
     let b = byte_at(bytes, at);
@@ -41,9 +39,7 @@ fn with_input(j: usize, gate: u8, g: Gate) -> Gate
 // Gate input j of the gate with this number.
 fn read_input(bytes: &[u8], at: usize, number: usize, j: usize, g: Gate) -> GateRead
     requires { ⌜ j < 31 ⌝ }
-    ensures {
-        λ r. ⌜ Reads (now (bytes .entry)) (r .refusal) (r .next) (r .gate) (input number j g (drop at (now (bytes .entry)))) ⌝
-    }
+    ensures { λ r. ⌜ Reads (now (bytes .entry)) (r .refusal) (r .next) (r .gate) (input number j g (drop at (now (bytes .entry)))) ⌝ }
 {
     let b = byte_at(bytes, at);
     GateRead {
@@ -56,9 +52,7 @@ fn read_input(bytes: &[u8], at: usize, number: usize, j: usize, g: Gate) -> Gate
 // So many gate inputs.
 fn read_input_list(bytes: &[u8], at: usize, number: usize, n: usize, g: Gate) -> GateRead
     requires { ⌜ n ≤ 31 ⌝ }
-    ensures {
-        λ r. ⌜ Reads (now (bytes .entry)) (r .refusal) (r .next) (r .gate) (repeat (input number) n g (drop at (now (bytes .entry)))) ⌝
-    }
+    ensures { λ r. ⌜ Reads (now (bytes .entry)) (r .refusal) (r .next) (r .gate) (repeat (input number) n g (drop at (now (bytes .entry)))) ⌝ }
 {
     let mut refusal: u8 = 0;
     let mut next = at;
@@ -80,9 +74,7 @@ fn read_input_list(bytes: &[u8], at: usize, number: usize, n: usize, g: Gate) ->
 
 // The field of bit 2.
 pub fn read_inputs(bytes: &[u8], at: usize, number: usize, g: Gate) -> GateRead
-    ensures {
-        λ r. ⌜ Reads (now (bytes .entry)) (r .refusal) (r .next) (r .gate) (inputs number g (drop at (now (bytes .entry)))) ⌝
-    }
+    ensures { λ r. ⌜ Reads (now (bytes .entry)) (r .refusal) (r .next) (r .gate) (inputs number g (drop at (now (bytes .entry)))) ⌝ }
 {
     let n = inputs_at(bytes, at, MOST_GATE_INPUTS);
     if n.refusal != 0 {

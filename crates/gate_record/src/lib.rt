@@ -7,12 +7,12 @@ use reading::byte_at;
 use reading::field_count;
 use reading::map_at;
 use reading::map_digit;
+use rules::GATE_MAPS;
 use rules::first;
 use rules::threshold_fault;
-use rules::GATE_MAPS;
+use study::Gate;
 use study::absent_gate;
 use study::input_count;
-use study::Gate;
 use tests::read_tests;
 ghost use Prim.Native.Nat.{_<_};
 ghost use lib.ListN.{drop};
@@ -29,9 +29,7 @@ pub struct GateRead {
 
 // The field of bit 0. It is judged after the gate's last field.
 fn read_threshold(bytes: &[u8], at: usize, g: Gate) -> GateRead
-    ensures {
-        λ r. ⌜ Reads (now (bytes .entry)) (r .refusal) (r .next) (r .gate) (threshold g (drop at (now (bytes .entry)))) ⌝
-    }
+    ensures { λ r. ⌜ Reads (now (bytes .entry)) (r .refusal) (r .next) (r .gate) (threshold g (drop at (now (bytes .entry)))) ⌝ }
 {
     let b = byte_at(bytes, at);
     let mut h = g;
@@ -44,12 +42,18 @@ fn read_threshold(bytes: &[u8], at: usize, g: Gate) -> GateRead
 }
 
 // The field of bit k, where the bit stands in the map.
-fn read_field(bytes: &[u8], at: usize, counts: &[u8], number: usize, map: u8, k: u8, g: Gate) -> GateRead
+fn read_field(
+    bytes: &[u8],
+    at: usize,
+    counts: &[u8],
+    number: usize,
+    map: u8,
+    k: u8,
+    g: Gate,
+) -> GateRead
     requires { ⌜ k < 8 ⌝ }
-    ensures {
-        λ r.
-        ⌜ Reads (now (bytes .entry)) (r .refusal) (r .next) (r .gate) (fieldAt (gateField (now (counts .entry)) number) map k g (drop at (now (bytes .entry)))) ⌝
-    }
+    ensures { λ r.
+        ⌜ Reads (now (bytes .entry)) (r .refusal) (r .next) (r .gate) (fieldAt (gateField (now (counts .entry)) number) map k g (drop at (now (bytes .entry)))) ⌝ }
 {
     if map_digit(map, k) != 1 {
         return GateRead {
@@ -69,10 +73,8 @@ fn read_field(bytes: &[u8], at: usize, counts: &[u8], number: usize, map: u8, k:
 
 // The fields whose bit stands in the map, lowest bit first, over their absent values: as many as the map has ones.
 fn read_fields(bytes: &[u8], at: usize, counts: &[u8], number: usize, map: u8) -> GateRead
-    ensures {
-        λ r.
-        ⌜ Reads (now (bytes .entry)) (r .refusal) (r .next) (r .gate) (fields (gateField (now (counts .entry)) number) map absentGate (drop at (now (bytes .entry)))) ⌝
-    }
+    ensures { λ r.
+        ⌜ Reads (now (bytes .entry)) (r .refusal) (r .next) (r .gate) (fields (gateField (now (counts .entry)) number) map absentGate (drop at (now (bytes .entry)))) ⌝ }
 {
     let mut refusal: u8 = 0;
     let mut next = at;
@@ -96,16 +98,17 @@ fn read_fields(bytes: &[u8], at: usize, counts: &[u8], number: usize, map: u8) -
 
 // The record of the gate with this number; `counts` has the state count of each component of the study.
 pub fn read_gate(bytes: &[u8], at: usize, counts: &[u8], number: usize) -> GateRead
-    ensures {
-        λ r.
-        ⌜ Reads (now (bytes .entry)) (r .refusal) (r .next) (r .gate) (gate (now (counts .entry)) number (drop at (now (bytes .entry)))) ⌝
-    }
+    ensures { λ r.
+        ⌜ Reads (now (bytes .entry)) (r .refusal) (r .next) (r .gate) (gate (now (counts .entry)) number (drop at (now (bytes .entry)))) ⌝ }
 {
     let m = map_at(bytes, at, GATE_MAPS);
     let f = read_fields(bytes, m.next, counts, number, m.value);
     let g = f.gate;
     GateRead {
-        refusal: first(first(m.refusal, f.refusal), threshold_fault(input_count(g), g.threshold)),
+        refusal: first(
+            first(m.refusal, f.refusal),
+            threshold_fault(input_count(g), g.threshold),
+        ),
         next: f.next,
         gate: g,
     }

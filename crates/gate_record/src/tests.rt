@@ -1,12 +1,12 @@
 // The tests of a gate: a count, then so many pairs of a component and a mask of its states.
 use crate::GateRead;
 use reading::byte_at;
+use rules::MOST_TESTS;
 use rules::first;
 use rules::mask_fault;
 use rules::no_component_fault;
-use rules::MOST_TESTS;
-use study::states_of;
 use study::Gate;
+use study::states_of;
 ghost use mathlib.Core.Path.{_≡_};
 ghost use Prim.Native.Nat.{_<_, _≤_};
 ghost use lib.ListN.{drop};
@@ -27,10 +27,8 @@ fn with_test(j: usize, component: u8, mask: u8, g: Gate) -> Gate
 // Test j: the component, then the mask, each judged as soon as it is read.
 fn read_test(bytes: &[u8], at: usize, counts: &[u8], j: usize, g: Gate) -> GateRead
     requires { ⌜ j < 12 ⌝ }
-    ensures {
-        λ r.
-        ⌜ Reads (now (bytes .entry)) (r .refusal) (r .next) (r .gate) (test (now (counts .entry)) j g (drop at (now (bytes .entry)))) ⌝
-    }
+    ensures { λ r.
+        ⌜ Reads (now (bytes .entry)) (r .refusal) (r .next) (r .gate) (test (now (counts .entry)) j g (drop at (now (bytes .entry)))) ⌝ }
 {
     let c = byte_at(bytes, at);
     let m = byte_at(bytes, c.next);
@@ -46,10 +44,8 @@ fn read_test(bytes: &[u8], at: usize, counts: &[u8], j: usize, g: Gate) -> GateR
 // So many tests.
 fn read_test_list(bytes: &[u8], at: usize, counts: &[u8], n: usize, g: Gate) -> GateRead
     requires { ⌜ n ≤ 12 ⌝ }
-    ensures {
-        λ r.
-        ⌜ Reads (now (bytes .entry)) (r .refusal) (r .next) (r .gate) (repeat (test (now (counts .entry))) n g (drop at (now (bytes .entry)))) ⌝
-    }
+    ensures { λ r.
+        ⌜ Reads (now (bytes .entry)) (r .refusal) (r .next) (r .gate) (repeat (test (now (counts .entry))) n g (drop at (now (bytes .entry)))) ⌝ }
 {
     let mut refusal: u8 = 0;
     let mut next = at;
@@ -71,10 +67,8 @@ fn read_test_list(bytes: &[u8], at: usize, counts: &[u8], n: usize, g: Gate) -> 
 
 // The field of bit 1.
 pub fn read_tests(bytes: &[u8], at: usize, counts: &[u8], g: Gate) -> GateRead
-    ensures {
-        λ r.
-        ⌜ Reads (now (bytes .entry)) (r .refusal) (r .next) (r .gate) (tests (now (counts .entry)) g (drop at (now (bytes .entry)))) ⌝
-    }
+    ensures { λ r.
+        ⌜ Reads (now (bytes .entry)) (r .refusal) (r .next) (r .gate) (tests (now (counts .entry)) g (drop at (now (bytes .entry)))) ⌝ }
 {
     let n = crate::inputs::inputs_at(bytes, at, MOST_TESTS);
     if n.refusal != 0 {

@@ -29,5 +29,5 @@ module _ {A : Type 0} {Kept : ℕ → A → Type 0} {Unused : A → Type 0} {d :
             (λ (same : k ≡ i). subst (λ (n : ℕ). Kept n (getD (set l i a) n d)) (sym same) (subst (Kept i) (sym (getD-set-same l i a d (omega (arith, f .long)))) kept))
             (λ (lower : k < i). subst (Kept k) (sym (getD-set-other l i k a d (λ same. omega arith))) (f .below k lower))
             (eq-or-lt-of-le (omega arith));
-        behind = λ k from less. subst Unused (sym (getD-set-other l i k a d (λ same. omega arith))) (f .behind k (omega arith) less)
+        behind = λ k from less. subst Unused (sym (getD-set-other l i k a d (λ same. omega arith))) (f .behind k (omega arith) less);
       }

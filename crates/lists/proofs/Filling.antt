@@ -25,7 +25,7 @@ module _ {A : Type 0} {l : List A} where
         long = length-set r i (getD l i d) ∙ f .long;
         front =
             rw add-one
-            (take-suc-set r i (getD l i d) (omega (arith, f .long)) ∙ ap (λ (x : List A). x ++ (getD l i d ∷ [])) (f .front) ∙ sym (take-suc l i d h))
+            (take-suc-set r i (getD l i d) (omega (arith, f .long)) ∙ ap (λ (x : List A). x ++ (getD l i d ∷ [])) (f .front) ∙ sym (take-suc l i d h));
       }
 
   pub filling-done : {i : ℕ} {r : List A} → Filling l i r → length l ≤ i → r ≡ l

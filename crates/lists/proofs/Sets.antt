@@ -18,6 +18,7 @@ module _ {A : Type 0} (l : List A) (i : ℕ) (a d : A) where
       at-place : k ≡ i → Dec (i < length l) → P (getD (set l i a) k d)
       at-place same (yes h) = rw (same, getD-set-same l i a d h) (new same)
       at-place same (no h) = rw (set-out l i a (omega arith)) old
+
       go : (b : Bool) → eqb k i ≡ b → P (getD (set l i a) k d)
       go true e = at-place (eqb-true k i e) (decLt i (length l))
       go false e = rw (getD-set-other l i k a d (eqb-false k i e)) old

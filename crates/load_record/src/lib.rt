@@ -1,20 +1,20 @@
 // Reads one load record. Not for callers from outside.
+use reading::WordRead;
 use reading::byte_at;
 use reading::field_count;
 use reading::map_at;
 use reading::map_digit;
 use reading::word_at;
-use reading::WordRead;
-use rules::first;
-use rules::no_gate_fault;
-use rules::size_fault;
 use rules::LOAD_MAPS;
 use rules::MOST_CUSTOMERS;
 use rules::MOST_MINUTES;
+use rules::first;
+use rules::no_gate_fault;
+use rules::size_fault;
+use study::Load;
 use study::absent_load;
 use study::with_customers;
 use study::with_minutes;
-use study::Load;
 ghost use Prim.Native.Nat.{_<_};
 ghost use lib.ListN.{drop};
 ghost use Rattle.reading.specs.Reader.{Reads};
@@ -30,9 +30,7 @@ pub struct LoadRead {
 
 // The field of bit 0.
 fn read_loss_gate(bytes: &[u8], at: usize, gates: u8, l: Load) -> LoadRead
-    ensures {
-        λ r. ⌜ Reads (now (bytes .entry)) (r .refusal) (r .next) (r .load) (lossGate gates l (drop at (now (bytes .entry)))) ⌝
-    }
+    ensures { λ r. ⌜ Reads (now (bytes .entry)) (r .refusal) (r .next) (r .load) (lossGate gates l (drop at (now (bytes .entry)))) ⌝ }
 {
     let b = byte_at(bytes, at);
     LoadRead {
@@ -48,9 +46,7 @@ fn read_loss_gate(bytes: &[u8], at: usize, gates: u8, l: Load) -> LoadRead
 
 // A number of four bytes that is at most `most`.
 fn read_size(bytes: &[u8], at: usize, most: u32) -> WordRead
-    ensures {
-        λ r. ⌜ Reads (now (bytes .entry)) (r .refusal) (r .next) (r .value) (size most (drop at (now (bytes .entry)))) ⌝
-    }
+    ensures { λ r. ⌜ Reads (now (bytes .entry)) (r .refusal) (r .next) (r .value) (size most (drop at (now (bytes .entry)))) ⌝ }
 {
     let w = word_at(bytes, at);
     WordRead {
@@ -62,9 +58,7 @@ fn read_size(bytes: &[u8], at: usize, most: u32) -> WordRead
 
 // The field of bit 1.
 fn read_customers(bytes: &[u8], at: usize, l: Load) -> LoadRead
-    ensures {
-        λ r. ⌜ Reads (now (bytes .entry)) (r .refusal) (r .next) (r .load) (customers l (drop at (now (bytes .entry)))) ⌝
-    }
+    ensures { λ r. ⌜ Reads (now (bytes .entry)) (r .refusal) (r .next) (r .load) (customers l (drop at (now (bytes .entry)))) ⌝ }
 {
     let n = read_size(bytes, at, MOST_CUSTOMERS);
     LoadRead {
@@ -76,9 +70,7 @@ fn read_customers(bytes: &[u8], at: usize, l: Load) -> LoadRead
 
 // The field of bit 2.
 fn read_minutes(bytes: &[u8], at: usize, l: Load) -> LoadRead
-    ensures {
-        λ r. ⌜ Reads (now (bytes .entry)) (r .refusal) (r .next) (r .load) (minutes l (drop at (now (bytes .entry)))) ⌝
-    }
+    ensures { λ r. ⌜ Reads (now (bytes .entry)) (r .refusal) (r .next) (r .load) (minutes l (drop at (now (bytes .entry)))) ⌝ }
 {
     let n = read_size(bytes, at, MOST_MINUTES);
     LoadRead {
@@ -91,10 +83,8 @@ fn read_minutes(bytes: &[u8], at: usize, l: Load) -> LoadRead
 // The field of bit k, where the bit stands in the map.
 fn read_field(bytes: &[u8], at: usize, gates: u8, map: u8, k: u8, l: Load) -> LoadRead
     requires { ⌜ k < 8 ⌝ }
-    ensures {
-        λ r.
-        ⌜ Reads (now (bytes .entry)) (r .refusal) (r .next) (r .load) (fieldAt (loadField gates) map k l (drop at (now (bytes .entry)))) ⌝
-    }
+    ensures { λ r.
+        ⌜ Reads (now (bytes .entry)) (r .refusal) (r .next) (r .load) (fieldAt (loadField gates) map k l (drop at (now (bytes .entry)))) ⌝ }
 {
     if map_digit(map, k) != 1 {
         return LoadRead {
@@ -114,10 +104,8 @@ fn read_field(bytes: &[u8], at: usize, gates: u8, map: u8, k: u8, l: Load) -> Lo
 
 // The fields whose bit stands in the map, lowest bit first, over their absent values: as many as the map has ones.
 fn read_fields(bytes: &[u8], at: usize, gates: u8, map: u8) -> LoadRead
-    ensures {
-        λ r.
-        ⌜ Reads (now (bytes .entry)) (r .refusal) (r .next) (r .load) (fields (loadField gates) map absentLoad (drop at (now (bytes .entry)))) ⌝
-    }
+    ensures { λ r.
+        ⌜ Reads (now (bytes .entry)) (r .refusal) (r .next) (r .load) (fields (loadField gates) map absentLoad (drop at (now (bytes .entry)))) ⌝ }
 {
     let mut refusal: u8 = 0;
     let mut next = at;
@@ -141,9 +129,7 @@ fn read_fields(bytes: &[u8], at: usize, gates: u8, map: u8) -> LoadRead
 
 // One load record of a study with so many gates.
 pub fn read_load(bytes: &[u8], at: usize, gates: u8) -> LoadRead
-    ensures {
-        λ r. ⌜ Reads (now (bytes .entry)) (r .refusal) (r .next) (r .load) (load gates (drop at (now (bytes .entry)))) ⌝
-    }
+    ensures { λ r. ⌜ Reads (now (bytes .entry)) (r .refusal) (r .next) (r .load) (load gates (drop at (now (bytes .entry)))) ⌝ }
 {
     let m = map_at(bytes, at, LOAD_MAPS);
     let f = read_fields(bytes, m.next, gates, m.value);

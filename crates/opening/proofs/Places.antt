@@ -38,7 +38,7 @@ module _ {A : Type 0} {reader : ℕ → List A → Reader A} {most n : ℕ} {non
         record {
           fits = p .fits;
           long = length-set places i a ∙ p .long;
-          left = repeat-more (p .left) h (finished (set places i) (rw done at read) refl) refl
+          left = repeat-more (p .left) h (finished (set places i) (rw done at read) refl) refl;
         }
 
     -- a record that is refused ends the run

@@ -1,10 +1,10 @@
 // The component records of a study.
-use component_record::read_component;
 use component_record::ComponentRead;
+use component_record::read_component;
 use rules::first;
 use rules::width_fault;
-use study::no_components;
 use study::Component;
+use study::no_components;
 ghost use mathlib.Core.Path.{_≡_};
 ghost use Prim.Native.Nat.{_*_, _≤_};
 ghost use lib.ListN.{drop};
@@ -21,9 +21,7 @@ pub struct ComponentsRead {
 // A component after others that have so many joint states; where it is not refused, they stay within the limit.
 fn read_component_after(bytes: &[u8], at: usize, joint: u32) -> ComponentRead
     requires { ⌜ joint ≤ 4096 ⌝ }
-    ensures {
-        λ r. ⌜ Reads (now (bytes .entry)) (r .refusal) (r .next) (r .component) (componentAfter joint (drop at (now (bytes .entry)))) ⌝
-    }
+    ensures { λ r. ⌜ Reads (now (bytes .entry)) (r .refusal) (r .next) (r .component) (componentAfter joint (drop at (now (bytes .entry)))) ⌝ }
     ensures { λ r. ⌜ (r .refusal ≡ 0 → joint * r .component .states ≤ 4096) ⌝ }
 {
     let r = read_component(bytes, at);
@@ -38,10 +36,8 @@ fn read_component_after(bytes: &[u8], at: usize, joint: u32) -> ComponentRead
 // So many component records, each in its place, up to the first breach.
 pub fn read_components(bytes: &[u8], at: usize, n: usize) -> ComponentsRead
     requires { ⌜ n ≤ 12 ⌝ }
-    ensures {
-        λ r.
-        ⌜ Reads (now (bytes .entry)) (r .refusal) (r .next) (r .component) (repeat (placing componentRecord) n noComponents (drop at (now (bytes .entry)))) ⌝
-    }
+    ensures { λ r.
+        ⌜ Reads (now (bytes .entry)) (r .refusal) (r .next) (r .component) (repeat (placing componentRecord) n noComponents (drop at (now (bytes .entry)))) ⌝ }
 {
     let mut next = at;
     let mut component = no_components();

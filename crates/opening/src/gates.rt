@@ -1,7 +1,7 @@
 // The gate records of a study.
 use gate_record::read_gate;
-use study::no_gates;
 use study::Gate;
+use study::no_gates;
 ghost use Prim.Native.Nat.{_≤_};
 ghost use lib.ListN.{drop};
 ghost use Rattle.reading.specs.Reader.{Reads, repeat};
@@ -17,10 +17,8 @@ pub struct GatesRead {
 // So many gate records, each in its place, up to the first breach; `counts` has the state count of each component.
 pub fn read_gates(bytes: &[u8], at: usize, counts: &[u8], n: usize) -> GatesRead
     requires { ⌜ n ≤ 32 ⌝ }
-    ensures {
-        λ r.
-        ⌜ Reads (now (bytes .entry)) (r .refusal) (r .next) (r .gate) (repeat (placing (gateRecord (now (counts .entry)))) n noGates (drop at (now (bytes .entry)))) ⌝
-    }
+    ensures { λ r.
+        ⌜ Reads (now (bytes .entry)) (r .refusal) (r .next) (r .gate) (repeat (placing (gateRecord (now (counts .entry)))) n noGates (drop at (now (bytes .entry)))) ⌝ }
 {
     let mut next = at;
     let mut gate = no_gates();

@@ -6,19 +6,19 @@ mod loads;
 use components::read_components;
 use gates::read_gates;
 use loads::read_loads;
-use reading::byte_at;
 use reading::ByteRead;
-use rules::count_fault;
-use rules::first;
-use rules::left_fault;
+use reading::byte_at;
 use rules::MOST_COMPONENTS;
 use rules::MOST_GATES;
 use rules::MOST_LOADS;
-use study::state_counts;
-use study::zero_study;
+use rules::count_fault;
+use rules::first;
+use rules::left_fault;
 use study::Outcome;
 use study::Study;
 use study::StudyAnswer;
+use study::state_counts;
+use study::zero_study;
 ghost use mathlib.Core.Path.{_≡_};
 ghost use Prim.Native.Nat.{_≤_};
 ghost use lib.ListN.{length, drop};
@@ -27,9 +27,7 @@ ghost use Rattle.opening.specs.Opening.{count, records, refusedOpening, 
 
 // One of the first three bytes, which is in range where it is not refused.
 fn count_at(bytes: &[u8], at: usize, most: u8) -> ByteRead
-    ensures {
-        λ r. ⌜ Reads (now (bytes .entry)) (r .refusal) (r .next) (r .value) (count most (drop at (now (bytes .entry)))) ⌝
-    }
+    ensures { λ r. ⌜ Reads (now (bytes .entry)) (r .refusal) (r .next) (r .value) (count most (drop at (now (bytes .entry)))) ⌝ }
     ensures { λ r. ⌜ (r .refusal ≡ 0 → r .value ≤ most) ⌝ }
 {
     let b = byte_at(bytes, at);

@@ -1,7 +1,7 @@
 // The load records of a study.
 use load_record::read_load;
-use study::no_loads;
 use study::Load;
+use study::no_loads;
 ghost use Prim.Native.Nat.{_≤_};
 ghost use lib.ListN.{drop};
 ghost use Rattle.reading.specs.Reader.{Reads, repeat};
@@ -17,10 +17,8 @@ pub struct LoadsRead {
 // So many load records of a study with so many gates, each in its place, up to the first breach.
 pub fn read_loads(bytes: &[u8], at: usize, gates: u8, n: usize) -> LoadsRead
     requires { ⌜ n ≤ 8 ⌝ }
-    ensures {
-        λ r.
-        ⌜ Reads (now (bytes .entry)) (r .refusal) (r .next) (r .load) (repeat (placing (loadRecord gates)) n noLoads (drop at (now (bytes .entry)))) ⌝
-    }
+    ensures { λ r.
+        ⌜ Reads (now (bytes .entry)) (r .refusal) (r .next) (r .load) (repeat (placing (loadRecord gates)) n noLoads (drop at (now (bytes .entry)))) ⌝ }
 {
     let mut next = at;
     let mut load = no_loads();

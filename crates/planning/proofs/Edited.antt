@@ -28,5 +28,5 @@ pub present : (t : Study) (count item : ℕ) → unsoundFault (sound t) ≡ 0 �
 present t count item unsound missing =
     record {
       is-sound = not-false (sound t) (refuse-kept 15 (not (sound t)) unsound);
-      below = leb-false count item (refuse-kept 16 (leb count item) missing)
+      below = leb-false count item (refuse-kept 16 (leb count item) missing);
     }

@@ -1,20 +1,20 @@
 // The edits of an opened study, each of one field. A refused edit hands the study back as it was.
+use rules::MOST_CUSTOMERS;
+use rules::MOST_MINUTES;
 use rules::first;
 use rules::item_fault;
 use rules::size_fault;
 use rules::unsound_fault;
-use rules::MOST_CUSTOMERS;
-use rules::MOST_MINUTES;
 use soundness::is_sound;
 use soundness::probabilities_fault;
+use study::Outcome;
+use study::Study;
+use study::StudyAnswer;
 use study::with_component;
 use study::with_customers;
 use study::with_load;
 use study::with_minutes;
 use study::with_probabilities;
-use study::Outcome;
-use study::Study;
-use study::StudyAnswer;
 ghost use mathlib.Core.Path.{_≡_};
 ghost use Prim.Native.Nat.{_<_};
 ghost use Rattle.planning.specs.Edits.{componentEditFault, probabilitiesSet, loadEditFault, customersSet, minutesSet};
@@ -56,7 +56,10 @@ fn load_edit_fault(t: Study, j: usize, most: u32, n: u32) -> u8
     ensures { λ r. ⌜ r ≡ loadEditFault t j most n ⌝ }
     ensures { λ r. ⌜ (r ≡ 0 → j < 8) ⌝ }
 {
-    first(unsound_fault(is_sound(t)), first(item_fault(t.loads, j), size_fault(most, n)))
+    first(
+        unsound_fault(is_sound(t)),
+        first(item_fault(t.loads, j), size_fault(most, n)),
+    )
 }
 
 // Sets the customers of a load. Refused by 16, 17, 14, in this order.

@@ -24,7 +24,7 @@ pub after : {A B : Type 0} {s : List ℕ} {p q n n′ refusal : ℕ} {v : A} {v�
 after {s = s} {p = p} {q = q} {n = n} {n′ = n′} {v = v} {v′ = v′} f here there e =
     record {
       same =
-          ap (λ (x : ℕ). asRead s x n′ v′) e ∙ first-asRead s p q n n′ v v′ f (there .same) ∙ ap (λ (r : Read _). andThen r f) (here .same)
+          ap (λ (x : ℕ). asRead s x n′ v′) e ∙ first-asRead s p q n n′ v v′ f (there .same) ∙ ap (λ (r : Read _). andThen r f) (here .same);
     }
 
 -- a breach is judged as a reading that takes no byte

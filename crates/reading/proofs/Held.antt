@@ -81,7 +81,7 @@ gives-repeat P step n a on p =
       held =
           λ bytes.
           subst (λ (k : ℕ). Held (P k) (each (turn step) n 0 (got a bytes))) (omega arith)
-          (run-held P step n 0 (λ k a less q. on k a (omega arith) q) (got a bytes) p)
+          (run-held P step n 0 (λ k a less q. on k a (omega arith) q) (got a bytes) p);
     }
 
 -- a bit that stands is not above its number

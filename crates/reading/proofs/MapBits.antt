@@ -58,6 +58,7 @@ module _ {A : Type 0} {field : ℕ → A → Reader A} {absent : A} {s : List �
       where
         past : k ≡ mapBits → left ≡ 0
         past e = f .standing ∙ ap (λ (n : ℕ). ones (map / 2 ^ n)) e ∙ ap ones (div-eq-of-lt (f .map-byte))
+
         go : Dec (k < mapBits) → k < mapBits
         go (yes h) = h
         go (no h) = absurd (some (past (omega (arith, f .fields-read .turns .inside))))
@@ -69,7 +70,7 @@ module _ {A : Type 0} {field : ℕ → A → Reader A} {absent : A} {s : List �
         record {
           map-byte = f .map-byte;
           fields-read = repeat-more (f .fields-read) (fields-bit some) read e;
-          standing = omega (arith, digits, f .standing, ones-from map k)
+          standing = omega (arith, digits, f .standing, ones-from map k);
         }
 
     -- no field is left
@@ -78,5 +79,5 @@ module _ {A : Type 0} {field : ℕ → A → Reader A} {absent : A} {s : List �
         record {
           same =
               sym (none-left field map (mapBits - k) k (asRead s refusal next value) (sym (f .standing) ∙ none))
-              ∙ f .fields-read .turns .same
+              ∙ f .fields-read .turns .same;
         }

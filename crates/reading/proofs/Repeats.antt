@@ -41,7 +41,7 @@ module _ {A : Type 0} {step : ℕ → A → Reader A} {n : ℕ} {value₀ : A} {
           turns =
               subst (Turns (turn step) n 0 (got value₀ (drop at s)) (i + 1))
               (sym (after (step i) (record { same = refl }) read e .same))
-              (turns-more (r .turns) h)
+              (turns-more (r .turns) h);
         }
 
     -- no reading is left
@@ -59,7 +59,7 @@ module _ {A : Type 0} {step : ℕ → A → Reader A} {n : ℕ} {value₀ : A} {
             ∙ sym (refused-run step (n - (i + 1)) (i + 1) q)
             ∙ ap (each (turn step) (n - (i + 1)) (i + 1)) (sym (asRead-refused s q n′ v′ some) ∙ read .same)
             ∙ ap (λ (k : ℕ). each (turn step) k i (got value (drop next s))) left
-            ∙ (rw sub-zero at (r .turns .same))
+            ∙ (rw sub-zero at (r .turns .same));
       }
     where
       left : suc (n - (i + 1)) ≡ n - i

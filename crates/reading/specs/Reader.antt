@@ -21,12 +21,10 @@ andThen (refused n) f = refused n
 andThen (got a rest) f = f a rest
 
 infixr 20 _>>=_
-
 abbrev pub _>>=_ : {A B : Type 0} → Reader A → (A → Reader B) → Reader B
 _>>=_ m f bytes = andThen (m bytes) f
 
 infixr 20 _>>_
-
 abbrev pub _>>_ : {A B : Type 0} → Reader A → Reader B → Reader B
 _>>_ m k bytes = andThen (m bytes) (λ a. k)
 

@@ -25,7 +25,7 @@ module _ {f : ℕ → ℕ} {n : ℕ} where
   first-more {i} {breach} l h e e′ =
       record {
         turns =
-            subst (Turns (λ (k b : ℕ). first b (f k)) n 0 0 (i + 1)) (sym (e′ ∙ ap (first breach) e)) (turns-more (l .turns) h)
+            subst (Turns (λ (k b : ℕ). first b (f k)) n 0 0 (i + 1)) (sym (e′ ∙ ap (first breach) e)) (turns-more (l .turns) h);
       }
 
   pub first-done : {i breach : ℕ} → FirstLeft f n i breach → n ≤ i → breach ≡ firstOf f n 0
@@ -48,7 +48,7 @@ run-kept f (suc n) i b e =
         kept =
             λ k l h.
             ⊎-elim (λ (same : i ≡ k). subst (λ (j : ℕ). f j ≡ 0) same (both .right)) (λ (past : i < k). rest .1 .kept k (omega arith) (omega arith))
-            (eq-or-lt-of-le l)
+            (eq-or-lt-of-le l);
       },
     )
 

@@ -1,19 +1,30 @@
 // The limits of the study format.
 
 pub const MOST_COMPONENTS: u8 = 12;
+
 pub const MOST_GATES: u8 = 32;
+
 pub const MOST_LOADS: u8 = 8;
+
 pub const FEWEST_STATES: u32 = 2;
+
 pub const MOST_STATES: u32 = 4;
+
 pub const MOST_JOINT_STATES: u32 = 4096;
+
 pub const MOST_TESTS: u8 = 12;
+
 pub const MOST_GATE_INPUTS: u8 = 31;
+
 pub const MOST_CUSTOMERS: u32 = 100000;
+
 pub const MOST_MINUTES: u32 = 20000;
 
 // One above the largest map of each kind of record.
 pub const COMPONENT_MAPS: u8 = 16;
+
 pub const GATE_MAPS: u8 = 8;
+
 pub const LOAD_MAPS: u8 = 8;
 
 // The loss gate of a load that is never lost: a number that no gate has.

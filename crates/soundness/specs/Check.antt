@@ -23,11 +23,11 @@ use Rattle.study.specs.Zero.{zeroComponent, zeroLoad}
 unfoldable pub probabilitiesFault : ℕ → ℕ → ℕ → ℕ → ℕ
 probabilitiesFault states p1 p2 p3 =
     firstBreach (
-      given 0 p1 (noStateFault states 1)
-      ∷ given 0 p2 (noStateFault states 2)
-      ∷ given 0 p3 (noStateFault states 3)
-      ∷ sumFault p1 p2 p3
-      ∷ []
+    given 0 p1 (noStateFault states 1)
+    ∷ given 0 p2 (noStateFault states 2)
+    ∷ given 0 p3 (noStateFault states 3)
+    ∷ sumFault p1 p2 p3
+    ∷ []
     )
 
 unfoldable pub componentFault : Component → ℕ
@@ -62,11 +62,11 @@ inputPlacesFault counts i g = first (testsFault counts (g .tests) (g .component)
 unfoldable pub gateFault : List ℕ → ℕ → Gate → ℕ
 gateFault counts i g =
     firstBreach (
-      given 0 (g .tests) (inputsFault mostTests (g .tests))
-      ∷ given 0 (g .gates) (inputsFault mostGateInputs (g .gates))
-      ∷ thresholdFault (inputCount g) (g .threshold)
-      ∷ inputPlacesFault counts i g
-      ∷ []
+    given 0 (g .tests) (inputsFault mostTests (g .tests))
+    ∷ given 0 (g .gates) (inputsFault mostGateInputs (g .gates))
+    ∷ thresholdFault (inputCount g) (g .threshold)
+    ∷ inputPlacesFault counts i g
+    ∷ []
     )
 
 unfoldable pub unusedGateFault : List ℕ → ℕ → Gate → ℕ
@@ -76,10 +76,10 @@ unusedGateFault counts i g =
 unfoldable pub loadFault : ℕ → Load → ℕ
 loadFault gates l =
     firstBreach (
-      given never (l .gate) (noGateFault gates (l .gate))
-      ∷ sizeFault mostCustomers (l .customers)
-      ∷ sizeFault mostMinutes (l .minutes)
-      ∷ []
+    given never (l .gate) (noGateFault gates (l .gate))
+    ∷ sizeFault mostCustomers (l .customers)
+    ∷ sizeFault mostMinutes (l .minutes)
+    ∷ []
     )
 
 unfoldable pub unusedLoadFault : Load → ℕ
@@ -108,21 +108,21 @@ loadsFault gates n ls = firstOf (λ (j : ℕ). loadPlaceFault gates n j (getD ls
 unfoldable pub frontFault : Study → ℕ
 frontFault t =
     firstBreach (
-      countFault mostComponents (t .components)
-      ∷ countFault mostGates (t .gates)
-      ∷ countFault mostLoads (t .loads)
-      ∷ componentsFault (t .components) (t .component)
-      ∷ []
+    countFault mostComponents (t .components)
+    ∷ countFault mostGates (t .gates)
+    ∷ countFault mostLoads (t .loads)
+    ∷ componentsFault (t .components) (t .component)
+    ∷ []
     )
 
 -- the joint states, the gates and the loads
 unfoldable pub restFault : Study → ℕ
 restFault t =
     firstBreach (
-      widthFault (product (stateCounts t))
-      ∷ gatesFault (stateCounts t) (t .gates) (t .gate)
-      ∷ loadsFault (t .gates) (t .loads) (t .load)
-      ∷ []
+    widthFault (product (stateCounts t))
+    ∷ gatesFault (stateCounts t) (t .gates) (t .gate)
+    ∷ loadsFault (t .gates) (t .loads) (t .load)
+    ∷ []
     )
 
 -- no rule is broken

@@ -24,14 +24,20 @@ pub fn probabilities_fault(states: u8, p1: u32, p2: u32, p3: u32) -> u8
 fn component_fault(c: Component) -> u8
     ensures { λ r. ⌜ r ≡ componentFault c ⌝ }
 {
-    first(states_fault(c.states), probabilities_fault(c.states, c.p1, c.p2, c.p3))
+    first(
+        states_fault(c.states),
+        probabilities_fault(c.states, c.p1, c.p2, c.p3),
+    )
 }
 
 // The first breach of a component place that no record uses.
 fn unused_component_fault(c: Component) -> u8
     ensures { λ r. ⌜ r ≡ unusedComponentFault c ⌝ }
 {
-    let probabilities = first(unused_fault(c.p1), first(unused_fault(c.p2), unused_fault(c.p3)));
+    let probabilities = first(
+        unused_fault(c.p1),
+        first(unused_fault(c.p2), unused_fault(c.p3)),
+    );
     first(unused_fault(c.states as u32), probabilities)
 }
 

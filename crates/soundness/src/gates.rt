@@ -1,15 +1,15 @@
 // The gate places of a study.
 use crate::places::input_places_fault;
+use rules::MOST_GATE_INPUTS;
+use rules::MOST_TESTS;
 use rules::first;
 use rules::given;
 use rules::in_use;
 use rules::inputs_fault;
 use rules::threshold_fault;
 use rules::unused_fault;
-use rules::MOST_GATE_INPUTS;
-use rules::MOST_TESTS;
-use study::input_count;
 use study::Gate;
+use study::input_count;
 ghost use mathlib.Core.Path.{_≡_};
 ghost use Rattle.soundness.specs.Check.{gateFault, unusedGateFault, gatePlaceFault, gatesFault};
 
@@ -20,22 +20,36 @@ fn gate_fault(counts: &[u8], i: usize, g: Gate) -> u8
     let tests = given(0, g.tests as u32, inputs_fault(MOST_TESTS, g.tests));
     let gates = given(0, g.gates as u32, inputs_fault(MOST_GATE_INPUTS, g.gates));
     let threshold = threshold_fault(input_count(g), g.threshold);
-    first(tests, first(gates, first(threshold, input_places_fault(counts, i, g))))
+    first(
+        tests,
+        first(gates, first(threshold, input_places_fault(counts, i, g))),
+    )
 }
 
 // The first breach of gate place i where no record uses it.
 fn unused_gate_fault(counts: &[u8], i: usize, g: Gate) -> u8
     ensures { λ r. ⌜ r ≡ unusedGateFault (now (counts .entry)) i g ⌝ }
 {
-    let places = first(unused_fault(g.gates as u32), input_places_fault(counts, i, g));
-    first(unused_fault(g.threshold as u32), first(unused_fault(g.tests as u32), places))
+    let places = first(
+        unused_fault(g.gates as u32),
+        input_places_fault(counts, i, g),
+    );
+    first(
+        unused_fault(g.threshold as u32),
+        first(unused_fault(g.tests as u32), places),
+    )
 }
 
 // The breach of a gate place of a study with so many gates.
 fn gate_place_fault(counts: &[u8], n: u8, i: usize, g: Gate) -> u8
     ensures { λ r. ⌜ r ≡ gatePlaceFault (now (counts .entry)) n i g ⌝ }
 {
-    in_use(n, i, gate_fault(counts, i, g), unused_gate_fault(counts, i, g))
+    in_use(
+        n,
+        i,
+        gate_fault(counts, i, g),
+        unused_gate_fault(counts, i, g),
+    )
 }
 
 // The first breach among the gate places.

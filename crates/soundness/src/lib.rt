@@ -9,15 +9,15 @@ use components::components_fault;
 pub use components::probabilities_fault;
 use gates::gates_fault;
 use loads::loads_fault;
-use rules::count_fault;
-use rules::first;
-use rules::width_fault;
 use rules::MOST_COMPONENTS;
 use rules::MOST_GATES;
 use rules::MOST_LOADS;
+use rules::count_fault;
+use rules::first;
+use rules::width_fault;
+use study::Study;
 use study::joint_states;
 use study::state_counts;
-use study::Study;
 ghost use mathlib.Core.Path.{_≡_};
 ghost use Rattle.soundness.specs.Check.{frontFault, restFault, sound};
 
@@ -26,7 +26,13 @@ fn front_fault(t: Study) -> u8
     ensures { λ r. ⌜ r ≡ frontFault t ⌝ }
 {
     let component = t.component;
-    let counts = first(count_fault(MOST_GATES, t.gates), first(count_fault(MOST_LOADS, t.loads), components_fault(t.components, component)));
+    let counts = first(
+        count_fault(MOST_GATES, t.gates),
+        first(
+            count_fault(MOST_LOADS, t.loads),
+            components_fault(t.components, component),
+        ),
+    );
     first(count_fault(MOST_COMPONENTS, t.components), counts)
 }
 
@@ -42,7 +48,13 @@ fn rest_fault(t: Study) -> u8
     let all = state_counts(component);
     let counts = &all[..n];
     let width = width_fault(joint_states(counts));
-    first(width, first(gates_fault(counts, t.gates, gate), loads_fault(t.gates, t.loads, load)))
+    first(
+        width,
+        first(
+            gates_fault(counts, t.gates, gate),
+            loads_fault(t.gates, t.loads, load),
+        ),
+    )
 }
 
 // Whether the study is sound.

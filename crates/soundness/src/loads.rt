@@ -1,13 +1,13 @@
 // The load places of a study.
+use rules::MOST_CUSTOMERS;
+use rules::MOST_MINUTES;
+use rules::NEVER;
 use rules::first;
 use rules::given;
 use rules::in_use;
 use rules::no_gate_fault;
 use rules::size_fault;
 use rules::unused_fault;
-use rules::MOST_CUSTOMERS;
-use rules::MOST_MINUTES;
-use rules::NEVER;
 use study::Load;
 ghost use mathlib.Core.Path.{_≡_};
 ghost use Rattle.soundness.specs.Check.{loadFault, unusedLoadFault, loadPlaceFault, loadsFault};
@@ -17,14 +17,23 @@ fn load_fault(gates: u8, l: Load) -> u8
     ensures { λ r. ⌜ r ≡ loadFault gates l ⌝ }
 {
     let gate = given(NEVER as u32, l.gate as u32, no_gate_fault(gates, l.gate));
-    first(gate, first(size_fault(MOST_CUSTOMERS, l.customers), size_fault(MOST_MINUTES, l.minutes)))
+    first(
+        gate,
+        first(
+            size_fault(MOST_CUSTOMERS, l.customers),
+            size_fault(MOST_MINUTES, l.minutes),
+        ),
+    )
 }
 
 // The first breach of a load place that no record uses.
 fn unused_load_fault(l: Load) -> u8
     ensures { λ r. ⌜ r ≡ unusedLoadFault l ⌝ }
 {
-    first(unused_fault(l.gate as u32), first(unused_fault(l.customers), unused_fault(l.minutes)))
+    first(
+        unused_fault(l.gate as u32),
+        first(unused_fault(l.customers), unused_fault(l.minutes)),
+    )
 }
 
 // The breach of a load place of a study with so many gates and loads.

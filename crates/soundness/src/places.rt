@@ -5,8 +5,8 @@ use rules::in_use;
 use rules::mask_fault;
 use rules::no_component_fault;
 use rules::unused_fault;
-use study::states_of;
 use study::Gate;
+use study::states_of;
 ghost use mathlib.Core.Path.{_≡_};
 ghost use Rattle.soundness.specs.Check.{testPlaceFault, testsFault, inputPlaceFault, gateInputsFault, inputPlacesFault};
 
@@ -14,7 +14,10 @@ ghost use Rattle.soundness.specs.Check.{testPlaceFault, testsFault, inpu
 fn test_place_fault(counts: &[u8], tests: u8, j: usize, component: u8, mask: u8) -> u8
     ensures { λ r. ⌜ r ≡ testPlaceFault (now (counts .entry)) tests j component mask ⌝ }
 {
-    let used = first(no_component_fault(counts.len(), component), mask_fault(states_of(counts, component), mask));
+    let used = first(
+        no_component_fault(counts.len(), component),
+        mask_fault(states_of(counts, component), mask),
+    );
     let unused = first(unused_fault(component as u32), unused_fault(mask as u32));
     in_use(tests, j, used, unused)
 }
@@ -26,7 +29,10 @@ fn tests_fault(counts: &[u8], tests: u8, component: [u8; 12], mask: [u8; 12]) ->
     let mut fault: u8 = 0;
     let mut j: usize = 0;
     while j < 12 {
-        fault = first(fault, test_place_fault(counts, tests, j, component[j], mask[j]));
+        fault = first(
+            fault,
+            test_place_fault(counts, tests, j, component[j], mask[j]),
+        );
         j = j + 1;
     }
     fault
@@ -59,5 +65,8 @@ pub fn input_places_fault(counts: &[u8], i: usize, g: Gate) -> u8
     let component = g.component;
     let mask = g.mask;
     let input = g.input;
-    first(tests_fault(counts, g.tests, component, mask), gate_inputs_fault(i, g.gates, input))
+    first(
+        tests_fault(counts, g.tests, component, mask),
+        gate_inputs_fault(i, g.gates, input),
+    )
 }

@@ -19,7 +19,7 @@ absentGate =
       component = zeroGate .component;
       mask = zeroGate .mask;
       gates = 0;
-      input = zeroGate .input
+      input = zeroGate .input;
     }
 
 -- never lost, no customers, no minutes

@@ -22,7 +22,7 @@ withComponent i c t =
       loads = t .loads;
       component = set (t .component) i c;
       gate = t .gate;
-      load = t .load
+      load = t .load;
     }
 
 abbrev pub withLoad : ℕ → Load → Study → Study
@@ -33,5 +33,5 @@ withLoad j l t =
       loads = t .loads;
       component = t .component;
       gate = t .gate;
-      load = set (t .load) j l
+      load = set (t .load) j l;
     }

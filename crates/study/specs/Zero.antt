@@ -18,7 +18,7 @@ zeroGate =
       component = replicate mostTests 0;
       mask = replicate mostTests 0;
       gates = 0;
-      input = replicate mostGateInputs 0
+      input = replicate mostGateInputs 0;
     }
 
 abbrev pub zeroLoad : Load

@@ -41,7 +41,7 @@ clear k c s =
       state3 = s .state3;
       none1 = λ e. absurd (omega arith);
       none2 = λ e. absurd (omega arith);
-      none3 = λ e. absurd (omega arith)
+      none3 = λ e. absurd (omega arith);
     }
 
 -- the rule of a state whose probability is 0, or whose bit was judged
@@ -56,15 +56,15 @@ states-sound c s =
     gives-then (gives-judge (statesFault n))
     (λ u kept.
     gives-return (
-      record {
-        states = kept;
-        state1 = unread (c .p1) _ (s .none1 refl);
-        state2 = unread (c .p2) _ (s .none2 refl);
-        state3 = unread (c .p3) _ (s .none3 refl);
-        none1 = λ e. absurd (omega arith);
-        none2 = λ e. absurd (omega arith);
-        none3 = λ e. absurd (omega arith)
-      }
+    record {
+      states = kept;
+      state1 = unread (c .p1) _ (s .none1 refl);
+      state2 = unread (c .p2) _ (s .none2 refl);
+      state3 = unread (c .p3) _ (s .none3 refl);
+      none1 = λ e. absurd (omega arith);
+      none2 = λ e. absurd (omega arith);
+      none3 = λ e. absurd (omega arith);
+    }
     )))
 
 -- the probability of state n is the one just read, or stays
@@ -84,15 +84,15 @@ probability-sound k c s =
     gives-then (gives-any word)
     (λ p u.
     gives-return (
-      record {
-        states = s .states;
-        state1 = chosen (c .states) k 1 p (c .p1) judged (s .state1);
-        state2 = chosen (c .states) k 2 p (c .p2) judged (s .state2);
-        state3 = chosen (c .states) k 3 p (c .p3) judged (s .state3);
-        none1 = λ e. absurd (omega arith);
-        none2 = λ e. absurd (omega arith);
-        none3 = λ e. absurd (omega arith)
-      }
+    record {
+      states = s .states;
+      state1 = chosen (c .states) k 1 p (c .p1) judged (s .state1);
+      state2 = chosen (c .states) k 2 p (c .p2) judged (s .state2);
+      state3 = chosen (c .states) k 3 p (c .p3) judged (s .state3);
+      none1 = λ e. absurd (omega arith);
+      none2 = λ e. absurd (omega arith);
+      none3 = λ e. absurd (omega arith);
+    }
     )))
 
 field-sound : (k : ℕ) (c : Component) → 2 ^ k < componentMaps → SoFar k c → Gives (componentField k c) (SoFar (k + 1))

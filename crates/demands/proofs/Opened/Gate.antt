@@ -53,7 +53,7 @@ tests-more counts j component mask c m f h known fits =
           ) fits)
           (λ (lower : k < j).
           rw (getD-set-other component j k c 0 (λ same. omega arith), getD-set-other mask j k m 0 (λ same. omega arith)) (f .fit k lower))
-          (eq-or-lt-of-le (omega arith))
+          (eq-or-lt-of-le (omega arith));
     }
 
 abbrev InputsFilled : ℕ → ℕ → List ℕ → Type 0
@@ -82,7 +82,7 @@ module _ (counts : List ℕ) (number : ℕ) where
             record { components = filled-none refl (zero-places mostTests); masks = filled-none refl (zero-places mostTests); fit = λ k h. absurd (omega arith) };
         gates-filled = filled-none refl (zero-places mostGateInputs);
         no-tests = λ h. refl;
-        no-gates = λ h. refl
+        no-gates = λ h. refl;
       }
 
   -- a bit that is clear
@@ -94,7 +94,7 @@ module _ (counts : List ℕ) (number : ℕ) where
         tests-filled = s .tests-filled;
         gates-filled = s .gates-filled;
         no-tests = λ h. s .no-tests (omega arith);
-        no-gates = λ h. s .no-gates (omega arith)
+        no-gates = λ h. s .no-gates (omega arith);
       }
 
   threshold-sound : (g : Gate) → SoFar 0 g → Gives (threshold g) (SoFar 1)
@@ -103,14 +103,14 @@ module _ (counts : List ℕ) (number : ℕ) where
       gives-then (gives-any byte)
       (λ n u.
       gives-return (
-        record {
-          tests = s .tests;
-          gates = s .gates;
-          tests-filled = s .tests-filled;
-          gates-filled = s .gates-filled;
-          no-tests = λ h. s .no-tests (omega arith);
-          no-gates = λ h. s .no-gates (omega arith)
-        }
+      record {
+        tests = s .tests;
+        gates = s .gates;
+        tests-filled = s .tests-filled;
+        gates-filled = s .gates-filled;
+        no-tests = λ h. s .no-tests (omega arith);
+        no-gates = λ h. s .no-gates (omega arith);
+      }
       ))
 
   count-sound : (most : ℕ) → Gives (inputsByte most) (λ (n : ℕ). inputsFault most n ≡ 0)
@@ -136,12 +136,12 @@ module _ (counts : List ℕ) (number : ℕ) where
       gives-then (gives-judge (maskFault (getD counts c 0) m))
       (λ u fits.
       gives-return (
-        record {
-          tests = l .tests;
-          filled = tests-more counts j (g .component) (g .mask) c m (l .filled) (omega arith) known fits;
-          gates-filled = l .gates-filled;
-          no-gates = l .no-gates
-        }
+      record {
+        tests = l .tests;
+        filled = tests-more counts j (g .component) (g .mask) c m (l .filled) (omega arith) known fits;
+        gates-filled = l .gates-filled;
+        no-gates = l .no-gates;
+      }
       )))))
 
   tests-sound : (g : Gate) → SoFar 1 g → Gives (tests counts g) (SoFar 2)
@@ -158,7 +158,7 @@ module _ (counts : List ℕ) (number : ℕ) where
         tests = refl;
         filled = subst (λ (k : ℕ). TestsFilled counts k (g .component) (g .mask)) none (s .tests-filled);
         gates-filled = subst (λ (k : ℕ). InputsFilled number k (g .input)) gateless (s .gates-filled);
-        no-gates = gateless
+        no-gates = gateless;
       })))
     where
       after-loop : (n : ℕ) (h : Gate) → inputsFault mostTests n ≡ 0 → TestLoop n n h → SoFar 2 h
@@ -169,7 +169,7 @@ module _ (counts : List ℕ) (number : ℕ) where
             tests-filled = subst (λ (k : ℕ). TestsFilled counts k (h .component) (h .mask)) (sym (l .tests)) (l .filled);
             gates-filled = subst (λ (k : ℕ). InputsFilled number k (h .input)) (sym (l .no-gates)) (l .gates-filled);
             no-tests = λ e. absurd (omega arith);
-            no-gates = λ e. l .no-gates
+            no-gates = λ e. l .no-gates;
           }
 
   -- j of n gate inputs are read
@@ -187,7 +187,7 @@ module _ (counts : List ℕ) (number : ℕ) where
       gives-then (gives-judge (aheadFault number lower))
       (λ u kept.
       gives-return (
-        record { gates = l .gates; filled = filled-more (l .filled) (omega arith) kept; tests = l .tests; tests-filled = l .tests-filled }
+      record { gates = l .gates; filled = filled-more (l .filled) (omega arith) kept; tests = l .tests; tests-filled = l .tests-filled }
       )))
 
   inputs-sound : (g : Gate) → SoFar 2 g → Gives (inputs number g) (SoFar 3)
@@ -203,7 +203,7 @@ module _ (counts : List ℕ) (number : ℕ) where
         gates = refl;
         filled = subst (λ (k : ℕ). InputsFilled number k (g .input)) gateless (s .gates-filled);
         tests = s .tests;
-        tests-filled = s .tests-filled
+        tests-filled = s .tests-filled;
       })))
     where
       after-loop : (n : ℕ) (h : Gate) → inputsFault mostGateInputs n ≡ 0 → InputLoop n n h → SoFar 3 h
@@ -214,7 +214,7 @@ module _ (counts : List ℕ) (number : ℕ) where
             tests-filled = l .tests-filled;
             gates-filled = subst (λ (k : ℕ). InputsFilled number k (h .input)) (sym (l .gates)) (l .filled);
             no-tests = λ e. absurd (omega arith);
-            no-gates = λ e. absurd (omega arith)
+            no-gates = λ e. absurd (omega arith);
           }
 
   -- only bits 0, 1 and 2 have a meaning
@@ -243,14 +243,14 @@ module _ (counts : List ℕ) (number : ℕ) where
       gives-then (gives-judge (thresholdFault (inputCount g) (g .threshold)))
       (λ u kept.
       gives-return (
-        record {
-          tests = s .tests;
-          gates = s .gates;
-          component = s .tests-filled .components .below;
-          mask = s .tests-filled .fit;
-          input = s .gates-filled .below;
-          threshold = kept;
-          behind =
-              record { component = s .tests-filled .components .behind; mask = s .tests-filled .masks .behind; input = s .gates-filled .behind }
-        }
+      record {
+        tests = s .tests;
+        gates = s .gates;
+        component = s .tests-filled .components .below;
+        mask = s .tests-filled .fit;
+        input = s .gates-filled .below;
+        threshold = kept;
+        behind =
+            record { component = s .tests-filled .components .behind; mask = s .tests-filled .masks .behind; input = s .gates-filled .behind };
+      }
       )))

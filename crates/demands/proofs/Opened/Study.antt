@@ -71,10 +71,10 @@ component-placed i cs room s =
     gives-then (after-sound (product (take i (states cs))))
     (λ c fits.
     gives-return (
-      record {
-        filled = filled-more (s .filled) room (fits .is-sound);
-        width = rw (joint-placed cs i c (rw (s .filled .long) room)) (fits .width)
-      }
+    record {
+      filled = filled-more (s .filled) room (fits .is-sound);
+      width = rw (joint-placed cs i c (rw (s .filled .long) room)) (fits .width);
+    }
     ))
 
 -- gates
@@ -89,8 +89,8 @@ zero-unused =
           record {
             component = λ j from less. getD-replicate 12 j 0 0 less;
             mask = λ j from less. getD-replicate 12 j 0 0 less;
-            input = λ j from less. getD-replicate 31 j 0 0 less
-          }
+            input = λ j from less. getD-replicate 31 j 0 0 less;
+          };
     }
 
 no-gates : (counts : List ℕ) → Filled (SoundGate counts) UnusedGate noGate mostGates 0 noGates
@@ -125,18 +125,18 @@ records-sound components gates loads c g l =
     (no-loads gates))
     (λ ls loads-sound.
     gives-return (
-      record {
-        components = c;
-        gates = g;
-        loads = l;
-        component = components-sound .filled .below;
-        no-component = components-sound .filled .behind;
-        width = components-sound .width;
-        gate = gates-sound .below;
-        no-gate = gates-sound .behind;
-        load = loads-sound .below;
-        no-load = loads-sound .behind
-      }
+    record {
+      components = c;
+      gates = g;
+      loads = l;
+      component = components-sound .filled .below;
+      no-component = components-sound .filled .behind;
+      width = components-sound .width;
+      gate = gates-sound .below;
+      no-gate = gates-sound .behind;
+      load = loads-sound .below;
+      no-load = loads-sound .behind;
+    }
     ))))
 
 study-sound : Gives study Sound

@@ -20,10 +20,9 @@ returns : tie.Need-returns
 unfolding count
 returns c =
     let read = c .before .before .byte-at .ensures in
-    let rule = c .before .count-fault .ensures in
-    (
+    let rule = c .before .count-fault .ensures in (
       after _ read (judged-last _ rule) (c .first .ensures),
-      λ done. range-kept 1 1 _ _ (sym rule ∙ first-kept _ _ (sym (c .first .ensures) ∙ done) .right) .most
+      λ done. range-kept 1 1 _ _ (sym rule ∙ first-kept _ _ (sym (c .first .ensures) ∙ done) .right) .most,
     )
 
 pub count-at-spec : {M : Type 1} → statement M

@@ -33,10 +33,9 @@ slice-aggregate-counts c = sym (long c)
 
 joint-states-requires : tie.Need-joint-states-requires
 joint-states-requires c κs =
-    let front = c .before .before .before .before .before .before .pre in
-    (
+    let front = c .before .before .before .before .before .before .pre in (
       rw (long c) (components-most _ front),
-      λ k h. rw (c .before .state-counts .ensures) (counts-most _ front k (rw (long c) at h))
+      λ k h. rw (c .before .state-counts .ensures) (counts-most _ front k (rw (long c) at h)),
     )
 
 width-fault-requires : tie.Need-width-fault-requires

@@ -28,7 +28,7 @@ joint-more counts i joint l four h =
     record {
       inside = omega arith;
       left = rw (add-one, mul-assoc) (ap (λ (n : ℕ). joint * n) (sym split) ∙ l .left);
-      bound = rw (add-one, pow-suc) (mul-le-mul (l .bound) (four i h))
+      bound = rw (add-one, pow-suc) (mul-le-mul (l .bound) (four i h));
     }
 
 joint-done : (counts : List ℕ) (i joint : ℕ) → JointLeft counts i joint → length counts ≤ i → joint ≡ product counts

@@ -41,12 +41,11 @@ loop-again : tie.Need-loop-again Inv-loop μ-loop
 loop-again c =
     let h = c .before .loop .inv in
     let i = c .before .loop .i in
-    let component = c .before .before .args .t1 in
-    (
+    let component = c .before .before .args .t1 in (
       h .0,
       subst (λ (n : ℕ). Filling (states component) (i + 1) (set (c .before .loop .counts) i n))
-      (List·getD-map (λ (k : Component). k .states) component i zeroComponent)
-      (filling-more 0 (h .1) (rw (length-map component (λ (k : Component). k .states), h .0) (c .loop-test .taken)))
+          (List·getD-map (λ (k : Component). k .states) component i zeroComponent)
+          (filling-more 0 (h .1) (rw (length-map component (λ (k : Component). k .states), h .0) (c .loop-test .taken))),
     )
 
 returns : tie.Need-returns Inv-loop μ-loop

@@ -20,10 +20,9 @@ returns : tie.Need-returns
 unfolding inputsByte
 returns c =
     let read = c .before .before .byte-at .ensures in
-    let rule = c .before .inputs-fault .ensures in
-    (
+    let rule = c .before .inputs-fault .ensures in (
       after _ read (judged-last _ rule) (c .first .ensures),
-      λ done. range-kept 7 1 _ _ (sym rule ∙ first-kept _ _ (sym (c .first .ensures) ∙ done) .right) .most
+      λ done. range-kept 7 1 _ _ (sym rule ∙ first-kept _ _ (sym (c .first .ensures) ∙ done) .right) .most,
     )
 
 pub inputs-at-spec : {M : Type 1} → statement M

@@ -35,10 +35,9 @@ returns : tie.Need-returns
 unfolding componentAfter
 returns c =
     let read = c .before .before .before .before .read-component .ensures in
-    let rule = c .before .width-fault .ensures in
-    (
+    let rule = c .before .width-fault .ensures in (
       after _ read (judged-last _ rule) (c .first .ensures),
-      λ done. ltb-false _ _ (refuse-kept 6 _ (sym rule ∙ first-kept _ _ (sym (c .first .ensures) ∙ done) .right))
+      λ done. ltb-false _ _ (refuse-kept 6 _ (sym rule ∙ first-kept _ _ (sym (c .first .ensures) ∙ done) .right)),
     )
 
 pub read-component-after-spec : {M : Type 1} → statement M

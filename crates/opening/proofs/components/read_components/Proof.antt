@@ -63,11 +63,10 @@ loop-again c =
     let more = c .before .before .before .before .before .loop-test .taken in
     let r = c .before .before .before .before .read-component-after in
     let done = c .before .before .if1 .left in
-    let component = r .result .component in
-    (
+    let component = r .result .component in (
       places-more (held .0) more (rw (held .1) at (r .ensures .0)) done,
       ap (λ (j : ℕ). j * component .states) (held .1) ∙ sym (joint-placed (loop .component) (loop .i) component (rw (held .0 .long) (places-room (held .0) more))),
-      r .ensures .1 done
+      r .ensures .1 done,
     )
 
 returns-2 : tie.Need-returns-2 Inv-loop μ-loop

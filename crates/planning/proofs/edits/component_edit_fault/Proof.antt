@@ -43,10 +43,9 @@ first-requires c κs = search needs
 returns : tie.Need-returns
 unfolding componentEditFault firstBreach
 returns c =
-    let judged = absent-is (c .before) in
-    (
+    let judged = absent-is (c .before) in (
       judged ∙ sym (first-some _ _ (λ none. c .if1 .taken (judged ∙ none))) ∙ first-assoc _ _ _,
-      λ none. absurd (c .if1 .taken none)
+      λ none. absurd (c .if1 .taken none),
     )
 
 mul-c : tie.Need-mul-c
@@ -62,10 +61,9 @@ returns-2 : tie.Need-returns-2
 unfolding componentEditFault firstBreach
 returns-2 c =
     let none = c .before .before .if1 .left in
-    let kept = first-kept _ _ (sym (absent-is (c .before .before .before)) ∙ none) in
-    (
+    let kept = first-kept _ _ (sym (absent-is (c .before .before .before)) ∙ none) in (
       c .probabilities-fault .ensures ∙ sym (first-last _) ∙ sym (first-next _ _ (kept .right)) ∙ sym (first-next _ _ (kept .left)),
-      λ _. here (c .before .before .before) none
+      λ _. here (c .before .before .before) none,
     )
 
 pub component-edit-fault-spec : {M : Type 1} → statement M

@@ -36,14 +36,13 @@ returns : tie.Need-returns
 unfolding loadEditFault
 returns c =
     let t = c .before .before .before .before .before .before .args .t in
-    let judged = fault-is c in
-    (
+    let judged = fault-is c in (
       judged,
       λ none.
-      let unsound = list-kept _ _ (sym judged ∙ none) in
-      let missing = list-kept _ _ (unsound .right) in
-      let item = present t (t .loads) (c .before .before .before .before .before .before .args .j) (unsound .left) (missing .left) in
-      omega (arith, item .below, loads-most t (sound-front t (item .is-sound)))
+          let unsound = list-kept _ _ (sym judged ∙ none) in
+          let missing = list-kept _ _ (unsound .right) in
+          let item = present t (t .loads) (c .before .before .before .before .before .before .args .j) (unsound .left) (missing .left) in
+          omega (arith, item .below, loads-most t (sound-front t (item .is-sound))),
     )
 
 pub load-edit-fault-spec : {M : Type 1} → statement M

@@ -22,9 +22,10 @@ refuse-requires c κs = search needs
 returns-2 : tie.Need-returns-2
 unfolding outside refuse
 returns-2 c =
-    simp
-    (le-ltb _ _ (c .before .if1 .left),
-    ← c .refuse .ensures)
+    simp (
+      le-ltb _ _ (c .before .if1 .left),
+      ← c .refuse .ensures,
+    )
 
 pub refuse-outside-spec : {M : Type 1} → statement M
 refuse-outside-spec = tie.close (tie.spec returns refuse-requires returns-2)
