@@ -1,16 +1,13 @@
 -- The check for 16 decides soundness: no breach is found exactly when every rule of `Sound` is kept. What carries it: the first breach of a
 -- list is none exactly when each is none.
 use Prim.Native.Nat.{ℕ, _<_, _≤_}
-use mathlib.Core.Path.{_≡_, refl, sym, ap, subst, _∙_}
+use mathlib.Core.Path.{_≡_, refl, ap}
 use mathlib.Core.Bool.{Bool, true, false}
-use mathlib.Core.List.{List, [], _∷_}
+use mathlib.Core.List.{List}
 use native.Mathlib.Omega.{arith}
-use lib.ListN.{length, getD}
+use lib.ListN.{getD}
 use borrow.Author.Tests.{eqb-true, eq-eqb}
-use Rattle.lists.specs.Product.{product}
-use Rattle.rules.specs.Breach.{first, firstBreach, firstOf, inUse}
 use Rattle.rules.specs.Limits.{mostComponents, mostGates, mostLoads, mostTests, mostGateInputs}
-use Rattle.rules.specs.Table.{unusedFault}
 use Rattle.rules.proofs.Kept.{first-kept, first-none, list-kept, list-none, none-none, used-kept, unused-kept, in-use-none, zero-kept, zero-none, range-kept}
 use Rattle.rules.proofs.Firsts.{firstOf-kept, firstOf-none}
 use Rattle.study.specs.declared.Component.{Component}

@@ -1,17 +1,17 @@
 -- The edits: what a refused one answers, that one which is not refused leaves a sound study, and that a row of them leaves what a plain table
 -- of fields would hold. What carries it: a list with one element anew differs at that place alone.
-use Prim.Native.Nat.{ℕ, _<_, _≤_}
+use Prim.Native.Nat.{ℕ, _<_}
 use mathlib.Core.Path.{_≡_, refl, sym, ap, subst, fun-ext, _∙_}
 use mathlib.Core.Bool.{Bool, true, false, cond}
 use mathlib.Core.List.{List, [], _∷_, map}
 use native.Mathlib.Omega.{arith}
 use lib.Dec.{eqb}
-use lib.ListN.{length, getD, set, length-set}
+use lib.ListN.{length, length-set}
 use lib.Seq.{getD-set-other, map-set-same}
 use borrow.Author.Tests.{eqb-true, eqb-false}
 use Rattle.lists.proofs.Sets.{set-keeps, set-column, set-column-kept}
 use Rattle.rules.specs.Limits.{mostComponents, mostLoads, mostCustomers, mostMinutes}
-use Rattle.rules.specs.Table.{statesFault, sizeFault}
+use Rattle.rules.specs.Table.{sizeFault}
 use Rattle.rules.proofs.Kept.{list-kept, range-kept}
 use Rattle.study.specs.declared.Component.{Component}
 use Rattle.study.specs.declared.Load.{Load}
@@ -23,12 +23,12 @@ use Rattle.study.specs.Joint.{states, stateCounts}
 use Rattle.study.specs.Places.{componentAt, gateAt, loadAt}
 use Rattle.study.specs.Zero.{zeroComponent, zeroLoad}
 use Rattle.soundness.specs.Sound.{SoundComponent, SoundGate, SoundLoad, Sound}
-use Rattle.soundness.specs.Check.{sound, probabilitiesFault}
+use Rattle.soundness.specs.Check.{probabilitiesFault}
 use Rattle.planning.specs.Answers.{refusalOf}
 use Rattle.planning.specs.Edits.{edited, componentEditFault, probabilitiesSet, loadEditFault, customersSet, minutesSet}
-use Rattle.planning.proofs.Edited.{Present, present, edited-done, edited-refused}
+use Rattle.planning.proofs.Edited.{present, edited-done, edited-refused}
 use Rattle.demands.specs.Demand1.{EditRefused, EditedSound, EditFields, Shaped}
-use Rattle.demands.specs.Edits.{Edit, probabilities, customers, minutes, edit, breach, after, Table, tableOf, written, write, tableAfter, othersOf}
+use Rattle.demands.specs.Edits.{Edit, probabilities, customers, minutes, edit, breach, after, tableOf, write, tableAfter, othersOf}
 use Rattle.demands.proofs.Checked.{check-decides}
 
 -- ---- the answer of an edit

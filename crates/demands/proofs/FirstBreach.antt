@@ -1,22 +1,21 @@
 -- Opening refuses by the first breach from the left. What carries it: every reader is local, so that what a front part gives stands whatever
 -- bytes follow, unless the front part is too short.
-use Prim.Native.Nat.{ℕ, suc, _<_}
+use Prim.Native.Nat.{ℕ, suc}
 use mathlib.Core.Path.{_≡_, refl, sym, ap, _∙_}
-use mathlib.Core.Bool.{Bool, true, false, cond}
-use mathlib.Core.List.{List, [], _∷_, _++_, append-nil}
-use mathlib.Core.Logic.{_⊎_, inl, inr}
+use mathlib.Core.List.{List, [], _∷_, _++_}
+use mathlib.Core.Logic.{inl, inr}
 use native.Mathlib.Nat.{zero-lt-suc}
 use native.Mathlib.Omega.{arith}
 use lib.Dec.{eqb}
-use lib.ListN.{length, getD, take, set}
+use lib.ListN.{length, getD, take}
 use borrow.Author.Tests.{lt-ltb}
 use Rattle.lists.specs.Product.{product}
 use Rattle.rules.specs.Breach.{refuse}
 use Rattle.rules.specs.Limits.{componentMaps, gateMaps, loadMaps, mostComponents, mostGates, mostLoads, mostTests, mostGateInputs, mostCustomers, mostMinutes}
-use Rattle.rules.specs.Table.{short, countFault, statesFault, noStateFault, sumFault, widthFault, inputsFault, noComponentFault, maskFault}
-use Rattle.rules.specs.Table.{aheadFault, thresholdFault, noGateFault, sizeFault, leftFault}
+use Rattle.rules.specs.Table.{countFault, statesFault, noStateFault, sumFault, widthFault, inputsFault, noComponentFault, maskFault}
+use Rattle.rules.specs.Table.{aheadFault, thresholdFault, noGateFault, sizeFault}
 use Rattle.reading.specs.Reader.{Read, refused, got, Reader}
-use Rattle.reading.proofs.Local.{Local, Stands, more, local-then, local-return, local-judge, local-byte, local-word, local-cond, local-repeat, local-fields}
+use Rattle.reading.proofs.Local.{Local, Stands, local-then, local-return, local-judge, local-byte, local-word, local-cond, local-repeat, local-fields}
 use Rattle.component_record.specs.Component.{stateCount, probability, componentField, component}
 use Rattle.gate_record.specs.Gate.{threshold, inputsByte, test, tests, input, inputs, gateField, gate}
 use Rattle.load_record.specs.Load.{lossGate, size, customers, minutes, loadField, load}

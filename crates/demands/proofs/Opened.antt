@@ -1,3 +1,4 @@
+-- What opening a study keeps, record by record.
 pub mod Component
 pub mod Gate
 pub mod Load

@@ -1,6 +1,6 @@
 -- Laws of the product of a list.
 use Prim.Native.Nat.{ℕ, _*_}
-use mathlib.Core.Path.{_≡_, refl, sym, ap, _∙_}
+use mathlib.Core.Path.{_≡_, sym, ap, _∙_}
 use mathlib.Core.List.{List, [], _∷_, _++_}
 use native.Mathlib.Nat.{mul-one, one-mul, mul-assoc}
 use Rattle.lists.specs.Product.{product}

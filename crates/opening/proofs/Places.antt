@@ -1,6 +1,6 @@
 -- What carries the loops over the records of one kind: the records so far stand in their places, and none is refused.
 use Prim.Native.Nat.{ℕ, suc, _+_, _*_, _<_, _≤_}
-use mathlib.Core.Path.{_≡_, refl, sym, ap, _∙_}
+use mathlib.Core.Path.{_≡_, refl, ap, _∙_}
 use mathlib.Core.List.{List, [], _∷_, _++_}
 use native.Mathlib.Nat.{not-suc-le-zero, le-of-suc-le-suc}
 use native.Mathlib.Numerals.{add-one}
@@ -9,7 +9,7 @@ use lib.ListN.{length, take, drop, set, length-set}
 use Rattle.lists.specs.Product.{product}
 use Rattle.lists.proofs.Products.{product-snoc}
 use Rattle.rules.specs.Breach.{first}
-use Rattle.reading.specs.Reader.{Reader, Reads, repeat, return}
+use Rattle.reading.specs.Reader.{Reader, Reads, repeat}
 use Rattle.reading.proofs.After.{finished}
 use Rattle.reading.proofs.Repeats.{RepeatLeft, repeat-start, repeat-more, repeat-stopped, repeat-done}
 use Rattle.study.specs.declared.Component.{Component}

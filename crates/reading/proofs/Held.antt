@@ -13,7 +13,7 @@ use Rattle.lists.specs.Bits.{digit, bit}
 use Rattle.rules.specs.Table.{strayFault}
 use Rattle.rules.proofs.Kept.{refuse-kept}
 use Rattle.reading.specs.Reader.{Read, refused, got, Reader, andThen, return, judge, byte, turn, repeat, _>>=_}
-use Rattle.reading.specs.Fields.{fieldAt, fields, mapBits, mapByte, fieldsByMap}
+use Rattle.reading.specs.Fields.{fieldAt, mapBits, mapByte, fieldsByMap}
 
 -- P holds of the value, if there is one
 abbrev pub Held : {A : Type 0} → (A → Type 0) → Read A → Type 0

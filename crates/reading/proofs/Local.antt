@@ -1,6 +1,6 @@
 -- What a front part of the bytes gives: it ends too soon, which is refusal 1, or what it gives stands, whatever bytes follow.
 use Prim.Native.Nat.{ℕ, zero, suc, _+_}
-use mathlib.Core.Path.{_≡_, refl, ap, subst, sym, _∙_}
+use mathlib.Core.Path.{_≡_, refl, ap, subst, sym}
 use mathlib.Core.Bool.{Bool, true, false, cond}
 use mathlib.Core.List.{List, [], _∷_, _++_}
 use mathlib.Core.Logic.{_⊎_, inl, inr}
@@ -9,7 +9,7 @@ use Rattle.lists.specs.Run.{each}
 use Rattle.lists.specs.Bits.{bit}
 use Rattle.rules.specs.Table.{short, strayFault}
 use Rattle.reading.specs.Reader.{Read, refused, got, Reader, andThen, return, judge, byte, word, turn, repeat, _>>=_}
-use Rattle.reading.specs.Fields.{fieldAt, fields, mapByte, fieldsByMap}
+use Rattle.reading.specs.Fields.{fieldAt, mapByte, fieldsByMap}
 
 -- the same with more bytes behind
 abbrev pub more : {A : Type 0} → List ℕ → Read A → Read A

@@ -9,7 +9,7 @@ use borrow.Author.Tests.{ne-eqb}
 use Rattle.lists.specs.Run.{each}
 use Rattle.lists.proofs.Turns.{Turns, turns-start, turns-more, turns-done}
 use Rattle.rules.specs.Breach.{first}
-use Rattle.reading.specs.Reader.{Read, Reader, Reads, refused, got, turn, repeat, asRead}
+use Rattle.reading.specs.Reader.{Reader, Reads, refused, got, turn, repeat, asRead}
 use Rattle.reading.proofs.After.{after}
 
 -- From the place `at` the first i of n readings are made, and the code holds a refusal, the next place and a value.

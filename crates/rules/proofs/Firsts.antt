@@ -1,5 +1,5 @@
 -- The first breach among numbered rules: what carries a loop that judges them, and what it means that there is none.
-use Prim.Native.Nat.{ℕ, zero, suc, _+_, _-_, _<_, _≤_}
+use Prim.Native.Nat.{ℕ, zero, suc, _+_, _<_, _≤_}
 use mathlib.Core.Path.{_≡_, refl, sym, ap, subst, _∙_}
 use mathlib.Core.Logic.{⊎-elim}
 use native.Mathlib.Nat.{sub-zero, eq-or-lt-of-le, le-refl}

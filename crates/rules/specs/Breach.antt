@@ -1,6 +1,6 @@
 -- A breach is the number of a row of the refusal table, or 0 where the rule is kept; the first breach decides.
 use Prim.Native.Nat.{ℕ}
-use mathlib.Core.Bool.{Bool, true, false, _||_, cond}
+use mathlib.Core.Bool.{Bool, _||_, cond}
 use mathlib.Core.List.{List, [], _∷_}
 use lib.Dec.{ltb, eqb}
 use Rattle.lists.specs.Run.{each}

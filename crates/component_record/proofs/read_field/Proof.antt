@@ -1,5 +1,4 @@
 -- `component_record::read_field` meets its contract: the tests say which reader of the definition stands.
-use mathlib.Core.Path.{_≡_, _∙_, sym}
 use borrow.Author.Needs.{needs}
 use borrow.Author.Tests.{eq-eqb, ne-eqb}
 use Rattle.reading.proofs.After.{returned}

@@ -1,6 +1,5 @@
 -- `component_record::read_state_count` meets its contract: the byte is read, then its rule is judged.
 use borrow.Author.Needs.{needs}
-use Rattle.rules.specs.Table.{statesFault}
 use Rattle.reading.proofs.After.{after, judged-last}
 use Rattle.component_record.specs.Component.{stateCount}
 use Rattle.component_record.proofs.read_state_count.Statement.{statement}

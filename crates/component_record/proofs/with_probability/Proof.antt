@@ -1,5 +1,4 @@
 -- `component_record::with_probability` meets its contract: each probability is chosen by the same test as in the definition.
-use mathlib.Core.Path.{_≡_}
 use borrow.Author.Needs.{needs}
 use Rattle.component_record.proofs.with_probability.Statement.{statement}
 use Rattle.component_record.proofs.with_probability.Tie as tie

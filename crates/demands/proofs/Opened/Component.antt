@@ -1,18 +1,18 @@
 -- A component record that is read is sound. What carries it: the state count is read before any probability, so that each later bit is
 -- judged against the count that stays.
 use Prim.Native.Nat.{ℕ, _+_, _^_, _<_}
-use mathlib.Core.Path.{_≡_, refl, sym}
+use mathlib.Core.Path.{_≡_, refl}
 use mathlib.Core.Bool.{Bool, true, false, cond}
 use native.Mathlib.Omega.{arith}
 use lib.Dec.{eqb}
-use borrow.Author.Tests.{eqb-true, eqb-false}
+use borrow.Author.Tests.{eqb-true}
 use Rattle.rules.specs.Breach.{given}
 use Rattle.rules.specs.Limits.{componentMaps}
 use Rattle.rules.specs.Table.{statesFault, noStateFault, sumFault}
 use Rattle.rules.proofs.Kept.{given-absent, given-kept}
 use Rattle.reading.specs.Reader.{byte, word}
 use Rattle.reading.proofs.Held.{Gives, gives-any, gives-then, gives-judge, gives-return, gives-cond, gives-fields}
-use Rattle.component_record.specs.Component.{withStates, withProbability, stateCount, probability, componentField, component}
+use Rattle.component_record.specs.Component.{stateCount, probability, componentField, component}
 use Rattle.study.specs.declared.Component.{Component}
 use Rattle.study.specs.Absent.{absentComponent}
 use Rattle.soundness.specs.Sound.{SoundComponent}

@@ -1,7 +1,7 @@
 -- A gate record that is read is sound. What carries it: tests and gate inputs fill their places from the front, each once, since the map's
 -- bits are read upwards and only bits 0 to 2 stand.
 use Prim.Native.Nat.{ℕ, _+_, _^_, _<_, _≤_}
-use mathlib.Core.Path.{_≡_, refl, sym, subst, _∙_}
+use mathlib.Core.Path.{_≡_, refl, sym, subst}
 use mathlib.Core.Logic.{⊎-elim}
 use mathlib.Core.List.{List}
 use native.Mathlib.Nat.{eq-or-lt-of-le, lt-of-not-le, not-le-of-lt}
@@ -13,19 +13,18 @@ use lib.Pow.{pow-mono}
 use lib.Seq.{getD-set-same, getD-set-other}
 use borrow.Author.Tests.{eqb-true, eqb-false}
 use Rattle.lists.proofs.Filled.{Filled, filled-none, filled-more}
-use Rattle.rules.specs.Breach.{given, refuse}
+use Rattle.rules.specs.Breach.{given}
 use Rattle.rules.specs.Limits.{gateMaps, mostTests, mostGateInputs}
 use Rattle.rules.specs.Table.{inputsFault, noComponentFault, maskFault, aheadFault, thresholdFault}
 use Rattle.rules.proofs.Kept.{given-absent, given-kept, range-kept}
 use Rattle.reading.specs.Reader.{byte}
 use Rattle.reading.proofs.Held.{Gives, gives-any, gives-then, gives-judge, gives-return, gives-cond, gives-repeat, gives-fields, gives-weaker}
-use Rattle.gate_record.specs.Gate.{threshold, inputsByte, test, tests, input, inputs, gateField, gate}
-use Rattle.gate_record.specs.Gate.{withThreshold, withTests, withTest, withGates, withInput}
+use Rattle.gate_record.specs.Gate.{threshold, inputsByte, test, tests, input, inputs, gateField, gate, withTests, withGates}
 use Rattle.study.specs.declared.Gate.{Gate}
 use Rattle.study.specs.Absent.{absentGate}
 use Rattle.study.specs.Inputs.{inputCount}
 use Rattle.study.specs.Zero.{zeroGate}
-use Rattle.soundness.specs.Sound.{SoundGate, ZeroBehind}
+use Rattle.soundness.specs.Sound.{SoundGate}
 
 abbrev IsZero : ℕ → Type 0
 IsZero n = n ≡ 0

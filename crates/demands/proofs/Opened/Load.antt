@@ -1,8 +1,8 @@
 -- A load record that is read is sound: each of its fields is judged by itself.
-use Prim.Native.Nat.{ℕ, _+_, _^_, _<_}
+use Prim.Native.Nat.{ℕ, _^_, _<_}
 use mathlib.Core.Path.{_≡_, refl}
 use lib.Dec.{eqb}
-use Rattle.rules.specs.Breach.{given, refuse}
+use Rattle.rules.specs.Breach.{refuse}
 use Rattle.rules.specs.Limits.{loadMaps, mostCustomers, mostMinutes, never}
 use Rattle.rules.specs.Table.{noGateFault, sizeFault}
 use Rattle.rules.proofs.Kept.{given-absent, given-kept}

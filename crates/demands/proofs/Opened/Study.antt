@@ -1,28 +1,26 @@
 -- An opening that is not refused returns a sound study. What carries it: the records of each kind fill their places from the front, each
 -- sound by itself, and the joint states so far are judged with each component.
-use Prim.Native.Nat.{ℕ, _+_, _*_, _<_, _≤_}
-use mathlib.Core.Path.{_≡_, refl, sym, ap, subst, _∙_}
+use Prim.Native.Nat.{ℕ, _+_, _*_, _<_}
+use mathlib.Core.Path.{_≡_, refl, sym, subst}
 use mathlib.Core.Bool.{Bool, true, false, cond}
 use mathlib.Core.List.{List}
 use native.Mathlib.Omega.{arith}
 use lib.Dec.{eqb}
-use lib.ListN.{length, getD, take, set, replicate, getD-replicate}
+use lib.ListN.{length, take, getD-replicate}
 use Rattle.lists.specs.Product.{product}
 use Rattle.lists.proofs.Filled.{Filled, filled-none, filled-more}
 use Rattle.rules.specs.Breach.{refuse}
 use Rattle.rules.specs.Limits.{mostComponents, mostGates, mostLoads}
 use Rattle.rules.specs.Table.{countFault, widthFault, leftFault}
 use Rattle.rules.proofs.Kept.{range-kept}
-use Rattle.reading.specs.Reader.{Read, refused, got, byte, repeat}
+use Rattle.reading.specs.Reader.{Read, refused, got, byte}
 use Rattle.reading.proofs.Held.{Held, Gives, gives-any, gives-then, gives-judge, gives-return, gives-repeat}
 use Rattle.opening.specs.Opening.{count, componentAfter, componentRecord, gateRecord, loadRecord, placing, records, study, refusedOpening, answer, opened}
 use Rattle.opening.proofs.Places.{joint-placed}
 use Rattle.component_record.specs.Component.{component}
 use Rattle.study.specs.declared.Component.{Component}
-use Rattle.study.specs.declared.Gate.{Gate}
 use Rattle.study.specs.declared.Load.{Load}
 use Rattle.study.specs.declared.Study.{Study}
-use Rattle.study.specs.declared.Outcome.{Outcome}
 use Rattle.study.specs.declared.Outcome.the-variants.{Done, Refused}
 use Rattle.study.specs.Joint.{states}
 use Rattle.study.specs.Places.{noGate}

@@ -1,5 +1,4 @@
 -- `opening::bytes_left` meets its contract: what is dropped from the length is left of it.
-use mathlib.Core.Path.{_≡_, sym}
 use native.Mathlib.Omega.{arith}
 use lib.ListN.{length-drop}
 use borrow.Author.Needs.{needs}

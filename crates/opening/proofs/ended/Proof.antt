@@ -1,5 +1,5 @@
 -- `opening::ended` meets its contract: the bytes left decide.
-use mathlib.Core.Path.{_∙_, ap, sym}
+use mathlib.Core.Path.{_∙_, ap}
 use borrow.Author.Tests.{eq-eqb, ne-eqb}
 use borrow.Author.Needs.{needs}
 use Rattle.opening.specs.Opening.{answer}

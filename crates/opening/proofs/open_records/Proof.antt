@@ -1,6 +1,5 @@
 -- `opening::open_records` meets its contract: each kind of record is read in turn, and the first refusal is the answer.
 use mathlib.Core.Path.{_≡_, _∙_, sym}
-use native.Mathlib.Omega.{arith}
 use lib.ListN.{length}
 use lib.Seq.{length-take-le}
 use borrow.Author.Needs.{needs}

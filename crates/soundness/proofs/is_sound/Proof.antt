@@ -1,8 +1,8 @@
 -- `soundness::is_sound` meets its contract: a breach in front is the first of all; without one the rest decides.
-use mathlib.Core.Path.{_≡_, sym, _∙_}
+use mathlib.Core.Path.{sym, _∙_}
 use borrow.Author.Tests.{eq-eqb, ne-eqb}
 use borrow.Author.Needs.{needs}
-use Rattle.soundness.specs.Check.{frontFault, restFault, sound}
+use Rattle.soundness.specs.Check.{sound}
 use Rattle.rules.specs.Breach.{first}
 use Rattle.soundness.proofs.is_sound.Statement.{statement}
 use Rattle.soundness.proofs.is_sound.Tie as tie

@@ -1,6 +1,5 @@
 -- `soundness::rest_fault` meets its contract: the rules are judged in the order of the definition, over the state counts of the components in use.
 use mathlib.Core.Path.{_≡_, sym}
-use native.Mathlib.Omega.{arith}
 use lib.ListN.{length, take}
 use lib.Seq.{length-take-le}
 use borrow.Author.Needs.{needs}

@@ -1,5 +1,5 @@
 -- `desk_checks::script::run` is safe and ends: each line leaves less of the script.
-use Prim.Native.Nat.{_≤_, _-_}
+use Prim.Native.Nat.{_-_}
 use lib.ListN.{length}
 use borrow.Author.Needs.{needs}
 use Rattle.desk_checks.proofs.script.run.Statement.{statement}

@@ -1,9 +1,8 @@
 -- `opening::components::read_component_after` meets its contract: the record is read, then the joint states so far are judged. A state count
 -- is a byte, so that their product fits.
-use Prim.Native.Nat.{_<_, _≤_, _*_}
+use Prim.Native.Nat.{_<_}
 use mathlib.Core.Path.{sym, _∙_}
 use native.Mathlib.Omega.{arith}
-use native.Mathlib.Nat.{mul-le-mul, le-pred-of-lt}
 use native.Mathlib.Nat.{mul-le-mul, le-pred-of-lt}
 use borrow.Author.Tests.{ltb-false}
 use borrow.Author.Needs.{needs}

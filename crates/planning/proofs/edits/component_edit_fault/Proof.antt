@@ -1,6 +1,6 @@
 -- `planning::edits::component_edit_fault` meets its contract: 16 and 17 are judged first; without them the component is there to be read.
-use Prim.Native.Nat.{ℕ, _<_}
-use mathlib.Core.Path.{_≡_, sym, ap, _∙_}
+use Prim.Native.Nat.{_<_}
+use mathlib.Core.Path.{_≡_, sym, _∙_}
 use native.Mathlib.Omega.{arith}
 use borrow.Author.Needs.{needs}
 use Rattle.planning.specs.Edits.{componentEditFault}
@@ -9,9 +9,7 @@ use Rattle.rules.proofs.Kept.{first-kept, first-some, first-next, first-assoc, 
 use Rattle.soundness.proofs.Front.{components-most, sound-front}
 use Rattle.rules.specs.Table.{unsoundFault, itemFault}
 use Rattle.soundness.specs.Check.{sound}
-use Rattle.study.specs.declared.Study.{Study}
-use Rattle.rules.proofs.Kept.{first-kept, first-some, first-assoc, first-last}
-use Rattle.planning.proofs.Edited.{Present, present}
+use Rattle.planning.proofs.Edited.{present}
 use Rattle.planning.proofs.edits.component_edit_fault.Statement.{statement}
 use Rattle.planning.proofs.edits.component_edit_fault.Tie as tie
 

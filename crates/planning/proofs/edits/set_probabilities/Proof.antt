@@ -1,5 +1,5 @@
 -- `planning::edits::set_probabilities` meets its contract: a breach hands the study back; without one the probabilities are anew.
-use mathlib.Core.Path.{_≡_, sym, ap, _∙_}
+use mathlib.Core.Path.{sym}
 use native.Mathlib.Omega.{arith}
 use borrow.Author.Needs.{needs}
 use Rattle.planning.specs.Edits.{probabilitiesSet}

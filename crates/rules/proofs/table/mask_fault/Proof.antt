@@ -1,7 +1,7 @@
 -- `rules::table::mask_fault` meets its contract. With 8 states or more every mask of a byte is below 2 ^ states, so only the mask 0 is
 -- left to refuse; with fewer, 2 ^ states is the shifted bit, which loses nothing in 32 bits.
 use Prim.Native.Nat.{ℕ, _<_, _≤_, _-_, _^_, _*_, _%_}
-use mathlib.Core.Path.{_≡_, refl, sym, ap, _∙_}
+use mathlib.Core.Path.{_≡_, _∙_}
 use mathlib.Core.Bool.{or-false}
 use native.Mathlib.Nat.{le-trans, one-mul}
 use native.Mathlib.Omega.{arith}
