@@ -16,7 +16,7 @@ ghost use mathlib.Core.Bool.{cond};
 ghost use Prim.Native.Nat.{_<_};
 ghost use lib.ListN.{drop};
 ghost use Rattle.reading.specs.Reader.{Reads};
-ghost use Rattle.reading.specs.Fields.{fieldAt, fields};
+ghost use Rattle.reading.specs.Fields.{mapBits, fieldAt, fields};
 ghost use Rattle.study.specs.Absent.{absentComponent};
 ghost use Rattle.component_record.specs.Component.{withProbability, stateCount, probability, componentField, component};
 
@@ -79,7 +79,7 @@ fn read_probability(bytes: &[u8], at: usize, state: u8, c: Component) -> Compone
 
 // The field of bit k, where the bit stands in the map.
 fn read_field(bytes: &[u8], at: usize, map: u8, k: u8, c: Component) -> ComponentRead
-    requires { ⌜ k < 8 ⌝ }
+    requires { ⌜ k < mapBits ⌝ }
     ensures { λ r.
         ⌜ Reads (now (bytes .entry)) (r .refusal) (r .next) (r .component) (fieldAt componentField map k c (drop at (now (bytes .entry)))) ⌝ }
 {

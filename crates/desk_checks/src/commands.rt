@@ -5,17 +5,17 @@
 //     p ITEM P1 P2 P3             edits the probabilities of a component: the refusal; what the call returns is then current
 //     c ITEM N                    edits the customers of a load, likewise
 //     m ITEM N                    edits the minutes of a load, likewise
-//     a FIELD ITEM PLACE VALUE    alters a field of a copy of the current study (see `alter`), and edits the copy so that nothing
+//     a FIELD ITEM PLACE VALUE    alters a field of a copy of the current study (see `desk_tools::alter`), and edits the copy so that nothing
 //                                 changes: the refusal
-//     s KIND ITEM                 shows a record of the current study (see `show`)
+//     s KIND ITEM                 shows a record of the current study (see `desk_tools::show`)
 //
 // P1, P2, P3, N and VALUE have four bytes, lowest byte first, and the others one. A byte that is missing counts as 0. Any other
 // letter writes an empty line.
-use crate::alter::altered;
-use crate::hexadecimal::byte_at;
-use crate::hexadecimal::number_at;
-use crate::numbers;
-use crate::show::show;
+use desk_tools::alter::altered;
+use desk_tools::hexadecimal::byte_at;
+use desk_tools::hexadecimal::number_at;
+use desk_tools::numbers;
+use desk_tools::show::show;
 use study::Outcome;
 use study::Study;
 use study::StudyAnswer;

@@ -1,11 +1,7 @@
 // Runs the script on standard input against the library and writes what each call answers. The script's own lines say which numbers
 // are right; `stdout` holds them, worked out by hand.
-mod alter;
 mod commands;
-mod hexadecimal;
-mod numbers;
 mod script;
-mod show;
 
 ghost use mathlib.Core.Path.{_≡_};
 ghost use lib.ListN.{length};

@@ -1,6 +1,6 @@
 // The script, line by line: a line that starts with `#` is copied, an empty line is skipped, and any other is a command.
 use crate::commands::obey;
-use crate::hexadecimal::decode;
+use desk_tools::hexadecimal::decode;
 use study::Study;
 ghost use Prim.Native.Nat.{_≤_};
 ghost use lib.ListN.{length};

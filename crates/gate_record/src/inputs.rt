@@ -10,6 +10,7 @@ use study::Gate;
 ghost use mathlib.Core.Path.{_≡_};
 ghost use Prim.Native.Nat.{_<_, _≤_};
 ghost use lib.ListN.{drop};
+ghost use Rattle.rules.specs.Limits.{mostGateInputs};
 ghost use Rattle.reading.specs.Reader.{Reads, repeat};
 ghost use Rattle.gate_record.specs.Gate.{inputsByte, withInput, input, inputs};
 
@@ -28,7 +29,7 @@ pub fn inputs_at(bytes: &[u8], at: usize, most: u8) -> ByteRead
 
 // The gate with gate input j anew.
 fn with_input(j: usize, gate: u8, g: Gate) -> Gate
-    requires { ⌜ j < 31 ⌝ }
+    requires { ⌜ j < mostGateInputs ⌝ }
     ensures { λ r. ⌜ r ≡ withInput j gate g ⌝ }
 {
     let mut h = g;
@@ -38,7 +39,7 @@ fn with_input(j: usize, gate: u8, g: Gate) -> Gate
 
 // Gate input j of the gate with this number.
 fn read_input(bytes: &[u8], at: usize, number: usize, j: usize, g: Gate) -> GateRead
-    requires { ⌜ j < 31 ⌝ }
+    requires { ⌜ j < mostGateInputs ⌝ }
     ensures { λ r. ⌜ Reads (now (bytes .entry)) (r .refusal) (r .next) (r .gate) (input number j g (drop at (now (bytes .entry)))) ⌝ }
 {
     let b = byte_at(bytes, at);
@@ -51,7 +52,7 @@ fn read_input(bytes: &[u8], at: usize, number: usize, j: usize, g: Gate) -> Gate
 
 // So many gate inputs.
 fn read_input_list(bytes: &[u8], at: usize, number: usize, n: usize, g: Gate) -> GateRead
-    requires { ⌜ n ≤ 31 ⌝ }
+    requires { ⌜ n ≤ mostGateInputs ⌝ }
     ensures { λ r. ⌜ Reads (now (bytes .entry)) (r .refusal) (r .next) (r .gate) (repeat (input number) n g (drop at (now (bytes .entry)))) ⌝ }
 {
     let mut refusal: u8 = 0;

@@ -17,7 +17,7 @@ use tests::read_tests;
 ghost use Prim.Native.Nat.{_<_};
 ghost use lib.ListN.{drop};
 ghost use Rattle.reading.specs.Reader.{Reads};
-ghost use Rattle.reading.specs.Fields.{fieldAt, fields};
+ghost use Rattle.reading.specs.Fields.{mapBits, fieldAt, fields};
 ghost use Rattle.study.specs.Absent.{absentGate};
 ghost use Rattle.gate_record.specs.Gate.{threshold, gateField, gate};
 
@@ -51,7 +51,7 @@ fn read_field(
     k: u8,
     g: Gate,
 ) -> GateRead
-    requires { ⌜ k < 8 ⌝ }
+    requires { ⌜ k < mapBits ⌝ }
     ensures { λ r.
         ⌜ Reads (now (bytes .entry)) (r .refusal) (r .next) (r .gate) (fieldAt (gateField (now (counts .entry)) number) map k g (drop at (now (bytes .entry)))) ⌝ }
 {

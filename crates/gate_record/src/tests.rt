@@ -10,12 +10,13 @@ use study::states_of;
 ghost use mathlib.Core.Path.{_≡_};
 ghost use Prim.Native.Nat.{_<_, _≤_};
 ghost use lib.ListN.{drop};
+ghost use Rattle.rules.specs.Limits.{mostTests};
 ghost use Rattle.reading.specs.Reader.{Reads, repeat};
 ghost use Rattle.gate_record.specs.Gate.{withTest, test, tests};
 
 // The gate with test j anew.
 fn with_test(j: usize, component: u8, mask: u8, g: Gate) -> Gate
-    requires { ⌜ j < 12 ⌝ }
+    requires { ⌜ j < mostTests ⌝ }
     ensures { λ r. ⌜ r ≡ withTest j component mask g ⌝ }
 {
     let mut h = g;
@@ -26,7 +27,7 @@ fn with_test(j: usize, component: u8, mask: u8, g: Gate) -> Gate
 
 // Test j: the component, then the mask, each judged as soon as it is read.
 fn read_test(bytes: &[u8], at: usize, counts: &[u8], j: usize, g: Gate) -> GateRead
-    requires { ⌜ j < 12 ⌝ }
+    requires { ⌜ j < mostTests ⌝ }
     ensures { λ r.
         ⌜ Reads (now (bytes .entry)) (r .refusal) (r .next) (r .gate) (test (now (counts .entry)) j g (drop at (now (bytes .entry)))) ⌝ }
 {
@@ -43,7 +44,7 @@ fn read_test(bytes: &[u8], at: usize, counts: &[u8], j: usize, g: Gate) -> GateR
 
 // So many tests.
 fn read_test_list(bytes: &[u8], at: usize, counts: &[u8], n: usize, g: Gate) -> GateRead
-    requires { ⌜ n ≤ 12 ⌝ }
+    requires { ⌜ n ≤ mostTests ⌝ }
     ensures { λ r.
         ⌜ Reads (now (bytes .entry)) (r .refusal) (r .next) (r .gate) (repeat (test (now (counts .entry))) n g (drop at (now (bytes .entry)))) ⌝ }
 {

@@ -18,7 +18,7 @@ use study::with_minutes;
 ghost use Prim.Native.Nat.{_<_};
 ghost use lib.ListN.{drop};
 ghost use Rattle.reading.specs.Reader.{Reads};
-ghost use Rattle.reading.specs.Fields.{fieldAt, fields};
+ghost use Rattle.reading.specs.Fields.{mapBits, fieldAt, fields};
 ghost use Rattle.study.specs.Absent.{absentLoad};
 ghost use Rattle.load_record.specs.Load.{lossGate, size, customers, minutes, loadField, load};
 
@@ -82,7 +82,7 @@ fn read_minutes(bytes: &[u8], at: usize, l: Load) -> LoadRead
 
 // The field of bit k, where the bit stands in the map.
 fn read_field(bytes: &[u8], at: usize, gates: u8, map: u8, k: u8, l: Load) -> LoadRead
-    requires { ⌜ k < 8 ⌝ }
+    requires { ⌜ k < mapBits ⌝ }
     ensures { λ r.
         ⌜ Reads (now (bytes .entry)) (r .refusal) (r .next) (r .load) (fieldAt (loadField gates) map k l (drop at (now (bytes .entry)))) ⌝ }
 {

@@ -1,6 +1,7 @@
 // The component records of a study.
 use component_record::ComponentRead;
 use component_record::read_component;
+use rules::COMPONENT_PLACES;
 use rules::first;
 use rules::width_fault;
 use study::Component;
@@ -8,6 +9,7 @@ use study::no_components;
 ghost use mathlib.Core.Path.{_≡_};
 ghost use Prim.Native.Nat.{_*_, _≤_};
 ghost use lib.ListN.{drop};
+ghost use Rattle.rules.specs.Limits.{mostComponents, mostJointStates};
 ghost use Rattle.reading.specs.Reader.{Reads, repeat};
 ghost use Rattle.study.specs.Zero.{noComponents};
 ghost use Rattle.opening.specs.Opening.{componentAfter, componentRecord, placing};
@@ -15,14 +17,14 @@ ghost use Rattle.opening.specs.Opening.{componentAfter, componentRecord,
 pub struct ComponentsRead {
     pub refusal: u8,
     pub next: usize,
-    pub component: [Component; 12],
+    pub component: [Component; COMPONENT_PLACES],
 }
 
 // A component after others that have so many joint states; where it is not refused, they stay within the limit.
 fn read_component_after(bytes: &[u8], at: usize, joint: u32) -> ComponentRead
-    requires { ⌜ joint ≤ 4096 ⌝ }
+    requires { ⌜ joint ≤ mostJointStates ⌝ }
     ensures { λ r. ⌜ Reads (now (bytes .entry)) (r .refusal) (r .next) (r .component) (componentAfter joint (drop at (now (bytes .entry)))) ⌝ }
-    ensures { λ r. ⌜ (r .refusal ≡ 0 → joint * r .component .states ≤ 4096) ⌝ }
+    ensures { λ r. ⌜ (r .refusal ≡ 0 → joint * r .component .states ≤ mostJointStates) ⌝ }
 {
     let r = read_component(bytes, at);
     let c = r.component;
@@ -35,7 +37,7 @@ fn read_component_after(bytes: &[u8], at: usize, joint: u32) -> ComponentRead
 
 // So many component records, each in its place, up to the first breach.
 pub fn read_components(bytes: &[u8], at: usize, n: usize) -> ComponentsRead
-    requires { ⌜ n ≤ 12 ⌝ }
+    requires { ⌜ n ≤ mostComponents ⌝ }
     ensures { λ r.
         ⌜ Reads (now (bytes .entry)) (r .refusal) (r .next) (r .component) (repeat (placing componentRecord) n noComponents (drop at (now (bytes .entry)))) ⌝ }
 {

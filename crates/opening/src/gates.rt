@@ -1,9 +1,11 @@
 // The gate records of a study.
 use gate_record::read_gate;
+use rules::GATE_PLACES;
 use study::Gate;
 use study::no_gates;
 ghost use Prim.Native.Nat.{_≤_};
 ghost use lib.ListN.{drop};
+ghost use Rattle.rules.specs.Limits.{mostGates};
 ghost use Rattle.reading.specs.Reader.{Reads, repeat};
 ghost use Rattle.study.specs.Zero.{noGates};
 ghost use Rattle.opening.specs.Opening.{gateRecord, placing};
@@ -11,12 +13,12 @@ ghost use Rattle.opening.specs.Opening.{gateRecord, placing};
 pub struct GatesRead {
     pub refusal: u8,
     pub next: usize,
-    pub gate: [Gate; 32],
+    pub gate: [Gate; GATE_PLACES],
 }
 
 // So many gate records, each in its place, up to the first breach; `counts` has the state count of each component.
 pub fn read_gates(bytes: &[u8], at: usize, counts: &[u8], n: usize) -> GatesRead
-    requires { ⌜ n ≤ 32 ⌝ }
+    requires { ⌜ n ≤ mostGates ⌝ }
     ensures { λ r.
         ⌜ Reads (now (bytes .entry)) (r .refusal) (r .next) (r .gate) (repeat (placing (gateRecord (now (counts .entry)))) n noGates (drop at (now (bytes .entry)))) ⌝ }
 {

@@ -22,6 +22,7 @@ use study::zero_study;
 ghost use mathlib.Core.Path.{_≡_};
 ghost use Prim.Native.Nat.{_≤_};
 ghost use lib.ListN.{length, drop};
+ghost use Rattle.rules.specs.Limits.{mostComponents, mostGates, mostLoads};
 ghost use Rattle.reading.specs.Reader.{Reads, got};
 ghost use Rattle.opening.specs.Opening.{count, records, refusedOpening, answer, opened};
 
@@ -75,9 +76,9 @@ fn ended(bytes: &[u8], at: usize, study: Study) -> StudyAnswer
 
 // The records of a study with these counts, and the end of the bytes.
 fn open_records(bytes: &[u8], at: usize, components: u8, gates: u8, loads: u8) -> StudyAnswer
-    requires { ⌜ components ≤ 12 ⌝ }
-    requires { ⌜ gates ≤ 32 ⌝ }
-    requires { ⌜ loads ≤ 8 ⌝ }
+    requires { ⌜ components ≤ mostComponents ⌝ }
+    requires { ⌜ gates ≤ mostGates ⌝ }
+    requires { ⌜ loads ≤ mostLoads ⌝ }
     ensures { λ r. ⌜ r ≡ answer (records components gates loads (drop at (now (bytes .entry)))) ⌝ }
 {
     let n = components as usize;

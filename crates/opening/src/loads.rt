@@ -1,9 +1,11 @@
 // The load records of a study.
 use load_record::read_load;
+use rules::LOAD_PLACES;
 use study::Load;
 use study::no_loads;
 ghost use Prim.Native.Nat.{_≤_};
 ghost use lib.ListN.{drop};
+ghost use Rattle.rules.specs.Limits.{mostLoads};
 ghost use Rattle.reading.specs.Reader.{Reads, repeat};
 ghost use Rattle.study.specs.Zero.{noLoads};
 ghost use Rattle.opening.specs.Opening.{loadRecord, placing};
@@ -11,12 +13,12 @@ ghost use Rattle.opening.specs.Opening.{loadRecord, placing};
 pub struct LoadsRead {
     pub refusal: u8,
     pub next: usize,
-    pub load: [Load; 8],
+    pub load: [Load; LOAD_PLACES],
 }
 
 // So many load records of a study with so many gates, each in its place, up to the first breach.
 pub fn read_loads(bytes: &[u8], at: usize, gates: u8, n: usize) -> LoadsRead
-    requires { ⌜ n ≤ 8 ⌝ }
+    requires { ⌜ n ≤ mostLoads ⌝ }
     ensures { λ r.
         ⌜ Reads (now (bytes .entry)) (r .refusal) (r .next) (r .load) (repeat (placing (loadRecord gates)) n noLoads (drop at (now (bytes .entry)))) ⌝ }
 {

@@ -17,12 +17,13 @@ use study::with_minutes;
 use study::with_probabilities;
 ghost use mathlib.Core.Path.{_≡_};
 ghost use Prim.Native.Nat.{_<_};
+ghost use Rattle.rules.specs.Limits.{mostComponents, mostLoads};
 ghost use Rattle.planning.specs.Edits.{componentEditFault, probabilitiesSet, loadEditFault, customersSet, minutesSet};
 
 // The first breach of an edit of component i's probabilities; without one, the study has the component.
 fn component_edit_fault(t: Study, i: usize, p1: u32, p2: u32, p3: u32) -> u8
     ensures { λ r. ⌜ r ≡ componentEditFault t i p1 p2 p3 ⌝ }
-    ensures { λ r. ⌜ (r ≡ 0 → i < 12) ⌝ }
+    ensures { λ r. ⌜ (r ≡ 0 → i < mostComponents) ⌝ }
 {
     let absent = first(unsound_fault(is_sound(t)), item_fault(t.components, i));
     if absent != 0 {
@@ -54,7 +55,7 @@ pub fn set_probabilities(study: Study, component: usize, p1: u32, p2: u32, p3: u
 // The first breach of an edit of load j to a number of at most `most`; without one, the study has the load.
 fn load_edit_fault(t: Study, j: usize, most: u32, n: u32) -> u8
     ensures { λ r. ⌜ r ≡ loadEditFault t j most n ⌝ }
-    ensures { λ r. ⌜ (r ≡ 0 → j < 8) ⌝ }
+    ensures { λ r. ⌜ (r ≡ 0 → j < mostLoads) ⌝ }
 {
     first(
         unsound_fault(is_sound(t)),

@@ -5,7 +5,7 @@ ghost use Prim.Native.Nat.{_<_};
 ghost use lib.ListN.{drop};
 ghost use lib.Count.{ones};
 ghost use Rattle.lists.specs.Bits.{digit};
-ghost use Rattle.reading.specs.Fields.{mapByte};
+ghost use Rattle.reading.specs.Fields.{mapBits, mapByte};
 ghost use Rattle.reading.specs.Reader.{Reads, byte, word, number};
 
 pub struct ByteRead {
@@ -86,7 +86,7 @@ pub fn field_count(map: u8) -> u32
 
 // Bit k of a map, as 0 or 1.
 pub fn map_digit(map: u8, k: u8) -> u8
-    requires { ⌜ k < 8 ⌝ }
+    requires { ⌜ k < mapBits ⌝ }
     ensures { λ r. ⌜ r ≡ digit map k ⌝ }
 {
     (map >> k) % 2

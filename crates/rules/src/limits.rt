@@ -20,6 +20,17 @@ pub const MOST_CUSTOMERS: u32 = 100000;
 
 pub const MOST_MINUTES: u32 = 20000;
 
+// The places of each kind in a study and in a gate: as many as the most that can stand.
+pub const COMPONENT_PLACES: usize = 12;
+
+pub const GATE_PLACES: usize = 32;
+
+pub const LOAD_PLACES: usize = 8;
+
+pub const TEST_PLACES: usize = 12;
+
+pub const INPUT_PLACES: usize = 31;
+
 // One above the largest map of each kind of record.
 pub const COMPONENT_MAPS: u8 = 16;
 

@@ -1,4 +1,5 @@
 // The component places of a study.
+use rules::COMPONENT_PLACES;
 use rules::first;
 use rules::given;
 use rules::in_use;
@@ -49,12 +50,12 @@ fn component_place_fault(n: u8, i: usize, c: Component) -> u8
 }
 
 // The first breach among the component places.
-pub fn components_fault(n: u8, component: [Component; 12]) -> u8
+pub fn components_fault(n: u8, component: [Component; COMPONENT_PLACES]) -> u8
     ensures { λ r. ⌜ r ≡ componentsFault n component ⌝ }
 {
     let mut fault: u8 = 0;
     let mut i: usize = 0;
-    while i < 12 {
+    while i < COMPONENT_PLACES {
         let c = component[i];
         fault = first(fault, component_place_fault(n, i, c));
         i = i + 1;

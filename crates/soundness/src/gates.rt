@@ -1,5 +1,6 @@
 // The gate places of a study.
 use crate::places::input_places_fault;
+use rules::GATE_PLACES;
 use rules::MOST_GATE_INPUTS;
 use rules::MOST_TESTS;
 use rules::first;
@@ -53,12 +54,12 @@ fn gate_place_fault(counts: &[u8], n: u8, i: usize, g: Gate) -> u8
 }
 
 // The first breach among the gate places.
-pub fn gates_fault(counts: &[u8], n: u8, gate: [Gate; 32]) -> u8
+pub fn gates_fault(counts: &[u8], n: u8, gate: [Gate; GATE_PLACES]) -> u8
     ensures { λ r. ⌜ r ≡ gatesFault (now (counts .entry)) n gate ⌝ }
 {
     let mut fault: u8 = 0;
     let mut i: usize = 0;
-    while i < 32 {
+    while i < GATE_PLACES {
         let g = gate[i];
         fault = first(fault, gate_place_fault(counts, n, i, g));
         i = i + 1;

@@ -1,4 +1,5 @@
 // The load places of a study.
+use rules::LOAD_PLACES;
 use rules::MOST_CUSTOMERS;
 use rules::MOST_MINUTES;
 use rules::NEVER;
@@ -44,12 +45,12 @@ fn load_place_fault(gates: u8, n: u8, j: usize, l: Load) -> u8
 }
 
 // The first breach among the load places.
-pub fn loads_fault(gates: u8, n: u8, load: [Load; 8]) -> u8
+pub fn loads_fault(gates: u8, n: u8, load: [Load; LOAD_PLACES]) -> u8
     ensures { λ r. ⌜ r ≡ loadsFault gates n load ⌝ }
 {
     let mut fault: u8 = 0;
     let mut j: usize = 0;
-    while j < 8 {
+    while j < LOAD_PLACES {
         let l = load[j];
         fault = first(fault, load_place_fault(gates, n, j, l));
         j = j + 1;

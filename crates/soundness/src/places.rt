@@ -1,4 +1,6 @@
 // The test places and gate input places of one gate.
+use rules::INPUT_PLACES;
+use rules::TEST_PLACES;
 use rules::ahead_fault;
 use rules::first;
 use rules::in_use;
@@ -23,12 +25,17 @@ fn test_place_fault(counts: &[u8], tests: u8, j: usize, component: u8, mask: u8)
 }
 
 // The first breach among the test places.
-fn tests_fault(counts: &[u8], tests: u8, component: [u8; 12], mask: [u8; 12]) -> u8
+fn tests_fault(
+    counts: &[u8],
+    tests: u8,
+    component: [u8; TEST_PLACES],
+    mask: [u8; TEST_PLACES],
+) -> u8
     ensures { λ r. ⌜ r ≡ testsFault (now (counts .entry)) tests component mask ⌝ }
 {
     let mut fault: u8 = 0;
     let mut j: usize = 0;
-    while j < 12 {
+    while j < TEST_PLACES {
         fault = first(
             fault,
             test_place_fault(counts, tests, j, component[j], mask[j]),
@@ -46,12 +53,12 @@ fn input_place_fault(i: usize, gates: u8, j: usize, input: u8) -> u8
 }
 
 // The first breach among the gate input places.
-fn gate_inputs_fault(i: usize, gates: u8, input: [u8; 31]) -> u8
+fn gate_inputs_fault(i: usize, gates: u8, input: [u8; INPUT_PLACES]) -> u8
     ensures { λ r. ⌜ r ≡ gateInputsFault i gates input ⌝ }
 {
     let mut fault: u8 = 0;
     let mut j: usize = 0;
-    while j < 31 {
+    while j < INPUT_PLACES {
         fault = first(fault, input_place_fault(i, gates, j, input[j]));
         j = j + 1;
     }

@@ -1,7 +1,13 @@
 // The study: its components, gates and loads, as an opened study holds them. Structs, their zero and absent values, and state counts.
+use rules::COMPONENT_PLACES;
+use rules::GATE_PLACES;
+use rules::INPUT_PLACES;
+use rules::LOAD_PLACES;
+use rules::TEST_PLACES;
 ghost use Prim.Native.Nat.{ℕ, _≤_, _<_};
 ghost use mathlib.Core.Path.{_≡_};
 ghost use lib.ListN.{length, getD};
+ghost use Rattle.rules.specs.Limits.{mostComponents, mostLoads, mostStates};
 ghost use Rattle.lists.specs.Product.{product};
 ghost use Rattle.study.specs.Zero.{noComponents, zeroGate, noGates, noLoads, zeroStudy};
 ghost use Rattle.study.specs.Edits.{withProbabilities, withCustomers, withMinutes, withComponent, withLoad};
@@ -22,10 +28,10 @@ pub struct Component {
 pub struct Gate {
     pub threshold: u8,
     pub tests: u8,
-    pub component: [u8; 12],
-    pub mask: [u8; 12],
+    pub component: [u8; TEST_PLACES],
+    pub mask: [u8; TEST_PLACES],
     pub gates: u8,
-    pub input: [u8; 31],
+    pub input: [u8; INPUT_PLACES],
 }
 
 // A load point: its loss gate (`rules::NEVER`: it is never lost), its customers and its restore time in minutes.
@@ -40,9 +46,9 @@ pub struct Study {
     pub components: u8,
     pub gates: u8,
     pub loads: u8,
-    pub component: [Component; 12],
-    pub gate: [Gate; 32],
-    pub load: [Load; 8],
+    pub component: [Component; COMPONENT_PLACES],
+    pub gate: [Gate; GATE_PLACES],
+    pub load: [Load; LOAD_PLACES],
 }
 
 // Whether a call was done, or the number of the refusal table by which it was refused.
@@ -59,7 +65,7 @@ pub struct StudyAnswer {
 
 // Places that no record uses, and fields that a record does not give.
 
-pub fn no_components() -> [Component; 12]
+pub fn no_components() -> [Component; COMPONENT_PLACES]
     ensures { λ r. ⌜ r ≡ noComponents ⌝ }
 {
     let unused = Component {
@@ -68,14 +74,14 @@ pub fn no_components() -> [Component; 12]
         p2: 0,
         p3: 0,
     };
-    [unused; 12]
+    [unused; COMPONENT_PLACES]
 }
 
 pub fn zero_gate() -> Gate
     ensures { λ r. ⌜ r ≡ zeroGate ⌝ }
 {
-    let tests = [0u8; 12];
-    let inputs = [0u8; 31];
+    let tests = [0u8; TEST_PLACES];
+    let inputs = [0u8; INPUT_PLACES];
     Gate {
         threshold: 0,
         tests: 0,
@@ -86,14 +92,14 @@ pub fn zero_gate() -> Gate
     }
 }
 
-pub fn no_gates() -> [Gate; 32]
+pub fn no_gates() -> [Gate; GATE_PLACES]
     ensures { λ r. ⌜ r ≡ noGates ⌝ }
 {
     let unused = zero_gate();
-    [unused; 32]
+    [unused; GATE_PLACES]
 }
 
-pub fn no_loads() -> [Load; 8]
+pub fn no_loads() -> [Load; LOAD_PLACES]
     ensures { λ r. ⌜ r ≡ noLoads ⌝ }
 {
     let unused = Load {
@@ -101,7 +107,7 @@ pub fn no_loads() -> [Load; 8]
         customers: 0,
         minutes: 0,
     };
-    [unused; 8]
+    [unused; LOAD_PLACES]
 }
 
 pub fn zero_study() -> Study
@@ -150,12 +156,12 @@ pub fn absent_load() -> Load
 }
 
 // The state counts of all twelve component places; those of the study's components stand first.
-pub fn state_counts(component: [Component; 12]) -> [u8; 12]
+pub fn state_counts(component: [Component; COMPONENT_PLACES]) -> [u8; COMPONENT_PLACES]
     ensures { λ r. ⌜ r ≡ states component ⌝ }
 {
-    let mut counts = [0u8; 12];
+    let mut counts = [0u8; COMPONENT_PLACES];
     let mut i: usize = 0;
-    while i < 12 {
+    while i < COMPONENT_PLACES {
         counts[i] = component[i].states;
         i = i + 1;
     }
@@ -175,8 +181,8 @@ pub fn states_of(counts: &[u8], component: u8) -> u8
 
 // The number of joint states of components with these state counts, each at most 4.
 pub fn joint_states(counts: &[u8]) -> u32
-    requires { ⌜ length (now counts) ≤ 12 ⌝ }
-    requires { ⌜ ((k : ℕ) → k < length (now counts) → getD (now counts) k 0 ≤ 4) ⌝ }
+    requires { ⌜ length (now counts) ≤ mostComponents ⌝ }
+    requires { ⌜ ((k : ℕ) → k < length (now counts) → getD (now counts) k 0 ≤ mostStates) ⌝ }
     ensures { λ r. ⌜ r ≡ product (now (counts .entry)) ⌝ }
 {
     let mut joint: u32 = 1;
@@ -231,7 +237,7 @@ pub fn input_count(g: Gate) -> u32
 // A study with one record anew.
 
 pub fn with_component(i: usize, c: Component, t: Study) -> Study
-    requires { ⌜ i < 12 ⌝ }
+    requires { ⌜ i < mostComponents ⌝ }
     ensures { λ r. ⌜ r ≡ withComponent i c t ⌝ }
 {
     let mut u = t;
@@ -240,7 +246,7 @@ pub fn with_component(i: usize, c: Component, t: Study) -> Study
 }
 
 pub fn with_load(j: usize, l: Load, t: Study) -> Study
-    requires { ⌜ j < 8 ⌝ }
+    requires { ⌜ j < mostLoads ⌝ }
     ensures { λ r. ⌜ r ≡ withLoad j l t ⌝ }
 {
     let mut u = t;

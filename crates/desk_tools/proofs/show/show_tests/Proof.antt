@@ -1,8 +1,8 @@
--- `desk_checks::show::show_tests` is safe and ends: the place is one of twelve.
+-- `desk_tools::show::show_tests` is safe and ends: the place is one of twelve.
 use Prim.Native.Nat.{_≤_, _-_}
 use borrow.Author.Needs.{needs}
-use Rattle.desk_checks.proofs.show.show_tests.Statement.{statement}
-use Rattle.desk_checks.proofs.show.show_tests.Tie as tie
+use Rattle.desk_tools.proofs.show.show_tests.Statement.{statement}
+use Rattle.desk_tools.proofs.show.show_tests.Tie as tie
 
 abbrev Inv-loop : tie.InvT-loop
 Inv-loop component mask j₀ j = j ≤ 12

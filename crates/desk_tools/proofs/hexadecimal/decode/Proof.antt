@@ -1,11 +1,11 @@
--- `desk_checks::hexadecimal::decode` meets its contract. So far there are at most two digits for each byte of room.
+-- `desk_tools::hexadecimal::decode` meets its contract. So far there are at most two digits for each byte of room.
 use Prim.Native.Nat.{_≤_, _-_, _*_}
 use mathlib.Core.Path.{_≡_}
 use lib.ListN.{length}
 use borrow.Author.Needs.{needs}
 use Rattle.io.proofs.Counting.{counts}
-use Rattle.desk_checks.proofs.hexadecimal.decode.Statement.{statement}
-use Rattle.desk_checks.proofs.hexadecimal.decode.Tie as tie
+use Rattle.desk_tools.proofs.hexadecimal.decode.Statement.{statement}
+use Rattle.desk_tools.proofs.hexadecimal.decode.Tie as tie
 
 abbrev Inv-loop : tie.InvT-loop
 Inv-loop text out₀ digits₀ i₀ out digits i = (i ≤ length text) × (digits ≤ 2 * length out) × (length out ≡ length out₀)

@@ -1,9 +1,9 @@
--- `desk_checks::numbers::next_bytes` is safe and ends: the place lies within the bytes.
+-- `desk_tools::numbers::next_bytes` is safe and ends: the place lies within the bytes.
 use Prim.Native.Nat.{_≤_, _-_}
 use lib.ListN.{length}
 use borrow.Author.Needs.{needs}
-use Rattle.desk_checks.proofs.numbers.next_bytes.Statement.{statement}
-use Rattle.desk_checks.proofs.numbers.next_bytes.Tie as tie
+use Rattle.desk_tools.proofs.numbers.next_bytes.Statement.{statement}
+use Rattle.desk_tools.proofs.numbers.next_bytes.Tie as tie
 
 abbrev Inv-loop : tie.InvT-loop
 Inv-loop bytes i₀ i = i ≤ length bytes
