@@ -1,24 +1,25 @@
 // A breach is the number of a row of the refusal table, or 0; the first breach decides.
 ghost use mathlib.Core.Path.{_≡_};
 ghost use Rattle.rules.specs.Breach.{outside, inUse};
+ghost use Rattle.rules.specs.Breach.{refuse as Breach·refuse, first as Breach·first, given as Breach·given};
 
 // The row's number where its rule is broken.
 pub fn refuse(number: u8, broken: bool) -> u8
-    ensures { λ r. ⌜ r ≡ Rattle.rules.specs.Breach.refuse number broken ⌝ }
+    ensures { λ r. ⌜ r ≡ Breach·refuse number broken ⌝ }
 {
     if broken { number } else { 0 }
 }
 
 // a, or where a is no breach, b.
 pub fn first(a: u8, b: u8) -> u8
-    ensures { λ r. ⌜ r ≡ Rattle.rules.specs.Breach.first a b ⌝ }
+    ensures { λ r. ⌜ r ≡ Breach·first a b ⌝ }
 {
     if a == 0 { b } else { a }
 }
 
 // A field that holds its absent value breaks no rule of a field that is given.
 pub fn given(absent: u32, value: u32, breach: u8) -> u8
-    ensures { λ r. ⌜ r ≡ Rattle.rules.specs.Breach.given absent value breach ⌝ }
+    ensures { λ r. ⌜ r ≡ Breach·given absent value breach ⌝ }
 {
     if value == absent { 0 } else { breach }
 }
@@ -32,7 +33,7 @@ pub fn in_use(count: u8, place: usize, used: u8, unused: u8) -> u8
 
 // The row's number where n is not one of lowest to highest.
 pub fn refuse_outside(number: u8, lowest: u32, highest: u32, n: u32) -> u8
-    ensures { λ r. ⌜ r ≡ Rattle.rules.specs.Breach.refuse number (outside lowest highest n) ⌝ }
+    ensures { λ r. ⌜ r ≡ Breach·refuse number (outside lowest highest n) ⌝ }
 {
     if n < lowest {
         return number;
