@@ -1,5 +1,6 @@
 pub mod Filled
 pub mod Filling
+pub mod Maps
 pub mod Products
 pub mod Sets
 pub mod Turns

@@ -1,3 +1,5 @@
 pub mod Bits
-pub mod Run
+pub mod Counting
 pub mod Product
+pub mod Rows
+pub mod Run

@@ -1,0 +1,66 @@
+-- The words in which document 01 speaks of a list of paths. An entry has a mark for each of n components, and ends with the path's class.
+use Prim.Native.Nat.{ℕ, _<_, _≤_}
+use mathlib.Core.Path.{_≡_}
+use mathlib.Core.Bool.{Bool, true, _&&_, _||_, cond}
+use mathlib.Core.List.{List, [], _∷_}
+use lib.Dec.{eqb}
+use lib.ListN.{length, getD}
+use Rattle.joint_states.specs.JointStates.{JointState}
+use Rattle.event_tree.specs.Paths.{blankMark}
+
+abbrev pub Blank : List ℕ → ℕ → Type 0
+Blank entry k = getD entry k blankMark ≡ blankMark
+
+-- "settled": the entry holds a state for component k
+abbrev pub Settled : List ℕ → ℕ → Type 0
+Settled entry k = Blank entry k → ⊥
+
+-- "fits": joint state x has the path's state at each settled component
+unfoldable pub fits : List ℕ → List ℕ → Bool
+fits [] entry = true
+fits (s ∷ x) [] = true
+fits (s ∷ x) (mark ∷ entry) = (eqb mark blankMark || eqb mark s) && fits x entry
+
+-- the paths that a joint state fits
+unfoldable pub fitting : List ℕ → List (List ℕ) → List (List ℕ)
+unfolding fits
+fitting x [] = []
+fitting x (entry ∷ entries) = cond (fits x entry) (entry ∷ fitting x entries) (fitting x entries)
+
+-- "bears": the class that ends the entry
+abbrev pub classBorne : ℕ → List ℕ → ℕ
+classBorne n entry = getD entry n 0
+
+-- joint state x fits one path and only one, and that path bears its class
+pub record OnePath (n class : ℕ) (x : List ℕ) (entries : List (List ℕ)) : Type 0 where
+  pub path : List ℕ
+  pub only : fitting x entries ≡ path ∷ []
+  pub bears : classBorne n path ≡ class
+
+-- "ascend by state": at the first component where the two differ both are settled, and the earlier one has the lower state
+pub record Ascends (n : ℕ) (earlier later : List ℕ) : Type 0 where
+  pub component : ℕ
+  pub inside : component < n
+  pub alike : (k : ℕ) → k < component → getD earlier k 0 ≡ getD later k 0
+  pub settled-earlier : Settled earlier component
+  pub settled-later : Settled later component
+  pub lower : getD earlier component 0 < getD later component 0
+
+abbrev pub Ascending : ℕ → List (List ℕ) → Type 0
+Ascending n entries = (i j : ℕ) → i < j → j < length entries → Ascends n (getD entries i []) (getD entries j [])
+
+-- two joint states that have the path's states at the components settled before component k, and differ in it alone
+pub record DifferAt (counts : List ℕ) (k : ℕ) (entry x y : List ℕ) : Type 0 where
+  pub first : JointState counts x
+  pub second : JointState counts y
+  pub before : (i : ℕ) → i < k → Settled entry i → getD x i 0 ≡ getD entry i 0
+  pub others : (i : ℕ) → (i ≡ k → ⊥) → getD x i 0 ≡ getD y i 0
+
+-- "changes no loss": any two such joint states have the same class
+abbrev pub ChangesNoLoss : List ℕ → (List ℕ → ℕ) → ℕ → List ℕ → Type 0
+ChangesNoLoss counts class k entry = (x y : List ℕ) → DifferAt counts k entry x y → class x ≡ class y
+
+-- component k is blank on a path exactly when its own state changes no loss there
+pub record BlankIff (counts : List ℕ) (class : List ℕ → ℕ) (k : ℕ) (entry : List ℕ) : Type 0 where
+  pub blank : Blank entry k → ChangesNoLoss counts class k entry
+  pub settled : ChangesNoLoss counts class k entry → Blank entry k

@@ -1,0 +1,92 @@
+-- Joint states and their numbers: the list of all joint states has the one numbered k at its place k.
+use Prim.Native.Nat.{ℕ, zero, suc, _+_, _*_, _<_, _≤_}
+use mathlib.Core.Path.{_≡_, refl, sym, ap, _∙_}
+use mathlib.Core.List.{List, [], _∷_, _++_, map}
+use native.Mathlib.Nat.{mul-le-mul-right, not-suc-le-zero, zero-mul, zero-add, add-zero}
+use native.Mathlib.Omega.{arith}
+use lib.ListN.{length, getD, length-append, length-map, List·getD-append, List·getD-map}
+use lib.Seq.{getD-append-add}
+use Rattle.lists.specs.Product.{product}
+use Rattle.lists.proofs.Maps.{getD-map-inside}
+use Rattle.joint_states.specs.JointStates.{JointState, divided, jointStates, numberOf}
+
+-- ---- a joint state, component by component
+
+module _ {c : ℕ} {cs : List ℕ} where
+  pub joint-cons : {s : ℕ} {x : List ℕ} → s < c → JointState cs x → JointState (c ∷ cs) (s ∷ x)
+  joint-cons {s} {x} h j = record { long = ap suc (j .long); below = below }
+    where
+      below : (k : ℕ) → k < length (c ∷ cs) → getD (s ∷ x) k 0 < getD (c ∷ cs) k 0
+      below zero less = h
+      below (suc k) less = j .below k (omega arith)
+
+  pub joint-head : {s : ℕ} {x : List ℕ} → JointState (c ∷ cs) (s ∷ x) → s < c
+  joint-head j = j .below 0 (omega arith)
+
+  pub joint-tail : {s : ℕ} {x : List ℕ} → JointState (c ∷ cs) (s ∷ x) → JointState cs x
+  joint-tail {s} {x} j = record { long = long; below = λ k h. j .below (suc k) (omega arith) }
+    where
+      long : length x ≡ length cs
+      long = omega (arith, j .long)
+
+  pub joint-none : JointState (c ∷ cs) [] → ⊥
+  joint-none j = omega (arith, j .long)
+
+-- ---- numbers
+
+pub number-below : (counts x : List ℕ) → JointState counts x → numberOf counts x < product counts
+unfolding numberOf product
+number-below [] x j = omega arith
+number-below (c ∷ cs) [] j = absurd (joint-none j)
+number-below (c ∷ cs) (s ∷ x) j =
+    let rest = number-below cs x (joint-tail j) in
+    let room : suc s * product cs ≤ c * product cs = mul-le-mul-right (product cs) (joint-head j) in
+    omega (arith, rest, room)
+
+-- ---- the list of all
+
+module _ (mark : ℕ → ℕ) (rows : ℕ → List (List ℕ)) (m : ℕ) (long : (s : ℕ) → length (rows s) ≡ m) where
+  pub length-divided : (s n : ℕ) → length (divided mark rows s n) ≡ n * m
+  unfolding divided
+  length-divided s zero = sym (zero-mul m)
+  length-divided s (suc n) =
+      length-append (map (λ (row : List ℕ). mark s ∷ row) (rows s)) (divided mark rows (s + 1) n)
+      ∙ ap (λ (k : ℕ). k + length (divided mark rows (s + 1) n)) (length-map (rows s) (λ (row : List ℕ). mark s ∷ row) ∙ long s)
+      ∙ ap (λ (k : ℕ). m + k) (length-divided (s + 1) n)
+      ∙ omega arith
+
+  -- row k of the i-th state's
+  pub getD-divided : (s n i k : ℕ) → i < n → k < m → getD (divided mark rows s n) (i * m + k) [] ≡ mark (s + i) ∷ getD (rows (s + i)) k []
+  unfolding divided
+  getD-divided s zero i k h less = absurd (not-suc-le-zero h)
+  getD-divided s (suc n) zero k h less =
+      let rest = divided mark rows (s + 1) n in
+      let inside : k < length (rows s) = rw (long s) less in
+      let heads : k < length (map (λ (row : List ℕ). mark s ∷ row) (rows s)) = rw (length-map (rows s) (λ (row : List ℕ). mark s ∷ row)) inside in
+      rw (zero-mul, zero-add, add-zero)
+      (List·getD-append (map (λ (row : List ℕ). mark s ∷ row) (rows s)) rest [] k heads ∙ getD-map-inside (λ (row : List ℕ). mark s ∷ row) (rows s) k [] [] inside)
+  getD-divided s (suc n) (suc i) k h less =
+      let rest = divided mark rows (s + 1) n in
+      let heads = map (λ (row : List ℕ). mark s ∷ row) (rows s) in
+      let place : suc i * m + k ≡ length heads + (i * m + k) = rw (length-map (rows s) (λ (row : List ℕ). mark s ∷ row), long s) (omega arith) in
+      let state : s + 1 + i ≡ s + suc i = omega arith in
+      ap (λ (p : ℕ). getD (heads ++ rest) p []) place
+      ∙ getD-append-add heads rest (i * m + k) []
+      ∙ getD-divided (s + 1) n i k (omega arith) less
+      ∙ ap (λ (z : ℕ). mark z ∷ getD (rows z) k []) state
+
+pub length-jointStates : (counts : List ℕ) → length (jointStates counts) ≡ product counts
+unfolding jointStates product
+length-jointStates [] = refl
+length-jointStates (c ∷ cs) = length-divided (λ s. s) (λ s. jointStates cs) (product cs) (λ s. length-jointStates cs) 0 c
+
+pub numbered : (counts x : List ℕ) → JointState counts x → getD (jointStates counts) (numberOf counts x) [] ≡ x
+unfolding jointStates numberOf
+numbered [] [] j = refl
+numbered [] (s ∷ x) j = absurd (omega (arith, j .long))
+numbered (c ∷ cs) [] j = absurd (joint-none j)
+numbered (c ∷ cs) (s ∷ x) j =
+    let all = length-jointStates cs in
+    getD-divided (λ s. s) (λ s. jointStates cs) (product cs) (λ s. all) 0 c s (numberOf cs x) (joint-head j) (number-below cs x (joint-tail j))
+    ∙ ap (λ (z : ℕ). z ∷ getD (jointStates cs) (numberOf cs x) []) (zero-add s)
+    ∙ ap (λ (y : List ℕ). s ∷ y) (numbered cs x (joint-tail j))

@@ -1,0 +1,50 @@
+-- What holds of the paths of any block of classes: one class for each joint state of components that have a state at least, and at most so many
+-- that no state is taken for the blank mark.
+use Prim.Native.Nat.{ℕ, _+_, _<_, _≤_}
+use mathlib.Core.Path.{_≡_}
+use mathlib.Core.List.{List, []}
+use lib.ListN.{length, getD}
+use Rattle.lists.specs.Product.{product}
+use Rattle.joint_states.specs.JointStates.{JointState, numberOf}
+use Rattle.event_tree.specs.Paths.{blankMark, paths}
+use Rattle.event_tree.specs.Words.{OnePath, Ascending, BlankIff}
+
+pub record Block (counts block : List ℕ) : Type 0 where
+  pub long : length block ≡ product counts
+  pub some : (k : ℕ) → k < length counts → 0 < getD counts k 0
+  pub most : (k : ℕ) → k < length counts → getD counts k 0 ≤ blankMark
+
+-- the class that a block has for a joint state
+abbrev pub classAt : List ℕ → List ℕ → List ℕ → ℕ
+classAt counts block x = getD block (numberOf counts x) 0
+
+abbrev pub OnePathEach : Type 0
+OnePathEach =
+    (counts block : List ℕ) → Block counts block → (x : List ℕ) → JointState counts x
+    → OnePath (length counts) (classAt counts block x) x (paths counts block)
+
+abbrev pub PathsAscend : Type 0
+PathsAscend = (counts block : List ℕ) → Block counts block → Ascending (length counts) (paths counts block)
+
+abbrev pub BlankExactly : Type 0
+BlankExactly =
+    (counts block : List ℕ) → Block counts block → (i k : ℕ) → i < length (paths counts block) → k < length counts
+    → BlankIff counts (classAt counts block) k (getD (paths counts block) i [])
+
+-- two blocks of the same components have the same paths only where they are the same
+abbrev pub PathsTell : Type 0
+PathsTell = (counts a b : List ℕ) → Block counts a → Block counts b → paths counts a ≡ paths counts b → a ≡ b
+
+-- each entry has a mark for each component, and a class
+abbrev pub EntriesLong : Type 0
+EntriesLong =
+    (counts block : List ℕ) → Block counts block → (i : ℕ) → i < length (paths counts block)
+    → length (getD (paths counts block) i []) ≡ length counts + 1
+
+-- there is a path at least, and at most one for each joint state
+pub record PathsFew (counts block : List ℕ) : Type 0 where
+  pub some : 0 < length (paths counts block)
+  pub most : length (paths counts block) ≤ product counts
+
+abbrev pub FewPaths : Type 0
+FewPaths = (counts block : List ℕ) → Block counts block → PathsFew counts block
