@@ -1,1 +1,23 @@
-// Joint states: a state for each component, in order, component 0 varying slowest.
+// Joint states: a state for each component, in order, component 0 varying slowest. Not for callers from outside: those call `planning`.
+ghost use Prim.Native.Nat.{ℕ, _+_, _%_};
+ghost use mathlib.Core.Path.{_≡_};
+ghost use Rattle.lists.specs.Product.{product};
+ghost use Rattle.joint_states.specs.JointStates.{JointState, numberOf};
+
+// Moves a joint state on to the one with the next number; behind the last comes the first again.
+pub fn next_joint_state(counts: &[u8], x: &mut [u8])
+    requires { ⌜ JointState (now counts) (now x) ⌝ }
+    ensures { λ r. ⌜ JointState (now (counts .entry)) (now (x .exit)) ⌝ }
+    ensures { λ r. ⌜ numberOf (now (counts .entry)) (now (x .exit)) ≡ (numberOf (now (counts .entry)) (now (x .entry)) + 1) % product (now (counts .entry)) ⌝ }
+{
+    let mut i = counts.len();
+    while i > 0 {
+        i = i - 1;
+        let last = counts[i] - 1;
+        if x[i] < last {
+            x[i] = x[i] + 1;
+            return;
+        }
+        x[i] = 0;
+    }
+}
