@@ -1,1 +1,10 @@
-// The paths
+// The paths of the reduced event tree, from a block of classes: how many there are, and the list of them. Gates and probabilities are not known
+// here. Not for callers from outside: those call `planning`.
+mod blank;
+mod count;
+mod entry;
+mod list;
+
+pub use count::PathCount;
+pub use count::count_paths;
+pub use list::list_paths;

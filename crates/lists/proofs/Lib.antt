@@ -1,6 +1,9 @@
+pub mod Both
 pub mod Filled
 pub mod Filling
 pub mod Maps
 pub mod Products
+pub mod Puts
+pub mod Same
 pub mod Sets
 pub mod Turns

@@ -1,0 +1,13 @@
+-- A block of classes: one for each joint state of components that have a state at least, and so few states that none is taken for the blank
+-- mark.
+use Prim.Native.Nat.{ℕ, _<_, _≤_}
+use mathlib.Core.Path.{_≡_}
+use mathlib.Core.List.{List}
+use lib.ListN.{length, getD}
+use Rattle.lists.specs.Product.{product}
+use Rattle.event_tree.specs.Paths.{blankMark}
+
+pub record Block (counts block : List ℕ) : Type 0 where
+  pub long : length block ≡ product counts
+  pub some : (k : ℕ) → k < length counts → 0 < getD counts k 0
+  pub most : (k : ℕ) → k < length counts → getD counts k 0 ≤ blankMark

@@ -1,0 +1,73 @@
+// How paths go on at the first component of a block: in one way where it is blank, or else in one for each of its states.
+ghost use Prim.Native.Nat.{_*_, _<_};
+ghost use mathlib.Core.Path.{_≡_};
+ghost use lib.ListN.{length, getD, drop};
+ghost use Rattle.lists.specs.Product.{product};
+ghost use Rattle.lists.specs.Rows.{same};
+ghost use Rattle.event_tree.specs.Blocks.{Block};
+ghost use Rattle.event_tree.specs.Paths.{isBlank, ways};
+
+// The ways at a component: whether it is blank, their number, and how many classes the part of each has.
+pub struct Ways {
+    pub blank: bool,
+    pub number: u8,
+    pub size: usize,
+}
+
+// Whether two parts have the same classes. Every place is compared, whatever was found before it.
+fn same_classes(a: &[u8], b: &[u8]) -> bool
+    requires { ⌜ length (now a) ≡ length (now b) ⌝ }
+    ensures { λ r. ⌜ r ≡ same (now (a .entry)) (now (b .entry)) ⌝ }
+{
+    let mut alike = true;
+    let mut i: usize = 0;
+    while i < a.len() {
+        alike = alike & (a[i] == b[i]);
+        i = i + 1;
+    }
+    alike
+}
+
+// Whether a component of so many states is blank in a block that has `size` classes for each of them.
+fn is_blank(states: u8, size: usize, block: &[u8]) -> bool
+    requires { ⌜ length (now block) ≡ states * size ⌝ }
+    requires { ⌜ 0 < states ⌝ }
+    ensures { λ r. ⌜ r ≡ isBlank states size (now (block .entry)) ⌝ }
+{
+    let first = &block[..size];
+    let mut blank = true;
+    let mut s: u8 = 1;
+    while s < states {
+        let from = s as usize * size;
+        blank = blank & same_classes(first, &block[from..from + size]);
+        s = s + 1;
+    }
+    blank
+}
+
+fn number_of_ways(blank: bool, states: u8) -> u8
+    ensures { λ r. ⌜ r ≡ ways blank states ⌝ }
+{
+    if blank {
+        return 1;
+    }
+    states
+}
+
+// The ways at the first of the components whose state counts are given.
+pub fn ways_at(counts: &[u8], block: &[u8]) -> Ways
+    requires { ⌜ Block (now counts) (now block) ⌝ }
+    requires { ⌜ 0 < length (now counts) ⌝ }
+    ensures { λ r. ⌜ r .size ≡ product (drop 1 (now (counts .entry))) ⌝ }
+    ensures { λ r. ⌜ r .blank ≡ isBlank (getD (now (counts .entry)) 0 0) (r .size) (now (block .entry)) ⌝ }
+    ensures { λ r. ⌜ r .number ≡ ways (r .blank) (getD (now (counts .entry)) 0 0) ⌝ }
+{
+    let states = counts[0];
+    let size = block.len() / states as usize;
+    let blank = is_blank(states, size, block);
+    Ways {
+        blank,
+        number: number_of_ways(blank, states),
+        size,
+    }
+}

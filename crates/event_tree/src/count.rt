@@ -1,0 +1,34 @@
+// How many paths a block has.
+use crate::blank::ways_at;
+ghost use Prim.Native.Nat.{_≤_};
+ghost use mathlib.Core.Path.{_≡_};
+ghost use lib.ListN.{length};
+ghost use Rattle.rules.specs.Limits.{mostJointStates};
+ghost use Rattle.event_tree.specs.Blocks.{Block};
+ghost use Rattle.event_tree.specs.Paths.{paths};
+
+// What is counted of a listing.
+pub struct PathCount {
+    pub paths: u32,
+}
+
+// The number of paths of a block, before any of them is written.
+pub fn count_paths(counts: &[u8], block: &[u8]) -> PathCount
+    requires { ⌜ Block (now counts) (now block) ⌝ }
+    requires { ⌜ length (now block) ≤ mostJointStates ⌝ }
+    ensures { λ r. ⌜ r .paths ≡ length (paths (now (counts .entry)) (now (block .entry))) ⌝ }
+{
+    if counts.len() == 0 {
+        return PathCount { paths: 1 };
+    }
+    let way = ways_at(counts, block);
+    let mut paths: u32 = 0;
+    let mut s: u8 = 0;
+    while s < way.number {
+        let from = s as usize * way.size;
+        let part = count_paths(&counts[1..], &block[from..from + way.size]);
+        paths = paths + part.paths;
+        s = s + 1;
+    }
+    PathCount { paths }
+}
