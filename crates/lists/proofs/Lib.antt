@@ -1,3 +1,4 @@
+pub mod Elements
 pub mod Filled
 pub mod Filling
 pub mod Maps
