@@ -4,4 +4,5 @@ pub mod Filling
 pub mod Maps
 pub mod Products
 pub mod Sets
+pub mod Tests
 pub mod Turns

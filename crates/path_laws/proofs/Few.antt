@@ -1,7 +1,7 @@
 -- There is a path at least, and at most one for each joint state: by induction over the components, since there is a way on at each, and no
 -- more ways than states.
 use Prim.Native.Nat.{ℕ, zero, suc, _+_, _*_, _<_, _≤_}
-use mathlib.Core.List.{List, [], _∷_, map}
+use mathlib.Core.List.{List, [], _∷_}
 use native.Mathlib.Nat.{mul-le-mul-right}
 use native.Mathlib.Omega.{arith}
 use lib.ListN.{length, length-append, length-map}
@@ -10,7 +10,7 @@ use Rattle.joint_states.specs.JointStates.{divided}
 use Rattle.event_tree.specs.Paths.{part, isBlank, mark, ways, branches, paths}
 use Rattle.path_laws.specs.Blocks.{Block, FewPaths}
 use Rattle.path_laws.proofs.Parts.{partPaths, first-some, part-block}
-use Rattle.path_laws.proofs.Ways.{ways-some, ways-most}
+use Rattle.path_laws.proofs.Ways.{headed, ways-some, ways-most}
 
 -- ---- rows of each state, where those of each state below `states` are some, and at most m
 
@@ -19,7 +19,7 @@ module _ (marks : ℕ → ℕ) (rows : ℕ → List (List ℕ)) (states : ℕ) w
   unfolding divided
   divided-some some s zero inside h = absurd (omega arith)
   divided-some some s (suc n) inside h =
-      rw (length-append (map (λ (row : List ℕ). marks s ∷ row) (rows s)) (divided marks rows (s + 1) n), length-map (rows s) (λ (row : List ℕ). marks s ∷ row))
+      rw (length-append (headed (marks s) (rows s)) (divided marks rows (s + 1) n), length-map (rows s) (λ (row : List ℕ). marks s ∷ row))
       (omega (arith, some s (omega arith)))
 
   divided-most : (m : ℕ) → ((k : ℕ) → k < states → length (rows k) ≤ m) → (s n : ℕ) → s + n ≤ states → length (divided marks rows s n) ≤ n * m
@@ -27,7 +27,7 @@ module _ (marks : ℕ → ℕ) (rows : ℕ → List (List ℕ)) (states : ℕ) w
   divided-most m most s zero inside = omega arith
   divided-most m most s (suc n) inside =
       let rest = divided-most m most (s + 1) n (omega arith) in
-      rw (length-append (map (λ (row : List ℕ). marks s ∷ row) (rows s)) (divided marks rows (s + 1) n), length-map (rows s) (λ (row : List ℕ). marks s ∷ row))
+      rw (length-append (headed (marks s) (rows s)) (divided marks rows (s + 1) n), length-map (rows s) (λ (row : List ℕ). marks s ∷ row))
       (omega (arith, most s (omega arith), rest))
 
 -- ---- the paths

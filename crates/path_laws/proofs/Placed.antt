@@ -1,7 +1,7 @@
 -- Each entry of a list that is divided by states is a row of one state, with that state's mark in front.
 use Prim.Native.Nat.{ℕ, zero, suc, _+_, _<_, _≤_}
 use mathlib.Core.Path.{_≡_, refl}
-use mathlib.Core.List.{List, [], _∷_, map}
+use mathlib.Core.List.{List, [], _∷_}
 use native.Mathlib.Nat.{not-suc-le-zero}
 use native.Mathlib.Omega.{arith}
 use lib.ListN.{length, getD}
@@ -11,7 +11,7 @@ use Rattle.joint_states.specs.JointStates.{divided}
 use Rattle.event_tree.specs.Paths.{isBlank, mark, ways, branches, paths}
 use Rattle.path_laws.specs.Blocks.{Block}
 use Rattle.path_laws.proofs.Parts.{partPaths, first-some}
-use Rattle.path_laws.proofs.Ways.{ways-most}
+use Rattle.path_laws.proofs.Ways.{headed, ways-most}
 
 -- the entry is the mark of a state from s on and below t, in front of a row of that state
 pub record Placed (marks : ℕ → ℕ) (rows : ℕ → List (List ℕ)) (s t : ℕ) (entry : List ℕ) : Type 0 where
@@ -30,7 +30,7 @@ module _ (marks : ℕ → ℕ) (rows : ℕ → List (List ℕ)) where
   unfolding divided
   placed t s zero all i h = absurd (not-suc-le-zero h)
   placed t s (suc n) all i h =
-      every-append (Placed marks rows s t) [] (map (λ (row : List ℕ). marks s ∷ row) (rows s)) (divided marks rows (s + 1) n)
+      every-append (Placed marks rows s t) [] (headed (marks s) (rows s)) (divided marks rows (s + 1) n)
       (every-map (λ (row : List ℕ). marks s ∷ row) [] [] (Placed marks rows s t) (rows s)
       (λ k less. record { state = s; from = omega arith; below = omega arith; row = k; inside = less; holds = refl }))
       (λ k less. later s t (getD (divided marks rows (s + 1) n) k []) (placed t (s + 1) n (omega arith) k less)) i h
