@@ -5,4 +5,5 @@ pub mod Fitting
 pub mod OnePath
 pub mod Parts
 pub mod Placed
+pub mod Tell
 pub mod Ways
