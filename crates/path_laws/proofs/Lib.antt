@@ -1,4 +1,5 @@
 pub mod Alike
+pub mod Ascending
 pub mod Entries
 pub mod Few
 pub mod Fitting
