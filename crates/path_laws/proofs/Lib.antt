@@ -1,5 +1,7 @@
 pub mod Alike
 pub mod Ascending
+pub mod Blank
+pub mod Differ
 pub mod Entries
 pub mod Few
 pub mod Fitting
