@@ -1,4 +1,1 @@
-pub mod Blocks
 pub mod Entries
-pub mod Paths
-pub mod Words

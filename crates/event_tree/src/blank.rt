@@ -4,8 +4,8 @@ ghost use mathlib.Core.Path.{_≡_};
 ghost use lib.ListN.{length, getD, drop};
 ghost use Rattle.lists.specs.Product.{product};
 ghost use Rattle.lists.specs.Rows.{same};
-ghost use Rattle.event_tree.specs.Blocks.{Block};
-ghost use Rattle.event_tree.specs.Paths.{isBlank, ways};
+ghost use Rattle.paths.specs.Blocks.{Block};
+ghost use Rattle.paths.specs.Paths.{isBlank, ways};
 
 // The ways at a component: whether it is blank, their number, and how many classes the part of each has.
 pub struct Ways {

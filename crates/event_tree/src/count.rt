@@ -4,8 +4,8 @@ ghost use Prim.Native.Nat.{_≤_};
 ghost use mathlib.Core.Path.{_≡_};
 ghost use lib.ListN.{length};
 ghost use Rattle.rules.specs.Limits.{mostJointStates};
-ghost use Rattle.event_tree.specs.Blocks.{Block};
-ghost use Rattle.event_tree.specs.Paths.{paths};
+ghost use Rattle.paths.specs.Blocks.{Block};
+ghost use Rattle.paths.specs.Paths.{paths};
 
 // What is counted of a listing.
 pub struct PathCount {

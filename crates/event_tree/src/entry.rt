@@ -7,7 +7,7 @@ ghost use lib.ListN.{length};
 ghost use Rattle.rules.specs.Limits.{mostComponents};
 ghost use Rattle.lists.specs.Rows.{put};
 ghost use Rattle.event_tree.specs.Entries.{marksOf};
-ghost use Rattle.event_tree.specs.Paths.{mark as Paths·mark};
+ghost use Rattle.paths.specs.Paths.{mark as Paths·mark};
 
 // The mark of a blank component.
 const BLANK: u8 = 255;

@@ -10,9 +10,9 @@ ghost use mathlib.Core.Path.{_≡_};
 ghost use lib.ListN.{length};
 ghost use Rattle.lists.specs.Rows.{put, joined};
 ghost use Rattle.rules.specs.Limits.{mostComponents};
-ghost use Rattle.event_tree.specs.Blocks.{Block};
+ghost use Rattle.paths.specs.Blocks.{Block};
 ghost use Rattle.event_tree.specs.Entries.{marksOf, entriesBehind};
-ghost use Rattle.event_tree.specs.Paths.{paths};
+ghost use Rattle.paths.specs.Paths.{paths};
 
 // Writes the paths of a block from a place on, each behind the marks of the components in front, and answers the place behind them.
 fn list_block(counts: &[u8], block: &[u8], front: Front, out: &mut [u8], at: usize) -> usize

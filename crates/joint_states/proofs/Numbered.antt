@@ -1,10 +1,10 @@
 -- Joint states and their numbers: the list of all joint states has the one numbered k at its place k.
-use Prim.Native.Nat.{ℕ, zero, suc, _+_, _*_, _<_, _≤_}
+use Prim.Native.Nat.{ℕ, zero, suc, _+_, _*_, _/_, _%_, _<_, _≤_}
 use mathlib.Core.Path.{_≡_, refl, sym, ap, _∙_}
 use mathlib.Core.List.{List, [], _∷_, _++_, map}
-use native.Mathlib.Nat.{mul-le-mul-right, not-suc-le-zero, zero-mul, zero-add, add-zero}
+use native.Mathlib.Nat.{mul-le-mul-right, mod-lt, div-lt-iff-lt-mul, div-add-mod', not-suc-le-zero, zero-mul, zero-add, add-zero}
 use native.Mathlib.Omega.{arith}
-use lib.ListN.{length, getD, length-append, length-map, List·getD-append, List·getD-map}
+use lib.ListN.{length, getD, length-append, length-map, List·getD-append}
 use lib.Seq.{getD-append-add}
 use Rattle.lists.specs.Product.{product}
 use Rattle.lists.proofs.Maps.{getD-map-inside}
@@ -42,6 +42,29 @@ number-below (c ∷ cs) (s ∷ x) j =
     let rest = number-below cs x (joint-tail j) in
     let room : suc s * product cs ≤ c * product cs = mul-le-mul-right (product cs) (joint-head j) in
     omega (arith, rest, room)
+
+factor-some : (k c m : ℕ) → k < c * m → 0 < m
+factor-some k c zero h = absurd (omega arith)
+factor-some k c (suc m) h = omega arith
+
+-- a joint state with number k
+pub record WithNumber (counts : List ℕ) (k : ℕ) : Type 0 where
+  pub joint : List ℕ
+  pub is-joint : JointState counts joint
+  pub number : numberOf counts joint ≡ k
+
+pub with-number : (counts : List ℕ) (k : ℕ) → k < product counts → WithNumber counts k
+unfolding numberOf product
+with-number [] k h = record { joint = []; is-joint = record { long = refl; below = λ i less. absurd (not-suc-le-zero less) }; number = omega arith }
+with-number (c ∷ cs) k h =
+    let m = product cs in
+    let some = factor-some k c m h in
+    let rest = with-number cs (k % m) (mod-lt k some) in
+    record {
+      joint = (k / m) ∷ rest .joint;
+      is-joint = joint-cons (div-lt-iff-lt-mul some .1 h) (rest .is-joint);
+      number = ap (λ (r : ℕ). k / m * m + r) (rest .number) ∙ div-add-mod' k m;
+    }
 
 -- ---- the list of all
 

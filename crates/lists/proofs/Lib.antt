@@ -1,4 +1,4 @@
-pub mod Both
+pub mod Elements
 pub mod Filled
 pub mod Filling
 pub mod Maps
@@ -6,4 +6,5 @@ pub mod Products
 pub mod Puts
 pub mod Same
 pub mod Sets
+pub mod Tests
 pub mod Turns

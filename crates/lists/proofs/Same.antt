@@ -1,30 +1,14 @@
 -- What carries a loop that compares two lists of the same length: comparing what is left tells, with what was found, whether they are the same.
-use Prim.Native.Nat.{ℕ, suc, _+_, _<_, _≤_}
-use mathlib.Core.Path.{_≡_, refl, sym, ap, _∙_}
-use mathlib.Core.Bool.{Bool, true, false, _&&_, false≢true, and-assoc, and-true}
-use mathlib.Core.List.{List, [], _∷_}
+use Prim.Native.Nat.{ℕ, _+_, _<_, _≤_}
+use mathlib.Core.Path.{_≡_, refl, sym, _∙_}
+use mathlib.Core.Bool.{Bool, true, _&&_, and-assoc, and-true}
+use mathlib.Core.List.{List}
 use native.Mathlib.Numerals.{add-one}
 use native.Mathlib.Omega.{arith}
 use lib.Dec.{eqb}
 use lib.ListN.{length, getD, drop, drop-of-length-le}
 use lib.Seq.{drop-cons}
-use borrow.Author.Tests.{eqb-true, eq-eqb}
 use Rattle.lists.specs.Rows.{same}
-use Rattle.lists.proofs.Both.{both}
-
-pub same-self : (x : List ℕ) → same x x ≡ true
-unfolding same
-same-self [] = refl
-same-self (n ∷ x) = rw (eq-eqb n n refl) (same-self x)
-
-pub same-true : (x y : List ℕ) → same x y ≡ true → x ≡ y
-unfolding same
-same-true [] [] e = refl
-same-true [] (n ∷ y) e = absurd (false≢true e)
-same-true (m ∷ x) [] e = absurd (false≢true e)
-same-true (m ∷ x) (n ∷ y) e =
-    let alike = both (eqb m n) (same x y) e in
-    rw (eqb-true m n (alike .left), same-true x y (alike .right)) refl
 
 -- The places below i are compared; they are alike or not.
 pub record SameLeft (x y : List ℕ) (i : ℕ) (alike : Bool) : Type 0 where

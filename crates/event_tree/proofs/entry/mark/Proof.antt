@@ -1,6 +1,6 @@
 -- `event_tree::entry::mark` meets its contract: the two cases of the definition.
 use mathlib.Core.Path.{refl}
-use Rattle.event_tree.specs.Paths.{mark}
+use Rattle.paths.specs.Paths.{mark}
 use Rattle.event_tree.proofs.entry.mark.Statement.{statement}
 use Rattle.event_tree.proofs.entry.mark.Tie as tie
 

@@ -1,22 +1,13 @@
--- What holds of the paths of any block of classes: one class for each joint state of components that have a state at least, and at most so many
--- that no state is taken for the blank mark.
+-- What holds of the paths of any block of classes.
 use Prim.Native.Nat.{ℕ, _+_, _<_, _≤_}
 use mathlib.Core.Path.{_≡_}
 use mathlib.Core.List.{List, []}
 use lib.ListN.{length, getD}
 use Rattle.lists.specs.Product.{product}
-use Rattle.joint_states.specs.JointStates.{JointState, numberOf}
-use Rattle.event_tree.specs.Paths.{blankMark, paths}
-use Rattle.event_tree.specs.Words.{OnePath, Ascending, BlankIff}
-
-pub record Block (counts block : List ℕ) : Type 0 where
-  pub long : length block ≡ product counts
-  pub some : (k : ℕ) → k < length counts → 0 < getD counts k 0
-  pub most : (k : ℕ) → k < length counts → getD counts k 0 ≤ blankMark
-
--- the class that a block has for a joint state
-abbrev pub classAt : List ℕ → List ℕ → List ℕ → ℕ
-classAt counts block x = getD block (numberOf counts x) 0
+use Rattle.joint_states.specs.JointStates.{JointState}
+use Rattle.paths.specs.Blocks.{Block, classAt}
+use Rattle.paths.specs.Paths.{paths}
+use Rattle.paths.specs.Words.{OnePath, Ascending, BlankIff}
 
 abbrev pub OnePathEach : Type 0
 OnePathEach =

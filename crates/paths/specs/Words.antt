@@ -6,7 +6,7 @@ use mathlib.Core.List.{List, [], _∷_}
 use lib.Dec.{eqb}
 use lib.ListN.{length, getD}
 use Rattle.joint_states.specs.JointStates.{JointState}
-use Rattle.event_tree.specs.Paths.{blankMark}
+use Rattle.paths.specs.Paths.{blankMark}
 
 abbrev pub Blank : List ℕ → ℕ → Type 0
 Blank entry k = getD entry k blankMark ≡ blankMark

@@ -5,9 +5,14 @@ use mathlib.Core.Path.{_≡_}
 use mathlib.Core.List.{List}
 use lib.ListN.{length, getD}
 use Rattle.lists.specs.Product.{product}
-use Rattle.event_tree.specs.Paths.{blankMark}
+use Rattle.joint_states.specs.JointStates.{numberOf}
+use Rattle.paths.specs.Paths.{blankMark}
 
 pub record Block (counts block : List ℕ) : Type 0 where
   pub long : length block ≡ product counts
   pub some : (k : ℕ) → k < length counts → 0 < getD counts k 0
   pub most : (k : ℕ) → k < length counts → getD counts k 0 ≤ blankMark
+
+-- the class that a block has for a joint state
+abbrev pub classAt : List ℕ → List ℕ → List ℕ → ℕ
+classAt counts block x = getD block (numberOf counts x) 0

@@ -1,0 +1,12 @@
+pub mod Alike
+pub mod Ascending
+pub mod Blank
+pub mod Differ
+pub mod Entries
+pub mod Few
+pub mod Fitting
+pub mod OnePath
+pub mod Parts
+pub mod Placed
+pub mod Tell
+pub mod Ways

@@ -1,0 +1,4 @@
+pub mod Blocks
+pub mod Paths
+pub mod Theorems
+pub mod Words
