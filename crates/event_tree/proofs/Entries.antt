@@ -5,7 +5,7 @@ use mathlib.Core.List.{List, [], _∷_, _++_}
 use native.Mathlib.Nat.{add-zero, add-assoc}
 use native.Mathlib.Numerals.{add-one}
 use native.Mathlib.Omega.{arith}
-use lib.ListN.{length, getD, take, drop, set, length-append, drop-of-length-le}
+use lib.ListN.{length, getD, take, drop, set, length-append, length-set, drop-of-length-le}
 use lib.Seq.{drop-cons, getD-take, length-take-le}
 use Rattle.lists.specs.Rows.{put}
 use Rattle.lists.proofs.Puts.{Due, due-start, due-set, due-done}
@@ -49,3 +49,7 @@ module _ {d₀ : List ℕ} {at : ℕ} {f : Front} {class : ℕ} where
   written-done {d} {i} w h =
       let none : drop i (marksOf f) ≡ [] = drop-of-length-le (marksOf f) {i = i} (omega (arith, long f (w .marked))) in
       due-done (due-set (rw none at (w .due)))
+
+  -- writing keeps the buffer's length
+  pub written-size : {d : List ℕ} {i : ℕ} → Written d₀ at f class d i → length (set d (at + i) class) ≡ length d₀
+  written-size {d} {i} w = length-set d (at + i) class ∙ w .due .size

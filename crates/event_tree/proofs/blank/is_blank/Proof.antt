@@ -1,66 +1,59 @@
+-- `event_tree::blank::is_blank` meets its contract. The parts of the states below s are compared with that of state 0 (`Compared`).
+use Prim.Native.Nat.{_-_}
+use native.Mathlib.Omega.{arith}
+use mathlib.Core.Path.{sym}
+use lib.Seq.{length-take-le}
+use borrow.Author.Needs.{needs}
+use Rattle.event_tree.proofs.Compared.{Compared, part-inside, compared-start, compared-even, compared-more, compared-done}
 use Rattle.event_tree.proofs.blank.is_blank.Statement.{statement}
 use Rattle.event_tree.proofs.blank.is_blank.Tie as tie
-use Rattle.event_tree.proofs.blank.is_blank.Reads as reads
-use Rattle.event_tree.proofs.blank.is_blank.Lts as lts
-use Rattle.event_tree.proofs.blank.same_classes.Reads as same-classes-reads
 
 abbrev Inv-loop : tie.InvT-loop
-Inv-loop states size block first blank₀ s₀ blank s = ?
+Inv-loop states size block first blank₀ s₀ blank s = Compared states size block s blank
 
 abbrev μ-loop : tie.MeasureT-loop
-μ-loop states size block first blank₀ s₀ blank s = ?
+μ-loop states size block first blank₀ s₀ blank s = states - s
 
--- src/blank.rt:37:9
 slice-aggregate-first : tie.Need-slice-aggregate-first Inv-loop μ-loop
-slice-aggregate-first c = ?
+slice-aggregate-first c =
+    let pre = c .before .before .pre in
+    sym (length-take-le _ _ (omega (arith, part-inside (c .before .before .args .states) (c .before .before .args .size) 0 _ (pre .0) (pre .1))))
 
--- src/blank.rt:40:5
 loop-holds : tie.Need-loop-holds Inv-loop μ-loop
-loop-holds c = ?
+loop-holds c = compared-start (c .before .before .pre .1) (c .before .before .pre .0)
 
--- src/blank.rt:41:20
 cast-from : tie.Need-cast-from Inv-loop μ-loop
-cast-from c = ?
+cast-from c = search needs
 
--- src/blank.rt:41:20
 mul-from : tie.Need-mul-from Inv-loop μ-loop
-mul-from c = ?
+mul-from c = omega (arith, part-inside _ _ _ _ (c .before .loop .inv .whole) (c .loop-test .taken))
 
--- src/blank.rt:42:58
 add-same-classes : tie.Need-add-same-classes Inv-loop μ-loop
-add-same-classes c = ?
+add-same-classes c = omega (arith, part-inside _ _ _ _ (c .before .loop .inv .whole) (c .loop-test .taken))
 
--- src/blank.rt:42:45
 sub-same-classes : tie.Need-sub-same-classes Inv-loop μ-loop
-sub-same-classes c = ?
+sub-same-classes c = omega arith
 
--- src/blank.rt:42:45
 part-same-classes-start : tie.Need-part-same-classes-start Inv-loop μ-loop
-part-same-classes-start c = ?
+part-same-classes-start c = omega (arith, part-inside _ _ _ _ (c .before .loop .inv .whole) (c .loop-test .taken))
 
--- src/blank.rt:42:45
 part-same-classes-end : tie.Need-part-same-classes-end Inv-loop μ-loop
-part-same-classes-end c = ?
+part-same-classes-end c = omega (arith, part-inside _ _ _ _ (c .before .loop .inv .whole) (c .loop-test .taken))
 
--- src/blank.rt:42:25
 same-classes-requires : tie.Need-same-classes-requires Inv-loop μ-loop
-same-classes-requires c κs = ?
+same-classes-requires c κs = compared-even (c .before .before .loop .inv) (c .before .loop-test .taken)
 
--- src/blank.rt:43:13
 add-s : tie.Need-add-s Inv-loop μ-loop
-add-s c = ?
+add-s c = omega arith
 
--- src/blank.rt:40:5
 loop-less : tie.Need-loop-less Inv-loop μ-loop
-loop-less c = ?
+loop-less c = omega arith
 
--- src/blank.rt:40:5
 loop-again : tie.Need-loop-again Inv-loop μ-loop
-loop-again c = ?
+loop-again c = compared-more (c .before .before .before .loop .inv) (c .before .before .loop-test .taken) (c .same-classes .ensures)
 
--- src/blank.rt:32:1
 returns : tie.Need-returns Inv-loop μ-loop
-returns c = ?
+returns c = compared-done (c .before .loop .inv) (c .loop-test .left)
 
 pub is-blank-spec : {M : Type 1} → statement M
 is-blank-spec =

@@ -1,7 +1,10 @@
 -- `event_tree::entry::write_entry` meets its contract. The marks below i are written (`Written`).
 use Prim.Native.Nat.{_-_}
+use mathlib.Core.Path.{_≡_}
 use native.Mathlib.Omega.{arith}
-use Rattle.event_tree.proofs.Entries.{Written, written-start, written-more, written-room, written-done}
+use lib.ListN.{length}
+use borrow.Author.Needs.{needs}
+use Rattle.event_tree.proofs.Entries.{Written, written-start, written-more, written-room, written-size, written-done}
 use Rattle.event_tree.proofs.entry.write_entry.Statement.{statement}
 use Rattle.event_tree.proofs.entry.write_entry.Tie as tie
 
@@ -12,43 +15,47 @@ abbrev μ-loop : tie.MeasureT-loop
 μ-loop class out₀ at marks size i₀ out i = size - i
 
 loop-holds : tie.Need-loop-holds Inv-loop μ-loop
-loop-holds c = ?
+loop-holds c =
+    let twelve : length (c .before .args .front .marks) ≡ 12 = search needs in
+    written-start (omega (arith, c .before .pre .0, twelve)) (c .before .pre .1)
 
 array-read-out : tie.Need-array-read-out Inv-loop μ-loop
-array-read-out c = ?
+array-read-out c = omega (arith, c .before .before .before .pre .0)
 
 add-out : tie.Need-add-out Inv-loop μ-loop
-add-out c = ?
+add-out c = omega arith
 
 slice-write-out : tie.Need-slice-write-out Inv-loop μ-loop
-slice-write-out c = ?
+slice-write-out c = written-room (c .before .loop .inv)
 
 add-i : tie.Need-add-i Inv-loop μ-loop
-add-i c = ?
+add-i c = omega arith
 
 loop-less : tie.Need-loop-less Inv-loop μ-loop
 loop-less c = omega arith
 
 loop-again : tie.Need-loop-again Inv-loop μ-loop
-loop-again c = ?
+loop-again c = written-more (c .before .loop .inv) (c .loop-test .taken)
 
 add-out-2 : tie.Need-add-out-2 Inv-loop μ-loop
-add-out-2 c = ?
+add-out-2 c = omega arith
 
 slice-write-out-2 : tie.Need-slice-write-out-2 Inv-loop μ-loop
-slice-write-out-2 c = ?
+slice-write-out-2 c = written-room (c .before .loop .inv)
 
 add-result : tie.Need-add-result Inv-loop μ-loop
-add-result c = ?
+add-result c = omega arith
 
 add-result-2 : tie.Need-add-result-2 Inv-loop μ-loop
-add-result-2 c = ?
+add-result-2 c = omega arith
 
 same-length : tie.Need-same-length Inv-loop μ-loop
-same-length c = ?
+same-length c = written-size (c .before .loop .inv)
 
 returns : tie.Need-returns Inv-loop μ-loop
-returns c = ?
+returns c =
+    let inv = c .before .loop .inv in
+    (omega (arith, inv .inside, c .loop-test .left), written-done inv (c .loop-test .left))
 
 pub write-entry-spec : {M : Type 1} → statement M
 write-entry-spec =
