@@ -1,12 +1,12 @@
 -- What carries the comparison of a block's parts: those of the states below s are compared with that of state 0.
-use Prim.Native.Nat.{ℕ, suc, _+_, _-_, _*_, _<_, _≤_}
+use Prim.Native.Nat.{ℕ, suc, _+_, _*_, _<_, _≤_}
 use mathlib.Core.Path.{_≡_, refl, sym, ap, _∙_}
 use mathlib.Core.Bool.{Bool, true, _&&_}
 use mathlib.Core.List.{List}
-use native.Mathlib.Nat.{zero-mul, mul-le-mul-right, add-sub-cancel-left}
+use native.Mathlib.Nat.{mul-le-mul-right}
 use native.Mathlib.Numerals.{add-one}
 use native.Mathlib.Omega.{arith}
-use lib.ListN.{length, take, drop, length-drop}
+use lib.ListN.{length, drop, length-drop}
 use lib.Seq.{length-take-le}
 use Rattle.lists.specs.Counting.{allBelow}
 use Rattle.lists.specs.Rows.{same}
@@ -18,11 +18,7 @@ pub record Compared (states size : ℕ) (block : List ℕ) (s : ℕ) (blank : Bo
   pub whole : length block ≡ states * size
   pub found : blank ≡ allBelow (λ (k : ℕ). same (part size 0 block) (part size k block)) s
 
--- the part of a state as the code cuts it out
-pub cut : (size s : ℕ) (block : List ℕ) → take (s * size + size - s * size) (drop (s * size) block) ≡ part size s block
-cut size s block = ap (λ (n : ℕ). take n (drop (s * size) block)) (add-sub-cancel-left (s * size) size)
-
--- it stands inside the block
+-- the part of a state stands inside the block
 pub part-inside : (states size s n : ℕ) → n ≡ states * size → s < states → s * size + size ≤ n
 part-inside states size s n e h =
     let room : suc s * size ≤ states * size = mul-le-mul-right size h in
@@ -39,24 +35,17 @@ module _ {states size : ℕ} {block : List ℕ} where
   unfolding allBelow
   compared-start h e = record { inside = h; whole = e; found = sym (true-same (part size 0 block)) }
 
-  pub compared-more : {s : ℕ} {blank alike : Bool} → Compared states size block s blank → s < states
-      → alike ≡ same (take size block) (take (s * size + size - s * size) (drop (s * size) block))
-      → Compared states size block (s + 1) (blank && alike)
-  unfolding allBelow
-  compared-more {s} {blank} {alike} c h e =
-      let first : take size block ≡ part size 0 block = rw zero-mul refl in
-      record {
-        inside = omega arith;
-        whole = c .whole;
-        found = rw (add-one, sym (c .found), sym first, sym (cut size s block), e) refl;
-      }
-
   -- the two parts that are compared have the same length
-  pub compared-even : {s : ℕ} {blank : Bool} → Compared states size block s blank → s < states
-      → length (take size block) ≡ length (take (s * size + size - s * size) (drop (s * size) block))
-  compared-even {s} {blank} c h =
-      let first = part-long states size 0 block (c .whole) (omega arith) in
-      rw (cut size s block, part-long states size s block (c .whole) h) (rw zero-mul at first)
+  pub compared-even : {s : ℕ} {blank : Bool} (first other : List ℕ) → Compared states size block s blank → s < states
+      → first ≡ part size 0 block → other ≡ part size s block → length first ≡ length other
+  compared-even {s} {blank} first other c h e₀ e =
+      rw (e₀, e, part-long states size s block (c .whole) h) (part-long states size 0 block (c .whole) (omega arith))
+
+  pub compared-more : {s : ℕ} {blank alike : Bool} {first other : List ℕ} → Compared states size block s blank → s < states
+      → first ≡ part size 0 block → other ≡ part size s block → alike ≡ same first other → Compared states size block (s + 1) (blank && alike)
+  unfolding allBelow
+  compared-more {s} {blank} {alike} {first} {other} c h e₀ e found =
+      record { inside = omega arith; whole = c .whole; found = rw (add-one, sym (c .found), sym e₀, sym e, found) refl }
 
   pub compared-done : {s : ℕ} {blank : Bool} → Compared states size block s blank → states ≤ s → blank ≡ isBlank states size block
   unfolding isBlank

@@ -1,11 +1,11 @@
 // How paths go on at the first component of a block: in one way where it is blank, or else in one for each of its states.
-ghost use Prim.Native.Nat.{_*_, _<_};
+ghost use Prim.Native.Nat.{_+_, _*_, _<_, _≤_};
 ghost use mathlib.Core.Path.{_≡_};
-ghost use lib.ListN.{length, getD, drop};
-ghost use Rattle.lists.specs.Product.{product};
+ghost use lib.ListN.{length};
 ghost use Rattle.lists.specs.Rows.{same};
 ghost use Rattle.paths.specs.Blocks.{Block};
-ghost use Rattle.paths.specs.Paths.{isBlank, ways};
+ghost use Rattle.event_tree.specs.Ways.{WaysAt};
+ghost use Rattle.paths.specs.Paths.{part as Paths·part, isBlank, ways};
 
 // The ways at a component: whether it is blank, their number, and how many classes the part of each has.
 pub struct Ways {
@@ -28,18 +28,26 @@ fn same_classes(a: &[u8], b: &[u8]) -> bool
     alike
 }
 
+// The part of a block that state s leads to.
+pub fn part(size: usize, s: u8, block: &[u8]) -> &[u8]
+    requires { ⌜ s * size + size ≤ length (now block) ⌝ }
+    ensures { λ r. ⌜ now r ≡ Paths·part size s (now (block .entry)) ⌝ }
+{
+    let from = s as usize * size;
+    &block[from..from + size]
+}
+
 // Whether a component of so many states is blank in a block that has `size` classes for each of them.
 fn is_blank(states: u8, size: usize, block: &[u8]) -> bool
     requires { ⌜ length (now block) ≡ states * size ⌝ }
     requires { ⌜ 0 < states ⌝ }
     ensures { λ r. ⌜ r ≡ isBlank states size (now (block .entry)) ⌝ }
 {
-    let first = &block[..size];
+    let first = part(size, 0, block);
     let mut blank = true;
     let mut s: u8 = 1;
     while s < states {
-        let from = s as usize * size;
-        blank = blank & same_classes(first, &block[from..from + size]);
+        blank = blank & same_classes(first, part(size, s, block));
         s = s + 1;
     }
     blank
@@ -58,9 +66,7 @@ fn number_of_ways(blank: bool, states: u8) -> u8
 pub fn ways_at(counts: &[u8], block: &[u8]) -> Ways
     requires { ⌜ Block (now counts) (now block) ⌝ }
     requires { ⌜ 0 < length (now counts) ⌝ }
-    ensures { λ r. ⌜ r .size ≡ product (drop 1 (now (counts .entry))) ⌝ }
-    ensures { λ r. ⌜ r .blank ≡ isBlank (getD (now (counts .entry)) 0 0) (r .size) (now (block .entry)) ⌝ }
-    ensures { λ r. ⌜ r .number ≡ ways (r .blank) (getD (now (counts .entry)) 0 0) ⌝ }
+    ensures { λ r. ⌜ WaysAt (now (counts .entry)) (now (block .entry)) r ⌝ }
 {
     let states = counts[0];
     let size = block.len() / states as usize;

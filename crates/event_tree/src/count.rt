@@ -1,4 +1,5 @@
 // How many paths a block has.
+use crate::blank::part;
 use crate::blank::ways_at;
 ghost use Prim.Native.Nat.{_≤_};
 ghost use mathlib.Core.Path.{_≡_};
@@ -22,12 +23,12 @@ pub fn count_paths(counts: &[u8], block: &[u8]) -> PathCount
         return PathCount { paths: 1 };
     }
     let way = ways_at(counts, block);
+    let later = &counts[1..];
     let mut paths: u32 = 0;
     let mut s: u8 = 0;
     while s < way.number {
-        let from = s as usize * way.size;
-        let part = count_paths(&counts[1..], &block[from..from + way.size]);
-        paths = paths + part.paths;
+        let more = count_paths(later, part(way.size, s, block));
+        paths = paths + more.paths;
         s = s + 1;
     }
     PathCount { paths }

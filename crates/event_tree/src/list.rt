@@ -1,4 +1,5 @@
 // The list of the paths of a block.
+use crate::blank::part;
 use crate::blank::ways_at;
 use crate::entry::Front;
 use crate::entry::mark;
@@ -26,12 +27,12 @@ fn list_block(counts: &[u8], block: &[u8], front: Front, out: &mut [u8], at: usi
         return write_entry(front, block[0], out, at);
     }
     let way = ways_at(counts, block);
+    let later = &counts[1..];
     let mut place = at;
     let mut s: u8 = 0;
     while s < way.number {
-        let from = s as usize * way.size;
         let marked = with_mark(front, mark(way.blank, s));
-        place = list_block(&counts[1..], &block[from..from + way.size], marked, out, place);
+        place = list_block(later, part(way.size, s, block), marked, out, place);
         s = s + 1;
     }
     place

@@ -6,27 +6,27 @@ use Rattle.event_tree.proofs.blank.ways_at.Lts as lts
 use Rattle.event_tree.proofs.blank.is_blank.Reads as is-blank-reads
 use Rattle.event_tree.proofs.blank.number_of_ways.Reads as number-of-ways-reads
 
--- src/blank.rt:65:18
+-- src/blank.rt:71:18
 shared-slice-read-states : tie.Need-shared-slice-read-states
 shared-slice-read-states c = search needs
 
--- src/blank.rt:66:30
+-- src/blank.rt:72:30
 cast-size : tie.Need-cast-size
 cast-size c = ?
 
--- src/blank.rt:66:16
+-- src/blank.rt:72:16
 div-size : tie.Need-div-size
 div-size c = ?
 
--- src/blank.rt:67:9
+-- src/blank.rt:73:9
 is-blank-requires : tie.Need-is-blank-requires
 is-blank-requires c κs = ?
 
--- src/blank.rt:70:17
+-- src/blank.rt:76:17
 number-of-ways-requires : tie.Need-number-of-ways-requires
 number-of-ways-requires c κs = search needs
 
--- src/blank.rt:58:1
+-- src/blank.rt:66:1
 returns : tie.Need-returns
 returns c = ?
 
