@@ -1,2 +1,4 @@
 pub mod Compared
+pub mod Counted
 pub mod Entries
+pub mod Fork

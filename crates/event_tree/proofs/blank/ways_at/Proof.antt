@@ -1,34 +1,34 @@
+-- `event_tree::blank::ways_at` meets its contract: each state has the same share of the block.
+use native.Mathlib.Omega.{arith}
+use Rattle.event_tree.proofs.Fork.{first-some, part-size, whole-parts}
 use borrow.Author.Needs.{needs}
 use Rattle.event_tree.proofs.blank.ways_at.Statement.{statement}
 use Rattle.event_tree.proofs.blank.ways_at.Tie as tie
-use Rattle.event_tree.proofs.blank.ways_at.Reads as reads
-use Rattle.event_tree.proofs.blank.ways_at.Lts as lts
-use Rattle.event_tree.proofs.blank.is_blank.Reads as is-blank-reads
-use Rattle.event_tree.proofs.blank.number_of_ways.Reads as number-of-ways-reads
 
--- src/blank.rt:71:18
 shared-slice-read-states : tie.Need-shared-slice-read-states
 shared-slice-read-states c = search needs
 
--- src/blank.rt:72:30
 cast-size : tie.Need-cast-size
-cast-size c = ?
+cast-size c = omega (arith, c .before .before .before .pre .0 .most 0 (c .before .before .before .pre .1))
 
--- src/blank.rt:72:16
 div-size : tie.Need-div-size
-div-size c = ?
+div-size c =
+    let start = c .before .before .before in
+    first-some _ _ (start .pre .0) (start .pre .1)
 
--- src/blank.rt:73:9
 is-blank-requires : tie.Need-is-blank-requires
-is-blank-requires c κs = ?
+is-blank-requires c κs =
+    let start = c .before .before .before in
+    (whole-parts _ _ (start .pre .0) (start .pre .1), first-some _ _ (start .pre .0) (start .pre .1))
 
--- src/blank.rt:76:17
 number-of-ways-requires : tie.Need-number-of-ways-requires
 number-of-ways-requires c κs = search needs
 
--- src/blank.rt:66:1
 returns : tie.Need-returns
-returns c = ?
+returns c =
+    let start = c .before .before .before .before .before in
+    let size = part-size _ _ (start .pre .0) (start .pre .1) in
+    record { size = size; blank = rw size at (c .before .is-blank .ensures); number = c .number-of-ways .ensures }
 
 pub ways-at-spec : {M : Type 1} → statement M
 ways-at-spec =
