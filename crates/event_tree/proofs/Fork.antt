@@ -44,6 +44,12 @@ unfolding paths
 no-fork [] block e = refl
 no-fork (c ∷ cs) block e = absurd (omega (arith, e))
 
+-- and the block has one class
+pub one-class : (counts block : List ℕ) → Block counts block → length counts ≡ 0 → length block ≡ 1
+unfolding product
+one-class [] block b e = b .long
+one-class (c ∷ cs) block b e = absurd (omega (arith, e))
+
 -- ---- the ways on
 
 -- the code stands at a block's first component, with what it holds of the ways on and of the later components

@@ -13,10 +13,13 @@ use Rattle.lists.specs.Rows.{put}
 length-front : (d : List ℕ) (at : ℕ) (x : List ℕ) → at + length x ≤ length d → length (take at d ++ x) ≡ at + length x
 length-front d at x h = length-append (take at d) x ∙ ap (λ (n : ℕ). n + length x) (length-take-le at d (omega arith))
 
-pub length-put : (d : List ℕ) (at : ℕ) (x : List ℕ) → at + length x ≤ length d → length (put d at x) ≡ length d
+length-put : (d : List ℕ) (at : ℕ) (x : List ℕ) → at + length x ≤ length d → length (put d at x) ≡ length d
 unfolding put
 length-put d at x h =
     length-append (take at d ++ x) (drop (at + length x) d) ∙ rw (length-front d at x h, length-drop (at + length x) d) (omega arith)
+
+pub put-size : (d d′ : List ℕ) (at : ℕ) (x : List ℕ) → at + length x ≤ length d → d′ ≡ put d at x → length d′ ≡ length d
+put-size d d′ at x h e = ap length e ∙ length-put d at x h
 
 -- nothing changes where nothing is put
 put-none : (d : List ℕ) (at : ℕ) → put d at [] ≡ d
@@ -63,7 +66,7 @@ module _ {d₀ x : List ℕ} {at : ℕ} where
   pub due-more : {d d′ : List ℕ} {p q : ℕ} (y z : List ℕ) → Due d₀ at x d p (y ++ z) → d′ ≡ put d p y → q ≡ p + length y → Due d₀ at x d′ q z
   due-more {d} {d′} {p} {q} y z w e place =
       let room = due-room y z w in
-      let long : length d′ ≡ length d = ap length e ∙ length-put d p y room in
+      let long = put-size d d′ p y room e in
       record {
         same = ap (λ (n : ℕ). put d′ n z) place ∙ ap (λ (l : List ℕ). put l (p + length y) z) e ∙ put-put d p y z room ∙ w .same;
         place = omega (arith, place, length-append y z, w .place);

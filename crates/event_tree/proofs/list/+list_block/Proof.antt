@@ -1,3 +1,13 @@
+-- `event_tree::list::list_block` meets its contract. The components left fall at each call; the paths of the ways below s are written (`Listed`).
+use Prim.Native.Nat.{_-_}
+use mathlib.Core.Path.{_≡_}
+use native.Mathlib.Omega.{arith}
+use lib.ListN.{length}
+use denote.Ref.{now}
+use borrow.Author.Needs.{needs}
+use Rattle.lists.proofs.Puts.{due-done, due-end}
+use Rattle.event_tree.proofs.Fork.{one-class, fork, fork-fewer, fork-most, fork-inside, fork-block}
+use Rattle.event_tree.proofs.Listed.{Listed, to-way, listed-start, listed-room, listed-more, listed-all, leaf-long, leaf-done}
 use Prim.Native.Nat.{ℕ, _<_}
 use borrow.Fn.Kinds.{In}
 use borrow.Fn.PlainCycle.{Measures, is, falls, and}
@@ -13,7 +23,7 @@ use Rattle.event_tree.proofs.list.+list_block.{statement}
 use Rattle.event_tree.proofs.list.+list_block.Tie.{close}
 
 abbrev μ : Measures 3 list-block-kinds.ps ℕ
-μ κs a = ?
+μ κs a = length (now (a .0))
 
 abbrev at : ℕ → In 3 list-block-kinds.ps
 at t =
@@ -27,83 +37,101 @@ abbrev claims : ℕ → list-block-lts.Claims
 claims t = (write-entry-reads.Asked, write-entry-reads.Learnt, ways-at-reads.Asked, ways-at-reads.Learnt, mark-reads.Asked, mark-reads.Learnt, with-mark-reads.Asked, with-mark-reads.Learnt, part-reads.Asked, part-reads.Learnt, under-t t, list-block.Post)
 
 abbrev Inv-loop : list-block-lts.InvT-loop
-Inv-loop counts block front out₀ at way later place₀ s₀ out place s = ?
+Inv-loop counts block front out₀ at way later place₀ s₀ out place s = Listed counts block way later front out₀ at s out place
 
 abbrev μ-loop : list-block-lts.MeasureT-loop
-μ-loop counts block front out₀ at way later place₀ s₀ out place s = ?
+μ-loop counts block front out₀ at way later place₀ s₀ out place s = way .number - s
 
 module _ (t : ℕ) where
-  -- src/list.rt:27:35
   shared-slice-read-write-entry : list-block-lts.Need-shared-slice-read-write-entry (claims t) (at t) list-block.Post Inv-loop μ-loop
-  shared-slice-read-write-entry c = ?
+  shared-slice-read-write-entry c =
+      let start = c .before .before .before .before .before in
+      omega (arith, one-class _ _ (start .pre .1 .0) (c .before .if1 .taken))
 
-  -- src/list.rt:27:9
   write-entry-requires : list-block-lts.Need-write-entry-requires (claims t) (at t) list-block.Post Inv-loop μ-loop
-  write-entry-requires c κs = ?
+  write-entry-requires c κs =
+      let start = c .before .before .before .before .before .before in
+      let twelve : length (start .args .front .marks) ≡ 12 = search needs in
+      let long =
+          leaf-long (start .args .counts .now) (start .args .block .now) (start .args .front) (c .before .before .if1 .taken) (omega (arith, twelve, start .pre .1 .1 .0)) in
+      (omega (arith, start .pre .1 .1 .0), omega (arith, start .pre .1 .1 .1, long))
 
-  -- src/list.rt:27:9
   same-length : list-block-lts.Need-same-length (claims t) (at t) list-block.Post Inv-loop μ-loop
-  same-length c = ?
+  same-length c =
+      let start = c .before .before .before .before .before .before .before .before .before in
+      let entry = c .before .before .write-entry .ensures in
+      let twelve : length (start .args .front .marks) ≡ 12 = search needs in
+      leaf-done _ _ (start .args .front) (c .before .before .before .before .before .if1 .taken) (omega (arith, twelve, start .pre .1 .1 .0)) (start .pre .1 .1 .1) (entry .0) (entry .1) .size
 
-  -- src/list.rt:27:9
   returns : list-block-lts.Need-returns (claims t) (at t) list-block.Post Inv-loop μ-loop
-  returns c = ?
+  returns c =
+      let start = c .before .before .before .before .before .before .before .before .before in
+      let entry = c .before .before .write-entry .ensures in
+      let twelve : length (start .args .front .marks) ≡ 12 = search needs in
+      let done = leaf-done _ _ (start .args .front) (c .before .before .before .before .before .if1 .taken) (omega (arith, twelve, start .pre .1 .1 .0)) (start .pre .1 .1 .1) (entry .0) (entry .1) in
+      (due-end done, due-done done)
 
-  -- src/list.rt:29:9
   ways-at-requires : list-block-lts.Need-ways-at-requires (claims t) (at t) list-block.Post Inv-loop μ-loop
-  ways-at-requires c κs = ?
+  ways-at-requires c κs = (c .before .before .before .before .pre .1 .0, omega (arith, c .if1 .left))
 
-  -- src/list.rt:30:17
   sub-later : list-block-lts.Need-sub-later (claims t) (at t) list-block.Post Inv-loop μ-loop
-  sub-later c = ?
+  sub-later c = omega (arith, c .before .if1 .left)
 
-  -- src/list.rt:30:17
   part-later-start : list-block-lts.Need-part-later-start (claims t) (at t) list-block.Post Inv-loop μ-loop
-  part-later-start c = ?
+  part-later-start c = omega (arith, c .before .if1 .left)
 
-  -- src/list.rt:30:17
   part-later-end : list-block-lts.Need-part-later-end (claims t) (at t) list-block.Post Inv-loop μ-loop
-  part-later-end c = ?
+  part-later-end c = omega (arith, c .before .if1 .left)
 
-  -- src/list.rt:33:5
   loop-holds : list-block-lts.Need-loop-holds (claims t) (at t) list-block.Post Inv-loop μ-loop
-  loop-holds c = ?
+  loop-holds c =
+      let start = c .before .before .before .before .before .before in
+      listed-start (fork _ _ _ (start .pre .1 .0) (c .before .before .if1 .left) (c .before .ways-at .ensures)) (start .pre .1 .1 .0) (start .pre .1 .1 .1)
 
-  -- src/list.rt:34:39
   mark-requires : list-block-lts.Need-mark-requires (claims t) (at t) list-block.Post Inv-loop μ-loop
-  mark-requires c κs = ?
+  mark-requires c κs = tt
 
-  -- src/list.rt:34:13
   with-mark-requires : list-block-lts.Need-with-mark-requires (claims t) (at t) list-block.Post Inv-loop μ-loop
-  with-mark-requires c κs = ?
+  with-mark-requires c κs =
+      let listed = c .before .before .before .loop .inv in
+      omega (arith, listed .marks, listed .fork .some)
 
-  -- src/list.rt:35:35
   part-requires : list-block-lts.Need-part-requires (claims t) (at t) list-block.Post Inv-loop μ-loop
-  part-requires c κs = ?
+  part-requires c κs = fork-inside (c .before .before .before .before .loop .inv .fork) (c .before .before .if2 .taken)
 
-  -- src/list.rt:35:9
   list-block-requires : list-block-lts.Need-list-block-requires (claims t) (at t) list-block.Post Inv-loop μ-loop
-  list-block-requires c κs = ?
+  list-block-requires c κs =
+      let listed = c .before .before .before .before .before .before .loop .inv in
+      let marked = c .before .before .with-mark .ensures in
+      let way = to-way (c .before .before .before .before .if2 .taken) (c .before .before .before .mark .ensures) (marked .1) (c .before .part .ensures) in
+      (
+        omega (arith, fork-fewer (listed .fork), c .before .before .before .before .before .before .before .before .before .before .before .before .before .pre .0),
+        (
+          fork-block (listed .fork) _ (way .inside) (way .parted),
+          (omega (arith, marked .0, fork-fewer (listed .fork), listed .marks), listed-room listed way),
+        ),
+      )
 
-  -- src/list.rt:36:13
   add-s : list-block-lts.Need-add-s (claims t) (at t) list-block.Post Inv-loop μ-loop
-  add-s c = ?
+  add-s c = record { fits = omega (arith, fork-most (c .before .before .before .before .before .before .before .before .before .loop .inv .fork) (c .before .before .before .before .before .before .before .if2 .taken)) }
 
-  -- src/list.rt:33:5
   loop-less : list-block-lts.Need-loop-less (claims t) (at t) list-block.Post Inv-loop μ-loop
-  loop-less c = ?
+  loop-less c = omega (arith, c .before .before .before .before .before .before .before .if2 .taken)
 
-  -- src/list.rt:33:5
   loop-again : list-block-lts.Need-loop-again (claims t) (at t) list-block.Post Inv-loop μ-loop
-  loop-again c = ?
+  loop-again c =
+      let marked = c .before .before .before .before .before .with-mark .ensures in
+      let way = to-way (c .before .before .before .before .before .before .before .if2 .taken) (c .before .before .before .before .before .before .mark .ensures) (marked .1) (c .before .before .before .before .part .ensures) in
+      let wrote = c .before .before .list-block .ensures in
+      listed-more (c .before .before .before .before .before .before .before .before .before .loop .inv) way (wrote .0) (wrote .1)
 
-  -- src/list.rt:19:1
   same-length-2 : list-block-lts.Need-same-length-2 (claims t) (at t) list-block.Post Inv-loop μ-loop
-  same-length-2 c = ?
+  same-length-2 c = c .before .before .loop .inv .due .size
 
-  -- src/list.rt:19:1
   returns-2 : list-block-lts.Need-returns-2 (claims t) (at t) list-block.Post Inv-loop μ-loop
-  returns-2 c = ?
+  returns-2 c =
+      let all = listed-all (c .before .before .loop .inv) (c .if2 .left) in
+      (due-end all, due-done all)
 
 pub +list-block-spec : {M : Type 1} → statement M
 +list-block-spec =
