@@ -6,5 +6,6 @@ pub mod Products
 pub mod Puts
 pub mod Same
 pub mod Sets
+pub mod Sums
 pub mod Tests
 pub mod Turns

@@ -1,6 +1,6 @@
 -- Sums and tests over the numbers below n, and the number that a truth value counts as.
 use Prim.Native.Nat.{ℕ, zero, suc, _+_}
-use mathlib.Core.Bool.{Bool, true, _&&_}
+use mathlib.Core.Bool.{Bool, true, false, _&&_}
 
 -- f 0 + f 1 + .. , n terms
 unfoldable pub sum : (ℕ → ℕ) → ℕ → ℕ
@@ -11,3 +11,13 @@ sum f (suc n) = sum f n + f n
 unfoldable pub allBelow : (ℕ → Bool) → ℕ → Bool
 allBelow f zero = true
 allBelow f (suc n) = allBelow f n && f n
+
+-- 1 for true, 0 for false
+abbrev pub truth : Bool → ℕ
+truth true = 1
+truth false = 0
+
+-- how many of f 0, f 1, .. , n of them, are true
+unfoldable pub countTrue : (ℕ → Bool) → ℕ → ℕ
+unfolding sum
+countTrue f n = sum (λ (j : ℕ). truth (f j)) n

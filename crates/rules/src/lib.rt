@@ -12,6 +12,7 @@ pub use limits::COMPONENT_PLACES;
 pub use limits::GATE_MAPS;
 pub use limits::GATE_PLACES;
 pub use limits::INPUT_PLACES;
+pub use limits::JOINT_STATE_PLACES;
 pub use limits::LOAD_MAPS;
 pub use limits::LOAD_PLACES;
 pub use limits::MOST_COMPONENTS;

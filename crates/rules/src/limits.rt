@@ -31,6 +31,8 @@ pub const TEST_PLACES: usize = 12;
 
 pub const INPUT_PLACES: usize = 31;
 
+pub const JOINT_STATE_PLACES: usize = 4096;
+
 // One above the largest map of each kind of record.
 pub const COMPONENT_MAPS: u8 = 16;
 

@@ -1,0 +1,71 @@
+-- `fault_tree::truth::true_gates` meets its contract. The gate inputs below j are counted (`Counted`).
+use Prim.Native.Nat.{ℕ, _-_}
+use mathlib.Core.Path.{refl}
+use mathlib.Core.Bool.{false}
+use native.Mathlib.Omega.{arith}
+use borrow.Author.Needs.{needs}
+use lib.ListN.{getD}
+use Rattle.lists.proofs.Sums.{Counted, counted-start, counted-more, counted-done}
+use Rattle.fault_tree.specs.Truth.{trueGates}
+use Rattle.fault_tree.proofs.truth.true_gates.Statement.{statement}
+use Rattle.fault_tree.proofs.truth.true_gates.Tie as tie
+
+abbrev Inv-loop : tie.InvT-loop
+Inv-loop truths input gates n₀ j₀ n j = Counted (λ (j : ℕ). getD truths (getD input j 0) false) gates j n
+
+abbrev μ-loop : tie.MeasureT-loop
+μ-loop truths input gates n₀ j₀ n j = gates - j
+
+cast-gates : tie.Need-cast-gates Inv-loop μ-loop
+cast-gates c = search needs
+
+loop-holds : tie.Need-loop-holds Inv-loop μ-loop
+loop-holds c = counted-start
+
+array-read-i : tie.Need-array-read-i Inv-loop μ-loop
+array-read-i c = omega (arith, c .before .before .before .before .pre .0)
+
+cast-i : tie.Need-cast-i Inv-loop μ-loop
+cast-i c = search needs
+
+array-read-n : tie.Need-array-read-n Inv-loop μ-loop
+array-read-n c = c .before .before .before .before .pre .1 _ (c .loop-test .taken)
+
+cast-n : tie.Need-cast-n Inv-loop μ-loop
+cast-n c = tt
+
+add-n : tie.Need-add-n Inv-loop μ-loop
+add-n c =
+    let more = counted-more (c .before .loop .inv) (c .loop-test .taken) refl in
+    record { fits = omega (arith, more .most, more .inside, c .before .before .before .before .pre .0) }
+
+add-j : tie.Need-add-j Inv-loop μ-loop
+add-j c = omega arith
+
+loop-less : tie.Need-loop-less Inv-loop μ-loop
+loop-less c = omega arith
+
+loop-again : tie.Need-loop-again Inv-loop μ-loop
+loop-again c = counted-more (c .before .loop .inv) (c .loop-test .taken) refl
+
+returns : tie.Need-returns Inv-loop μ-loop
+unfolding trueGates
+returns c = counted-done (c .before .loop .inv) (c .loop-test .left)
+
+pub true-gates-spec : {M : Type 1} → statement M
+true-gates-spec =
+    tie.close
+    (tie.spec
+    Inv-loop
+    μ-loop
+    cast-gates
+    loop-holds
+    array-read-i
+    cast-i
+    array-read-n
+    cast-n
+    add-n
+    add-j
+    loop-less
+    loop-again
+    returns)

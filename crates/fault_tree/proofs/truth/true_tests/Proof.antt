@@ -1,0 +1,80 @@
+-- `fault_tree::truth::true_tests` meets its contract. The tests below j are counted (`Counted`).
+use Prim.Native.Nat.{ℕ, _-_}
+use native.Mathlib.Omega.{arith}
+use borrow.Author.Needs.{needs}
+use lib.ListN.{getD}
+use Rattle.lists.specs.Bits.{bit}
+use Rattle.lists.proofs.Sums.{Counted, counted-start, counted-more, counted-done}
+use Rattle.fault_tree.specs.Truth.{trueTests}
+use Rattle.fault_tree.proofs.truth.true_tests.Statement.{statement}
+use Rattle.fault_tree.proofs.truth.true_tests.Tie as tie
+
+abbrev Inv-loop : tie.InvT-loop
+Inv-loop x component mask tests n₀ j₀ n j = Counted (λ (j : ℕ). bit (getD mask j 0) (getD x (getD component j 0) 0)) tests j n
+
+abbrev μ-loop : tie.MeasureT-loop
+μ-loop x component mask tests n₀ j₀ n j = tests - j
+
+cast-tests : tie.Need-cast-tests Inv-loop μ-loop
+cast-tests c = search needs
+
+loop-holds : tie.Need-loop-holds Inv-loop μ-loop
+loop-holds c = counted-start
+
+array-read-c : tie.Need-array-read-c Inv-loop μ-loop
+array-read-c c = omega (arith, c .before .before .before .before .before .before .pre .0 .tests)
+
+cast-c : tie.Need-cast-c Inv-loop μ-loop
+cast-c c = search needs
+
+array-read-test-true : tie.Need-array-read-test-true Inv-loop μ-loop
+array-read-test-true c = omega (arith, c .before .before .before .before .before .before .pre .0 .tests)
+
+shared-slice-read-test-true : tie.Need-shared-slice-read-test-true Inv-loop μ-loop
+shared-slice-read-test-true c = c .before .before .before .before .before .before .before .pre .0 .component _ (c .before .loop-test .taken)
+
+test-true-requires : tie.Need-test-true-requires Inv-loop μ-loop
+test-true-requires c κs =
+    let start = c .before .before .before .before .before .before .before in
+    start .pre .1 .shifts _ (start .pre .0 .component _ (c .before .loop-test .taken))
+
+cast-n : tie.Need-cast-n Inv-loop μ-loop
+cast-n c = tt
+
+add-n : tie.Need-add-n Inv-loop μ-loop
+add-n c =
+    let more = counted-more (c .before .before .before .loop .inv) (c .before .before .loop-test .taken) (c .test-true .ensures) in
+    record { fits = omega (arith, more .most, more .inside, c .before .before .before .before .before .before .before .before .pre .0 .tests) }
+
+add-j : tie.Need-add-j Inv-loop μ-loop
+add-j c = omega arith
+
+loop-less : tie.Need-loop-less Inv-loop μ-loop
+loop-less c = omega arith
+
+loop-again : tie.Need-loop-again Inv-loop μ-loop
+loop-again c = counted-more (c .before .before .before .loop .inv) (c .before .before .loop-test .taken) (c .test-true .ensures)
+
+returns : tie.Need-returns Inv-loop μ-loop
+unfolding trueTests
+returns c = counted-done (c .before .loop .inv) (c .loop-test .left)
+
+pub true-tests-spec : {M : Type 1} → statement M
+true-tests-spec =
+    tie.close
+    (tie.spec
+    Inv-loop
+    μ-loop
+    cast-tests
+    loop-holds
+    array-read-c
+    cast-c
+    array-read-test-true
+    shared-slice-read-test-true
+    test-true-requires
+    cast-n
+    add-n
+    add-j
+    loop-less
+    loop-again
+    returns)
