@@ -17,6 +17,12 @@ pub cast-truth : (b : Bool) → boolByte b ≡ truth b
 cast-truth true = refl
 cast-truth false = refl
 
+-- no more are true than there are
+pub count-most : (f : ℕ → Bool) (n : ℕ) → countTrue f n ≤ n
+unfolding countTrue sum
+count-most f zero = omega arith
+count-most f (suc n) = omega (arith, count-most f n, truth-most (f n))
+
 -- the bits that truth values set make a number below the next power of two
 pub bits-below : (f : ℕ → Bool) (n : ℕ) → sum (λ (j : ℕ). truth (f j) * 2 ^ j) n < 2 ^ n
 unfolding sum
@@ -29,21 +35,18 @@ bits-below f (suc n) =
 pub record Counted (f : ℕ → Bool) (n j s : ℕ) : Type 0 where
   pub inside : j ≤ n
   pub counted : s ≡ countTrue f j
-  pub most : s ≤ j
 
 module _ {f : ℕ → Bool} {n : ℕ} where
   pub counted-start : Counted f n 0 0
   unfolding countTrue sum
-  counted-start = record { inside = omega arith; counted = refl; most = omega arith }
+  counted-start = record { inside = omega arith; counted = refl }
 
   pub counted-more : {j s : ℕ} {b : Bool} → Counted f n j s → j < n → b ≡ f j → Counted f n (j + 1) (s + boolByte b)
   unfolding countTrue sum
-  counted-more {j} {s} {b} c h e =
-      record {
-        inside = omega arith;
-        counted = rw (add-one, c .counted, cast-truth b, e) refl;
-        most = omega (arith, c .most, cast-truth b, truth-most b);
-      }
+  counted-more {j} {s} {b} c h e = record { inside = omega arith; counted = rw (add-one, c .counted, cast-truth b, e) refl }
+
+  pub counted-most : {j s : ℕ} → Counted f n j s → s ≤ n
+  counted-most {j} {s} c = omega (arith, c .inside, c .counted, count-most f j)
 
   pub counted-done : {j s : ℕ} → Counted f n j s → n ≤ j → s ≡ countTrue f n
   counted-done {j} {s} c h =

@@ -1,58 +1,52 @@
+
+-- `fault_tree::class::class_by` meets its contract. The bits of the loads below j are set (`Bits`).
+use Prim.Native.Nat.{ℕ, _-_}
+use native.Mathlib.Omega.{arith}
+use borrow.Author.Needs.{needs}
+use Rattle.fault_tree.proofs.Bits.{Bits, bits-start, bits-more, bits-done}
+use Rattle.fault_tree.specs.Classes.{classBy}
 use Rattle.fault_tree.proofs.class.class_by.Statement.{statement}
 use Rattle.fault_tree.proofs.class.class_by.Tie as tie
-use Rattle.fault_tree.proofs.class.class_by.Reads as reads
-use Rattle.fault_tree.proofs.class.class_by.Lts as lts
-use Rattle.fault_tree.proofs.class.lost.Reads as lost-reads
 
 abbrev Inv-loop : tie.InvT-loop
-Inv-loop truths n load loads class₀ j₀ class j = ?
+Inv-loop truths n load loads class₀ j₀ class j = Bits truths load loads j class
 
 abbrev μ-loop : tie.MeasureT-loop
-μ-loop truths n load loads class₀ j₀ class j = ?
+μ-loop truths n load loads class₀ j₀ class j = loads - j
 
--- src/class.rt:32:5
 loop-holds : tie.Need-loop-holds Inv-loop μ-loop
-loop-holds c = ?
+loop-holds c = bits-start
 
--- src/class.rt:33:17
 mul-l : tie.Need-mul-l Inv-loop μ-loop
-mul-l c = ?
+mul-l c = omega arith
 
--- src/class.rt:33:17
 array-copy-out-l : tie.Need-array-copy-out-l Inv-loop μ-loop
-array-copy-out-l c = ?
+array-copy-out-l c = omega (arith, c .before .before .pre)
 
--- src/class.rt:34:27
 lost-requires : tie.Need-lost-requires Inv-loop μ-loop
-lost-requires c κs = ?
+lost-requires c κs = tt
 
--- src/class.rt:34:27
 cast-class : tie.Need-cast-class Inv-loop μ-loop
-cast-class c = ?
+cast-class c = tt
 
--- src/class.rt:34:53
 cast-class-2 : tie.Need-cast-class-2 Inv-loop μ-loop
-cast-class-2 c = ?
+cast-class-2 c = record { fits = omega (arith, c .before .before .loop-test .taken, c .before .before .before .before .pre) }
 
--- src/class.rt:34:26
 shl-class : tie.Need-shl-class Inv-loop μ-loop
-shl-class c = ?
+shl-class c = omega (arith, c .before .before .loop-test .taken, c .before .before .before .before .pre)
 
--- src/class.rt:35:13
 add-j : tie.Need-add-j Inv-loop μ-loop
-add-j c = ?
+add-j c = omega arith
 
--- src/class.rt:32:5
 loop-less : tie.Need-loop-less Inv-loop μ-loop
-loop-less c = ?
+loop-less c = omega (arith, c .before .before .loop-test .taken)
 
--- src/class.rt:32:5
 loop-again : tie.Need-loop-again Inv-loop μ-loop
-loop-again c = ?
+loop-again c =
+    bits-more (c .before .before .before .loop .inv) (c .before .before .loop-test .taken) (c .before .before .before .before .pre) (c .lost .ensures)
 
--- src/class.rt:25:1
 returns : tie.Need-returns Inv-loop μ-loop
-returns c = ?
+returns c = bits-done (c .before .loop .inv) (c .loop-test .left)
 
 pub class-by-spec : {M : Type 1} → statement M
 class-by-spec =

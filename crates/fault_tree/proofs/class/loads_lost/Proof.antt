@@ -1,11 +1,10 @@
+-- `fault_tree::class::loads_lost` meets its contract: a class is a byte.
+use Rattle.fault_tree.proofs.Ones.{ones-lost}
 use Rattle.fault_tree.proofs.class.loads_lost.Statement.{statement}
 use Rattle.fault_tree.proofs.class.loads_lost.Tie as tie
-use Rattle.fault_tree.proofs.class.loads_lost.Reads as reads
-use Rattle.fault_tree.proofs.class.loads_lost.Lts as lts
 
--- src/class.rt:41:1
 returns : tie.Need-returns
-returns c = ?
+returns c = ones-lost (c .args .class) (c .fits .class .fits)
 
 pub loads-lost-spec : {M : Type 1} → statement M
 loads-lost-spec = tie.close (tie.spec returns)

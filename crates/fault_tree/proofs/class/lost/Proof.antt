@@ -1,28 +1,36 @@
+-- `fault_tree::class::lost` meets its contract: past the truths stands no true gate.
+use mathlib.Core.Path.{_≡_, refl}
+use mathlib.Core.Bool.{false}
+use native.Mathlib.Omega.{arith}
+use lib.ListN.{length, List·getD-eq-default}
+use borrow.Author.Tests.{eq-eqb, ne-eqb}
+use Rattle.rules.specs.Limits.{never}
+use Rattle.fault_tree.specs.Classes.{lost}
 use borrow.Author.Needs.{needs}
 use Rattle.fault_tree.proofs.class.lost.Statement.{statement}
 use Rattle.fault_tree.proofs.class.lost.Tie as tie
-use Rattle.fault_tree.proofs.class.lost.Reads as reads
-use Rattle.fault_tree.proofs.class.lost.Lts as lts
 
--- src/class.rt:15:9
 returns : tie.Need-returns
-returns c = ?
+unfolding lost
+returns c = rw (eq-eqb (c .before .before .args .l .gate) never (c .if1 .taken)) refl
 
--- src/class.rt:17:13
 cast-i : tie.Need-cast-i
 cast-i c = search needs
 
--- src/class.rt:19:16
 array-read-result : tie.Need-array-read-result
 array-read-result c = search needs
 
--- src/class.rt:19:9
 returns-2 : tie.Need-returns-2
-returns-2 c = ?
+unfolding lost
+returns-2 c = rw (ne-eqb (c .before .before .before .before .args .l .gate) never (c .before .before .if1 .left)) refl
 
--- src/class.rt:11:1
 returns-3 : tie.Need-returns-3
-returns-3 c = ?
+unfolding lost
+returns-3 c =
+    let start = c .before .before .before .before in
+    let long : length (start .args .t1) ≡ 32 = search needs in
+    let past = List·getD-eq-default (start .args .t1) false {n = start .args .l .gate} (omega (arith, long, c .if2 .left)) in
+    rw (ne-eqb (start .args .l .gate) never (c .before .before .if1 .left), past) refl
 
 pub lost-spec : {M : Type 1} → statement M
 lost-spec = tie.close (tie.spec returns cast-i array-read-result returns-2 returns-3)

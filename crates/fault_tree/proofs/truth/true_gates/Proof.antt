@@ -5,7 +5,7 @@ use mathlib.Core.Bool.{false}
 use native.Mathlib.Omega.{arith}
 use borrow.Author.Needs.{needs}
 use lib.ListN.{getD}
-use Rattle.lists.proofs.Sums.{Counted, counted-start, counted-more, counted-done}
+use Rattle.lists.proofs.Sums.{Counted, counted-start, counted-more, counted-most, counted-done}
 use Rattle.fault_tree.specs.Truth.{trueGates}
 use Rattle.fault_tree.proofs.truth.true_gates.Statement.{statement}
 use Rattle.fault_tree.proofs.truth.true_gates.Tie as tie
@@ -37,7 +37,7 @@ cast-n c = tt
 add-n : tie.Need-add-n Inv-loop μ-loop
 add-n c =
     let more = counted-more (c .before .loop .inv) (c .loop-test .taken) refl in
-    record { fits = omega (arith, more .most, more .inside, c .before .before .before .before .pre .0) }
+    record { fits = omega (arith, counted-most more, c .before .before .before .before .pre .0) }
 
 add-j : tie.Need-add-j Inv-loop μ-loop
 add-j c = omega arith

@@ -4,7 +4,7 @@ use native.Mathlib.Omega.{arith}
 use borrow.Author.Needs.{needs}
 use lib.ListN.{getD}
 use Rattle.lists.specs.Bits.{bit}
-use Rattle.lists.proofs.Sums.{Counted, counted-start, counted-more, counted-done}
+use Rattle.lists.proofs.Sums.{Counted, counted-start, counted-more, counted-most, counted-done}
 use Rattle.fault_tree.specs.Truth.{trueTests}
 use Rattle.fault_tree.proofs.truth.true_tests.Statement.{statement}
 use Rattle.fault_tree.proofs.truth.true_tests.Tie as tie
@@ -44,7 +44,7 @@ cast-n c = tt
 add-n : tie.Need-add-n Inv-loop μ-loop
 add-n c =
     let more = counted-more (c .before .before .before .loop .inv) (c .before .before .loop-test .taken) (c .test-true .ensures) in
-    record { fits = omega (arith, more .most, more .inside, c .before .before .before .before .before .before .before .before .pre .0 .tests) }
+    record { fits = omega (arith, counted-most more, c .before .before .before .before .before .before .before .before .pre .0 .tests) }
 
 add-j : tie.Need-add-j Inv-loop μ-loop
 add-j c = omega arith

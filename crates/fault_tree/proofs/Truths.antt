@@ -1,0 +1,40 @@
+-- What bounds the true inputs of a gate, and what carries the evaluation of the gates: the truths of those below i are set.
+use Prim.Native.Nat.{ℕ, _+_, _<_, _≤_}
+use mathlib.Core.Path.{_≡_, refl, ap, _∙_}
+use mathlib.Core.Bool.{Bool, false}
+use mathlib.Core.List.{List}
+use native.Mathlib.Numerals.{add-one}
+use native.Mathlib.Omega.{arith}
+use lib.ListN.{getD, replicate, set}
+use Rattle.lists.proofs.Sums.{count-most}
+use Rattle.study.specs.declared.Gate.{Gate}
+use Rattle.study.specs.Places.{noGate}
+use Rattle.fault_tree.specs.Truth.{testTrue, trueTests, trueGates, gateTrue, withTruth, gateTruths}
+
+-- no more inputs are true than there are
+pub tests-most : (g : Gate) (x : List ℕ) → trueTests g x ≤ g .tests
+unfolding trueTests
+tests-most g x = count-most (testTrue g x) (g .tests)
+
+pub gates-most : (g : Gate) (holds : ℕ → Bool) → trueGates g holds ≤ g .gates
+unfolding trueGates
+gates-most g holds = count-most (λ (j : ℕ). holds (getD (g .input) j 0)) (g .gates)
+
+pub record Evaluated (gates : List Gate) (x : List ℕ) (n i : ℕ) (truths : List Bool) : Type 0 where
+  pub inside : i ≤ n
+  pub made : truths ≡ gateTruths gates x i
+
+module _ {gates : List Gate} {x : List ℕ} {n : ℕ} where
+  pub evaluated-start : Evaluated gates x n 0 (replicate 32 false)
+  unfolding gateTruths
+  evaluated-start = record { inside = omega arith; made = refl }
+
+  pub evaluated-more : {i : ℕ} {truths : List Bool} {b : Bool} → Evaluated gates x n i truths → i < n
+      → b ≡ gateTrue (getD gates i noGate) x (λ (k : ℕ). getD truths k false) → Evaluated gates x n (i + 1) (set truths i b)
+  unfolding gateTruths withTruth
+  evaluated-more {i} {truths} {b} s h e = record { inside = omega arith; made = rw (add-one, e, s .made) refl }
+
+  pub evaluated-done : {i : ℕ} {truths : List Bool} → Evaluated gates x n i truths → n ≤ i → truths ≡ gateTruths gates x n
+  evaluated-done {i} {truths} s h =
+      let all : i ≡ n = omega (arith, s .inside) in
+      s .made ∙ ap (gateTruths gates x) all

@@ -1,0 +1,36 @@
+-- `fault_tree::truth::gate_true` meets its contract: the true inputs are counted by the callees.
+use Prim.Native.Nat.{ℕ}
+use mathlib.Core.Bool.{false}
+use mathlib.Core.Path.{refl}
+use native.Mathlib.Omega.{arith}
+use lib.ListN.{getD}
+use denote.Ref.{now}
+use Rattle.fault_tree.specs.Truth.{gateTrue}
+use Rattle.fault_tree.proofs.Truths.{tests-most, gates-most}
+use borrow.Author.Needs.{needs}
+use Rattle.fault_tree.proofs.truth.gate_true.Statement.{statement}
+use Rattle.fault_tree.proofs.truth.gate_true.Tie as tie
+
+cast-result : tie.Need-cast-result
+cast-result c = search needs
+
+true-tests-requires : tie.Need-true-tests-requires
+true-tests-requires c κs = search needs
+
+true-gates-requires : tie.Need-true-gates-requires
+true-gates-requires c κs = search needs
+
+add-result : tie.Need-add-result
+add-result c =
+    let start = c .before .before .before .before in
+    let tests = tests-most (start .args .g) (now (start .args .x)) in
+    let gates = gates-most (start .args .g) (λ (k : ℕ). getD (start .args .truths) k false) in
+    record { fits = omega (arith, c .before .true-tests .ensures, tests, start .pre .0 .tests, c .true-gates .ensures, gates, start .pre .0 .gates) }
+
+returns : tie.Need-returns
+unfolding gateTrue
+returns c = rw (c .before .true-tests .ensures, c .true-gates .ensures) refl
+
+pub gate-true-spec : {M : Type 1} → statement M
+gate-true-spec =
+    tie.close (tie.spec cast-result true-tests-requires true-gates-requires add-result returns)
