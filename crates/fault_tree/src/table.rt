@@ -3,21 +3,61 @@ use crate::class::class_by;
 use crate::truth::gate_truths;
 use joint_states::next_joint_state;
 use rules::COMPONENT_PLACES;
-use rules::GATE_PLACES;
 use rules::JOINT_STATE_PLACES;
-use rules::LOAD_PLACES;
-use study::Gate;
-use study::Load;
 use study::Study;
+use study::joint_states;
 use study::state_counts;
 ghost use mathlib.Core.Path.{_≡_};
+ghost use Rattle.joint_states.specs.JointStates.{JointState, numberOf};
+ghost use Rattle.study.specs.Joint.{stateCounts};
 ghost use Rattle.soundness.specs.Sound.{Sound};
-ghost use Rattle.fault_tree.specs.Classes.{classTable};
+ghost use Rattle.fault_tree.specs.Classes.{cleared, classTable};
+ghost use Rattle.fault_tree.specs.Reading.{allUp};
+
+// A class table with every place cleared.
+fn cleared_table() -> [u8; JOINT_STATE_PLACES]
+    ensures { λ r. ⌜ r ≡ cleared ⌝ }
+{
+    [0; JOINT_STATE_PLACES]
+}
+
+// Every component place up.
+fn all_up() -> [u8; COMPONENT_PLACES]
+    ensures { λ r. ⌜ r ≡ allUp ⌝ }
+{
+    [0; COMPONENT_PLACES]
+}
+
+// The class table of a sound study with these state counts, filled by joint state number; x is the joint state in which all are up, and is
+// moved on from there.
+fn fill_table(t: Study, counts: &[u8], x: &mut [u8]) -> [u8; JOINT_STATE_PLACES]
+    requires { ⌜ Sound t ⌝ }
+    requires { ⌜ now counts ≡ stateCounts t ⌝ }
+    requires { ⌜ JointState (now counts) (now x) ⌝ }
+    requires { ⌜ numberOf (now counts) (now x) ≡ 0 ⌝ }
+    ensures { λ r. ⌜ r ≡ classTable t ⌝ }
+{
+    let gate = t.gate;
+    let load = t.load;
+    let joint = joint_states(counts) as usize;
+    let mut table = cleared_table();
+    let mut k: usize = 0;
+    while k < joint {
+        table[k] = class_by(gate_truths(gate, t.gates, x), load, t.loads);
+        next_joint_state(counts, x);
+        k = k + 1;
+    }
+    table
+}
 
 // The class table of a sound study.
 pub fn class_table(t: Study) -> [u8; JOINT_STATE_PLACES]
     requires { ⌜ Sound t ⌝ }
     ensures { λ r. ⌜ r ≡ classTable t ⌝ }
 {
-    [0; JOINT_STATE_PLACES]
+    let component = t.component;
+    let n = t.components as usize;
+    let all = state_counts(component);
+    let mut x = all_up();
+    fill_table(t, &all[..n], &mut x[..n])
 }

@@ -1,1 +1,3 @@
+pub mod Checked
 pub mod Front
+pub mod Ranges

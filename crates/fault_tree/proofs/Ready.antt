@@ -1,0 +1,37 @@
+-- A sound study and its joint states can be read: its gates name components, lower gates and states that are there.
+use Prim.Native.Nat.{ℕ, _<_, _≤_}
+use mathlib.Core.Path.{_≡_}
+use mathlib.Core.List.{List}
+use native.Mathlib.Omega.{arith}
+use lib.ListN.{length, getD}
+use Rattle.rules.specs.Limits.{mostStates, mostComponents}
+use Rattle.joint_states.specs.JointStates.{JointState}
+use Rattle.study.specs.declared.Study.{Study}
+use Rattle.study.specs.Joint.{stateCounts}
+use Rattle.study.specs.Places.{gateAt}
+use Rattle.soundness.specs.Sound.{Sound}
+use Rattle.soundness.proofs.Ranges.{components-most, gates-most, counts-few, count-most, tests-most, gate-inputs-most, test-component, input-lower}
+use Rattle.fault_tree.specs.Reading.{States, Inputs}
+
+module _ (t : Study) (counts : List ℕ) (s : Sound t) (same : counts ≡ stateCounts t) where
+  few : length counts ≤ t .components
+  few = rw same (counts-few t s)
+
+  pub counts-inside : length counts ≤ mostComponents
+  counts-inside = omega (arith, few, components-most t s)
+
+  pub counts-small : (k : ℕ) → k < length counts → getD counts k 0 ≤ mostStates
+  counts-small k h = rw same (count-most t s k (omega (arith, few)))
+
+  module _ (x : List ℕ) (j : JointState counts x) where
+    pub states : States x
+    states = record { shifts = λ k h. omega (arith, j .below k (omega (arith, j .long)), counts-small k (omega (arith, j .long))) }
+
+    pub inputs : (i : ℕ) → i < t .gates → Inputs (length x) (gateAt t i)
+    inputs i h =
+        record {
+          tests = tests-most t s i h;
+          component = λ k less. rw (j .long, same) (test-component t s i h k less);
+          gates = gate-inputs-most t s i h;
+          input = λ k less. omega (arith, input-lower t s i h k less, gates-most t s);
+        }

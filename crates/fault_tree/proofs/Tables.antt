@@ -1,0 +1,80 @@
+-- What carries the filling of the class table: the classes of the joint states below k are set, and x is the joint state numbered k.
+use Prim.Native.Nat.{ℕ, suc, _+_, _%_, _<_, _≤_}
+use mathlib.Core.Path.{_≡_, refl, sym, ap, _∙_}
+use mathlib.Core.List.{List, [], _∷_, map}
+use native.Mathlib.Nat.{mod-eq-of-lt, zero-mod}
+use native.Mathlib.Numerals.{add-one}
+use native.Mathlib.Omega.{arith}
+use lib.ListN.{length, getD, drop, set, length-map, length-replicate, drop-of-length-le}
+use lib.Seq.{drop-cons}
+use Rattle.lists.specs.Product.{product}
+use Rattle.lists.specs.Rows.{put}
+use Rattle.lists.proofs.Maps.{getD-map-inside}
+use Rattle.lists.proofs.Puts.{Due, due-start, due-set, due-done}
+use Rattle.rules.specs.Limits.{mostJointStates}
+use Rattle.joint_states.specs.JointStates.{JointState, jointStates, numberOf}
+use Rattle.joint_states.proofs.Numbered.{number-below, length-jointStates, numbered}
+use Rattle.study.specs.declared.Study.{Study}
+use Rattle.study.specs.Joint.{stateCounts}
+use Rattle.soundness.specs.Sound.{Sound}
+use Rattle.soundness.proofs.Ranges.{joint-most}
+use Rattle.fault_tree.specs.Classes.{classOf, classes, cleared, classTable}
+
+pub classes-long : (t : Study) → length (classes t) ≡ product (stateCounts t)
+unfolding classes
+classes-long t = length-map (jointStates (stateCounts t)) (classOf t) ∙ length-jointStates (stateCounts t)
+
+-- the class of the joint state numbered k
+pub class-at : (t : Study) (counts x : List ℕ) → counts ≡ stateCounts t → JointState counts x → (k : ℕ) → numberOf counts x ≡ k → getD (classes t) k 0 ≡ classOf t x
+unfolding classes
+class-at t counts x same j k e =
+    let inside : k < length (jointStates counts) = omega (arith, e, number-below counts x j, length-jointStates counts) in
+    rw (sym same) (getD-map-inside (classOf t) (jointStates counts) k [] 0 inside ∙ ap (classOf t) (rw e at (numbered counts x j)))
+
+pub record Tabled (t : Study) (counts : List ℕ) (all k : ℕ) (x table : List ℕ) : Type 0 where
+  pub sound : Sound t
+  pub same : counts ≡ stateCounts t
+  pub joint : JointState counts x
+  pub number : numberOf counts x ≡ k % product counts
+  pub whole : all ≡ product counts
+  pub due : Due cleared 0 (classes t) table k (drop k (classes t))
+
+module _ {t : Study} {counts : List ℕ} {all : ℕ} where
+  pub tabled-start : {x table : List ℕ} → Sound t → counts ≡ stateCounts t → JointState counts x → numberOf counts x ≡ 0
+      → all ≡ product counts → table ≡ cleared → Tabled t counts all 0 x table
+  unfolding cleared
+  tabled-start {x} {table} s same j number whole e =
+      record {
+        sound = s;
+        same = same;
+        joint = j;
+        number = number ∙ sym (zero-mod (product counts));
+        whole = whole;
+        due = rw e (due-start (omega (arith, classes-long t, joint-most t s, length-replicate {A = ℕ} mostJointStates 0)));
+      }
+
+  -- the class of x is set, and x moves on
+  pub tabled-more : {k class : ℕ} {x y table : List ℕ} → Tabled t counts all k x table → k < all → class ≡ classOf t x
+      → JointState counts y → numberOf counts y ≡ (numberOf counts x + 1) % product counts → Tabled t counts all (k + 1) y (set table k class)
+  tabled-more {k} {class} {x} {y} {table} w h e j moved =
+      let at : numberOf counts x ≡ k = w .number ∙ mod-eq-of-lt (rw (w .whole) at h) in
+      let here : getD (classes t) k 0 ≡ class = class-at t counts x (w .same) (w .joint) k at ∙ sym e in
+      let inside : k < length (classes t) = omega (arith, h, w .whole, classes-long t, ap product (w .same)) in
+      let next : drop k (classes t) ≡ class ∷ drop (k + 1) (classes t) = rw (here, sym (add-one k)) at (drop-cons (classes t) k 0 inside) in
+      record {
+        sound = w .sound;
+        same = w .same;
+        joint = j;
+        number = moved ∙ ap (λ (n : ℕ). (n + 1) % product counts) at;
+        whole = w .whole;
+        due = due-set (rw next at (w .due));
+      }
+
+  pub tabled-inside : {k : ℕ} {x table : List ℕ} → Tabled t counts all k x table → k < all → k < mostJointStates
+  tabled-inside {k} w h = omega (arith, h, w .whole, ap product (w .same), joint-most t (w .sound))
+
+  pub tabled-done : {k : ℕ} {x table : List ℕ} → Tabled t counts all k x table → all ≤ k → table ≡ classTable t
+  unfolding classTable
+  tabled-done {k} {x} {table} w h =
+      let none = drop-of-length-le (classes t) {i = k} (omega (arith, classes-long t, h, w .whole, ap product (w .same))) in
+      due-done (rw none at (w .due))

@@ -1,0 +1,77 @@
+-- What the rules of a sound study tell of its numbers: how many records there are, of how many states, and what a gate's inputs name.
+use Prim.Native.Nat.{ℕ, _<_, _≤_}
+use mathlib.Core.Path.{_≡_, refl, _∙_}
+use mathlib.Core.Bool.{Bool, true, false}
+use native.Mathlib.Nat.{min-le-left}
+use native.Mathlib.Omega.{arith}
+use lib.Dec.{leb, ltb, eqb}
+use lib.ListN.{length, getD, length-take, length-map, List·getD-map}
+use lib.Seq.{getD-take, length-take-le}
+use borrow.Author.Tests.{leb-false, ltb-false, eqb-true}
+use Rattle.lists.specs.Product.{product}
+use Rattle.rules.specs.Breach.{given}
+use Rattle.rules.specs.Limits.{mostComponents, mostGates, mostLoads, fewestStates, mostStates, mostJointStates, mostTests, mostGateInputs}
+use Rattle.rules.specs.Table.{inputsFault}
+use Rattle.rules.proofs.Kept.{refuse-kept, range-kept}
+use Rattle.study.specs.declared.Component.{Component}
+use Rattle.study.specs.declared.Gate.{Gate}
+use Rattle.study.specs.declared.Study.{Study}
+use Rattle.study.specs.Joint.{states, stateCounts}
+use Rattle.study.specs.Places.{componentAt, gateAt}
+use Rattle.study.specs.Zero.{zeroComponent}
+use Rattle.soundness.specs.Sound.{Sound, SoundGate}
+
+-- a count of inputs that is in use, or 0
+inputs-most : (most n : ℕ) → given 0 n (inputsFault most n) ≡ 0 → n ≤ most
+unfolding given
+inputs-most most n e = go (eqb n 0) refl
+  where
+    go : (b : Bool) → eqb n 0 ≡ b → n ≤ most
+    go true none = omega (arith, eqb-true n 0 none)
+    go false some = range-kept 7 1 most n (rw some at e) .most
+
+module _ (t : Study) (s : Sound t) where
+  pub components-most : t .components ≤ mostComponents
+  components-most = range-kept 1 1 12 (t .components) (s .components) .most
+
+  pub gates-most : t .gates ≤ mostGates
+  gates-most = range-kept 1 1 32 (t .gates) (s .gates) .most
+
+  pub loads-most : t .loads ≤ mostLoads
+  loads-most = range-kept 1 1 8 (t .loads) (s .loads) .most
+
+  pub joint-most : product (stateCounts t) ≤ mostJointStates
+  joint-most = ltb-false mostJointStates (product (stateCounts t)) (refuse-kept 6 (ltb mostJointStates (product (stateCounts t))) (s .width))
+
+  pub counts-few : length (stateCounts t) ≤ t .components
+  counts-few = rw (length-take (t .components) (states (t .component))) (min-le-left (t .components) (length (states (t .component))))
+
+  -- every value of the struct has twelve component places
+  pub counts-long : length (t .component) ≡ mostComponents → length (stateCounts t) ≡ t .components
+  counts-long e =
+      length-take-le (t .components) (states (t .component)) (omega (arith, e, components-most, length-map (t .component) (λ (c : Component). c .states)))
+
+  count-at : (k : ℕ) → k < t .components → getD (stateCounts t) k 0 ≡ componentAt t k .states
+  count-at k h = getD-take (t .components) (states (t .component)) k 0 h ∙ List·getD-map (λ (c : Component). c .states) (t .component) k zeroComponent
+
+  pub count-least : (k : ℕ) → k < t .components → fewestStates ≤ getD (stateCounts t) k 0
+  count-least k h = rw (count-at k h) (range-kept 3 2 4 (componentAt t k .states) (s .component k h .states) .least)
+
+  pub count-most : (k : ℕ) → k < t .components → getD (stateCounts t) k 0 ≤ mostStates
+  count-most k h = rw (count-at k h) (range-kept 3 2 4 (componentAt t k .states) (s .component k h .states) .most)
+
+  module _ (i : ℕ) (h : i < t .gates) where
+    pub tests-most : gateAt t i .tests ≤ mostTests
+    tests-most = inputs-most mostTests (gateAt t i .tests) (s .gate i h .tests)
+
+    pub gate-inputs-most : gateAt t i .gates ≤ mostGateInputs
+    gate-inputs-most = inputs-most mostGateInputs (gateAt t i .gates) (s .gate i h .gates)
+
+    pub test-component : (j : ℕ) → j < gateAt t i .tests → getD (gateAt t i .component) j 0 < length (stateCounts t)
+    test-component j less =
+        leb-false (length (stateCounts t)) (getD (gateAt t i .component) j 0)
+        (refuse-kept 8 (leb (length (stateCounts t)) (getD (gateAt t i .component) j 0)) (s .gate i h .component j less))
+
+    pub input-lower : (j : ℕ) → j < gateAt t i .gates → getD (gateAt t i .input) j 0 < i
+    input-lower j less =
+        leb-false i (getD (gateAt t i .input) j 0) (refuse-kept 10 (leb i (getD (gateAt t i .input) j 0)) (s .gate i h .input j less))
