@@ -1,17 +1,19 @@
 -- A sound study and its joint states can be read: its gates name components, lower gates and states that are there.
-use Prim.Native.Nat.{ℕ, _<_, _≤_}
-use mathlib.Core.Path.{_≡_}
+use Prim.Native.Nat.{ℕ, zero, suc, _<_, _≤_}
+use mathlib.Core.Path.{_≡_, refl, sym, _∙_}
 use mathlib.Core.List.{List}
 use native.Mathlib.Omega.{arith}
-use lib.ListN.{length, getD}
+use lib.ListN.{length, getD, take, replicate}
+use lib.Seq.{length-take-le}
 use Rattle.rules.specs.Limits.{mostStates, mostComponents}
-use Rattle.joint_states.specs.JointStates.{JointState}
+use Rattle.joint_states.specs.JointStates.{JointState, numberOf}
+use Rattle.joint_states.proofs.Numbered.{number-up}
 use Rattle.study.specs.declared.Study.{Study}
 use Rattle.study.specs.Joint.{stateCounts}
 use Rattle.study.specs.Places.{gateAt}
 use Rattle.soundness.specs.Sound.{Sound}
-use Rattle.soundness.proofs.Ranges.{components-most, gates-most, counts-few, count-most, tests-most, gate-inputs-most, test-component, input-lower}
-use Rattle.fault_tree.specs.Reading.{States, Inputs}
+use Rattle.soundness.proofs.Ranges.{components-most, gates-most, counts-few, counts-long, count-least, count-most, tests-most, gate-inputs-most, test-component, input-lower}
+use Rattle.fault_tree.specs.Reading.{States, Inputs, allUp}
 
 module _ (t : Study) (counts : List ℕ) (s : Sound t) (same : counts ≡ stateCounts t) where
   few : length counts ≤ t .components
@@ -35,3 +37,30 @@ module _ (t : Study) (counts : List ℕ) (s : Sound t) (same : counts ≡ stateC
           gates = gate-inputs-most t s i h;
           input = λ k less. omega (arith, input-lower t s i h k less, gates-most t s);
         }
+
+-- ---- all components up
+
+zeros : (m n k : ℕ) → _≡_ {A = ℕ} (getD (take n (replicate m 0)) k 0) 0
+zeros zero zero k = refl
+zeros zero (suc n) k = refl
+zeros (suc m) zero k = refl
+zeros (suc m) (suc n) zero = refl
+zeros (suc m) (suc n) (suc k) = zeros m n k
+
+module _ (t : Study) (s : Sound t) (twelve : length (t .component) ≡ mostComponents) where
+  pub up-long : length (take (t .components) allUp) ≡ t .components
+  unfolding allUp
+  up-long = length-take-le (t .components) allUp (components-most t s)
+
+  pub up-joint : JointState (stateCounts t) (take (t .components) allUp)
+  unfolding allUp
+  up-joint =
+      let long = counts-long t s twelve in
+      record {
+        long = up-long ∙ sym long;
+        below = λ k h. rw (zeros mostComponents (t .components) k) (omega (arith, count-least t s k (omega (arith, long))));
+      }
+
+  pub up-number : numberOf (stateCounts t) (take (t .components) allUp) ≡ 0
+  unfolding allUp
+  up-number = number-up (stateCounts t) (take (t .components) allUp) (zeros mostComponents (t .components))

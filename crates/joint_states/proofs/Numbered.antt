@@ -66,6 +66,13 @@ with-number (c ∷ cs) k h =
       number = ap (λ (r : ℕ). k / m * m + r) (rest .number) ∙ div-add-mod' k m;
     }
 
+-- where all are up
+pub number-up : (counts x : List ℕ) → ((k : ℕ) → getD x k 0 ≡ 0) → numberOf counts x ≡ 0
+unfolding numberOf
+number-up [] x up = refl
+number-up (c ∷ cs) [] up = refl
+number-up (c ∷ cs) (s ∷ x) up = rw (up 0, zero-mul, zero-add) (number-up cs x (λ k. up (suc k)))
+
 -- ---- the list of all
 
 module _ (mark : ℕ → ℕ) (rows : ℕ → List (List ℕ)) (m : ℕ) (long : (s : ℕ) → length (rows s) ≡ m) where
