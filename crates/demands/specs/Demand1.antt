@@ -1,9 +1,10 @@
 -- Demand 1, refusals: what is refused and what is not, over the definitions that the contracts of opening, the check and the edits cite.
-use Prim.Native.Nat.{ℕ}
+use Prim.Native.Nat.{ℕ, _≤_}
 use mathlib.Core.Path.{_≡_}
 use mathlib.Core.Bool.{true, false}
 use mathlib.Core.List.{List, [], _++_}
-use lib.ListN.{length}
+use lib.ListN.{length, getD}
+use Rattle.lists.specs.Rows.{joined}
 use Rattle.rules.specs.Limits.{mostComponents, mostLoads}
 use Rattle.study.specs.declared.Outcome.the-variants.{Done, Refused}
 use Rattle.study.specs.declared.Study.{Study}
@@ -11,7 +12,8 @@ use Rattle.study.specs.Zero.{zeroStudy}
 use Rattle.opening.specs.Opening.{opened}
 use Rattle.soundness.specs.Sound.{Sound}
 use Rattle.soundness.specs.Check.{sound}
-use Rattle.planning.specs.Answers.{refusalOf}
+use Rattle.planning.specs.Answers.{refusalOf, listRefusal}
+use Rattle.planning.specs.Listing.{pathList, listFault, pathsListed, bufferListed}
 use Rattle.demands.specs.Edits.{Edit, edit, breach, after, tableOf, tableAfter, othersOf}
 
 -- The check for 16 says of any value of the struct whether it is sound.
@@ -54,3 +56,9 @@ pub record Shaped (t : Study) : Type 0 where
 pub record EditFields : Type 0 where
   pub fields : (es : List Edit) (t : Study) → Shaped t → tableOf (after es t) ≡ tableAfter es t (tableOf t)
   pub others : (es : List Edit) (t : Study) → othersOf (after es t) ≡ othersOf t
+
+-- A listing is refused by the first breach of its list, and then leaves the lent buffer as it was; otherwise nothing behind the entries changes.
+pub record ListRefused : Type 0 where
+  pub number : (t : Study) (buffer : List ℕ) → listRefusal (pathsListed t buffer) ≡ listFault t (length buffer)
+  pub kept : (t : Study) (buffer : List ℕ) → (listFault t (length buffer) ≡ 0 → ⊥) → bufferListed t buffer ≡ buffer
+  pub behind : (t : Study) (buffer : List ℕ) (k : ℕ) → length (joined (pathList t)) ≤ k → getD (bufferListed t buffer) k 0 ≡ getD buffer k 0

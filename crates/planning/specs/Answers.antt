@@ -2,7 +2,13 @@
 use Prim.Native.Nat.{ℕ}
 use Rattle.study.specs.declared.Outcome.{Outcome}
 use Rattle.study.specs.declared.Outcome.the-variants.{Done, Refused}
+use Rattle.planning.specs.declared.listing.Listing.{Listing}
+use Rattle.planning.specs.declared.listing.Listing.the-variants.{Listed, Refused as NotListed}
 
 abbrev pub refusalOf : Outcome → ℕ
 refusalOf Done = 0
 refusalOf (Refused n) = n
+
+abbrev pub listRefusal : Listing → ℕ
+listRefusal (Listed count) = 0
+listRefusal (NotListed n) = n

@@ -1,10 +1,15 @@
 // The calls of the planning package. None asks anything of its caller: what is wrong is refused, with the number of the first breach met, and
 // nothing that was lent or handed in is changed then.
 mod edits;
+mod listing;
 
 pub use edits::set_customers;
 pub use edits::set_minutes;
 pub use edits::set_probabilities;
+pub use event_tree::PathCount;
+pub use fault_tree::loads_lost;
+pub use listing::Listing;
+pub use listing::list_paths;
 use study::StudyAnswer;
 ghost use mathlib.Core.Path.{_≡_};
 ghost use Rattle.opening.specs.Opening.{opened};

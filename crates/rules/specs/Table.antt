@@ -76,3 +76,7 @@ unusedFault value = refuse 16 (ltb 0 value)
 -- 17 no item: a call names a component or load that is not in the study
 abbrev pub itemFault : ℕ → ℕ → ℕ
 itemFault count item = refuse 17 (leb count item)
+
+-- 18 no room: a lent buffer or slice is shorter than needed
+abbrev pub roomFault : ℕ → ℕ → ℕ
+roomFault need room = refuse 18 (ltb room need)

@@ -34,6 +34,7 @@ pub use table::mask_fault;
 pub use table::no_component_fault;
 pub use table::no_gate_fault;
 pub use table::no_state_fault;
+pub use table::room_fault;
 pub use table::size_fault;
 pub use table::states_fault;
 pub use table::stray_fault;

@@ -7,7 +7,7 @@ use crate::limits::MOST_STATES;
 ghost use mathlib.Core.Path.{_≡_};
 ghost use Rattle.rules.specs.Table.{countFault, strayFault, statesFault, noStateFault, sumFault, widthFault, inputsFault};
 ghost use Rattle.rules.specs.Table.{noComponentFault, maskFault, aheadFault, thresholdFault, noGateFault, sizeFault, leftFault};
-ghost use Rattle.rules.specs.Table.{unsoundFault, unusedFault, itemFault};
+ghost use Rattle.rules.specs.Table.{unsoundFault, unusedFault, itemFault, roomFault};
 
 // 2 counts
 pub fn count_fault(most: u8, n: u8) -> u8
@@ -129,4 +129,11 @@ pub fn item_fault(count: u8, item: usize) -> u8
     ensures { λ r. ⌜ r ≡ itemFault count item ⌝ }
 {
     refuse(17, count as usize <= item)
+}
+
+// 18 no room
+pub fn room_fault(need: usize, room: usize) -> u8
+    ensures { λ r. ⌜ r ≡ roomFault need room ⌝ }
+{
+    refuse(18, room < need)
 }
