@@ -34,7 +34,7 @@ module _ {d₀ : List ℕ} {at : ℕ} {f : Front} {class : ℕ} where
   pub written-more : {d : List ℕ} {i : ℕ} → Written d₀ at f class d i → i < f .size → Written d₀ at f class (set d (at + i) (getD (f .marks) i 0)) (i + 1)
   written-more {d} {i} w h =
       let next : drop i (marksOf f) ≡ getD (f .marks) i 0 ∷ drop (i + 1) (marksOf f) =
-          rw (getD-take (f .size) (f .marks) i 0 h, sym (add-one i)) at (drop-cons (marksOf f) i 0 (omega (arith, long f (w .marked)))) in
+      rw (getD-take (f .size) (f .marks) i 0 h, sym (add-one i)) at (drop-cons (marksOf f) i 0 (omega (arith, long f (w .marked)))) in
       let due = rw next at (w .due) in
       record {
         inside = omega arith;

@@ -5,8 +5,8 @@ use mathlib.Core.List.{List, [], _∷_, map}
 use native.Mathlib.Nat.{mod-eq-of-lt, zero-mod}
 use native.Mathlib.Numerals.{add-one}
 use native.Mathlib.Omega.{arith}
-use lib.ListN.{length, getD, drop, set, length-map, length-replicate, drop-of-length-le}
-use lib.Seq.{drop-cons}
+use lib.ListN.{length, getD, take, drop, set, length-map, length-replicate, drop-of-length-le}
+use lib.Seq.{drop-cons, take-at}
 use Rattle.lists.specs.Product.{product}
 use Rattle.lists.specs.Rows.{put}
 use Rattle.lists.proofs.Maps.{getD-map-inside}
@@ -30,6 +30,11 @@ unfolding classes
 class-at t counts x same j k e =
     let inside : k < length (jointStates counts) = omega (arith, e, number-below counts x j, length-jointStates counts) in
     rw (sym same) (getD-map-inside (classOf t) (jointStates counts) k [] 0 inside ∙ ap (classOf t) (rw e at (numbered counts x j)))
+
+-- the table holds the classes in front
+pub table-front : (t : Study) → take (product (stateCounts t)) (classTable t) ≡ classes t
+unfolding classTable put
+table-front t = take-at (classes t) (drop (0 + length (classes t)) cleared) (product (stateCounts t)) (classes-long t)
 
 pub record Tabled (t : Study) (counts : List ℕ) (all k : ℕ) (x table : List ℕ) : Type 0 where
   pub sound : Sound t

@@ -1,6 +1,7 @@
 pub mod Elements
 pub mod Filled
 pub mod Filling
+pub mod Joined
 pub mod Maps
 pub mod Products
 pub mod Puts

@@ -35,10 +35,10 @@ put-put d at x y h =
     let rest = drop (at + length x) d in
     let begin : take (at + length x) (front ++ rest) ≡ front = take-at front rest (at + length x) long in
     let behind : drop (at + length x + length y) (front ++ rest) ≡ drop (at + length (x ++ y)) d =
-        ap (λ (n : ℕ). drop (n + length y) (front ++ rest)) (sym long)
-        ∙ drop-append-add front rest (length y)
-        ∙ drop-drop (length y) (at + length x) d
-        ∙ ap (λ (n : ℕ). drop n d) (add-assoc at (length x) (length y) ∙ ap (λ (n : ℕ). at + n) (sym (length-append x y))) in
+    ap (λ (n : ℕ). drop (n + length y) (front ++ rest)) (sym long)
+    ∙ drop-append-add front rest (length y)
+    ∙ drop-drop (length y) (at + length x) d
+    ∙ ap (λ (n : ℕ). drop n d) (add-assoc at (length x) (length y) ∙ ap (λ (n : ℕ). at + n) (sym (length-append x y))) in
     ap (λ (l : List ℕ). l ++ y ++ drop (at + length x + length y) (front ++ rest)) begin
     ∙ ap (λ (l : List ℕ). front ++ y ++ l) behind
     ∙ ap (λ (l : List ℕ). l ++ drop (at + length (x ++ y)) d) (append-assoc (take at d) x y)

@@ -63,8 +63,7 @@ module _ (t : ℕ) where
   count-paths-requires c κs =
       let way = c .before .before .before .loop .inv .fork in
       let start = c .before .before .before .before .before .before .before .before .before in
-      let taken = c .before .if2 .taken in
-      (
+      let taken = c .before .if2 .taken in (
         omega (arith, fork-fewer way, start .pre .0),
         (fork-block way _ taken (c .part .ensures), omega (arith, fork-smaller way _ taken (c .part .ensures), start .pre .1 .1)),
       )

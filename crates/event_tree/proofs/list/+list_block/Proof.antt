@@ -53,7 +53,7 @@ module _ (t : ℕ) where
       let start = c .before .before .before .before .before .before in
       let twelve : length (start .args .front .marks) ≡ 12 = search needs in
       let long =
-          leaf-long (start .args .counts .now) (start .args .block .now) (start .args .front) (c .before .before .if1 .taken) (omega (arith, twelve, start .pre .1 .1 .0)) in
+      leaf-long (start .args .counts .now) (start .args .block .now) (start .args .front) (c .before .before .if1 .taken) (omega (arith, twelve, start .pre .1 .1 .0)) in
       (omega (arith, start .pre .1 .1 .0), omega (arith, start .pre .1 .1 .1, long))
 
   same-length : list-block-lts.Need-same-length (claims t) (at t) list-block.Post Inv-loop μ-loop
@@ -103,8 +103,7 @@ module _ (t : ℕ) where
   list-block-requires c κs =
       let listed = c .before .before .before .before .before .before .loop .inv in
       let marked = c .before .before .with-mark .ensures in
-      let way = to-way (c .before .before .before .before .if2 .taken) (c .before .before .before .mark .ensures) (marked .1) (c .before .part .ensures) in
-      (
+      let way = to-way (c .before .before .before .before .if2 .taken) (c .before .before .before .mark .ensures) (marked .1) (c .before .part .ensures) in (
         omega (arith, fork-fewer (listed .fork), c .before .before .before .before .before .before .before .before .before .before .before .before .before .pre .0),
         (
           fork-block (listed .fork) _ (way .inside) (way .parted),

@@ -1,4 +1,3 @@
-
 -- `fault_tree::class::class_by` meets its contract. The bits of the loads below j are set (`Bits`).
 use Prim.Native.Nat.{ℕ, _-_}
 use native.Mathlib.Omega.{arith}

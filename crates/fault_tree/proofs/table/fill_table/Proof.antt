@@ -37,8 +37,7 @@ loop-holds c =
 
 gate-truths-requires : tie.Need-gate-truths-requires Inv-loop μ-loop
 gate-truths-requires c κs =
-    let tabled = c .before .before .loop .inv in
-    (
+    let tabled = c .before .before .loop .inv in (
       gates-most _ (tabled .sound),
       (inputs _ _ (tabled .sound) (tabled .same) _ (tabled .joint), states _ _ (tabled .sound) (tabled .same) _ (tabled .joint)),
     )
