@@ -10,9 +10,9 @@ use lib.ListN.{length, length-set}
 use lib.Seq.{getD-set-other, map-set-same}
 use borrow.Author.Tests.{eqb-true, eqb-false}
 use Rattle.lists.proofs.Sets.{set-keeps, set-column, set-column-kept}
-use Rattle.rules.specs.Limits.{mostComponents, mostLoads, mostCustomers, mostMinutes}
+use Rattle.rules.specs.Limits.{mostCustomers, mostMinutes}
 use Rattle.rules.specs.Table.{sizeFault}
-use Rattle.rules.proofs.Kept.{list-kept, range-kept}
+use Rattle.rules.proofs.Kept.{list-kept}
 use Rattle.study.specs.declared.Component.{Component}
 use Rattle.study.specs.declared.Load.{Load}
 use Rattle.study.specs.declared.Outcome.the-variants.{Done, Refused}
@@ -26,10 +26,10 @@ use Rattle.soundness.specs.Sound.{SoundComponent, SoundGate, SoundLoad, Sound}
 use Rattle.soundness.specs.Check.{probabilitiesFault}
 use Rattle.planning.specs.Answers.{refusalOf}
 use Rattle.planning.specs.Edits.{edited, componentEditFault, probabilitiesSet, loadEditFault, customersSet, minutesSet}
+use Rattle.soundness.proofs.Ranges.{components-most, loads-most}
 use Rattle.planning.proofs.Edited.{present, edited-done, edited-refused}
 use Rattle.demands.specs.Demand1.{EditRefused, EditedSound, EditFields, Shaped}
 use Rattle.demands.specs.Edits.{Edit, probabilities, customers, minutes, edit, breach, after, tableOf, write, tableAfter, othersOf}
-use Rattle.demands.proofs.Checked.{check-decides}
 
 -- ---- the answer of an edit
 
@@ -81,7 +81,7 @@ component-edit t i p1 p2 p3 none =
     let unsound = list-kept _ _ none in
     let missing = list-kept _ _ (unsound .right) in
     let item = present t (t .components) i (unsound .left) (missing .left) in
-    record { is-sound = check-decides .refuses t (item .is-sound); below = item .below; rules = list-kept _ _ (missing .right) .left }
+    record { is-sound = item .is-sound; below = item .below; rules = list-kept _ _ (missing .right) .left }
 
 record LoadEdit (t : Study) (j most n : ℕ) : Type 0 where
   is-sound : Sound t
@@ -94,7 +94,7 @@ load-edit t j most n none =
     let unsound = list-kept _ _ none in
     let missing = list-kept _ _ (unsound .right) in
     let item = present t (t .loads) j (unsound .left) (missing .left) in
-    record { is-sound = check-decides .refuses t (item .is-sound); below = item .below; size = list-kept _ _ (missing .right) .left }
+    record { is-sound = item .is-sound; below = item .below; size = list-kept _ _ (missing .right) .left }
 
 -- a component with probabilities that keep their rules
 new-sound : (c : Component) (p1 p2 p3 : ℕ) → SoundComponent c → probabilitiesFault (c .states) p1 p2 p3 ≡ 0 → SoundComponent (withProbabilities p1 p2 p3 c)
@@ -161,12 +161,12 @@ edited-sound e t done =
 component-room : (t : Study) (i p1 p2 p3 : ℕ) → Shaped t → componentEditFault t i p1 p2 p3 ≡ 0 → i < length (t .component)
 component-room t i p1 p2 p3 shaped none =
     let e = component-edit t i p1 p2 p3 none in
-    omega (arith, shaped .components, e .below, range-kept 1 1 mostComponents (t .components) (e .is-sound .components) .most)
+    omega (arith, shaped .components, e .below, components-most t (e .is-sound))
 
 load-room : (t : Study) (j most n : ℕ) → Shaped t → loadEditFault t j most n ≡ 0 → j < length (t .load)
 load-room t j most n shaped none =
     let e = load-edit t j most n none in
-    omega (arith, shaped .loads, e .below, range-kept 1 1 mostLoads (t .loads) (e .is-sound .loads) .most)
+    omega (arith, shaped .loads, e .below, loads-most t (e .is-sound))
 
 changed-table : (e : Edit) (t : Study) → Shaped t → breach e t ≡ 0 → tableOf (changed e t) ≡ write e (tableOf t)
 changed-table (probabilities i p1 p2 p3) t shaped none =

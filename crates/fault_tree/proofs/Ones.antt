@@ -1,5 +1,5 @@
 -- The count of ones of a class is the number of its loads' bits that stand.
-use Prim.Native.Nat.{ℕ, zero, suc, _+_, _/_, _%_, _^_, _<_}
+use Prim.Native.Nat.{ℕ, zero, suc, _+_, _/_, _^_, _<_}
 use mathlib.Core.Path.{_≡_, refl, sym, ap, _∙_}
 use native.Mathlib.Nat.{add-zero, zero-add, div-one, pow-suc, div-eq-of-lt, div-div-eq-div-mul}
 use native.Mathlib.Omega.{arith}

@@ -1,5 +1,5 @@
 // Joint states: a state for each component, in order, component 0 varying slowest. Not for callers from outside: those call `planning`.
-ghost use Prim.Native.Nat.{ℕ, _+_, _%_};
+ghost use Prim.Native.Nat.{_+_, _%_};
 ghost use mathlib.Core.Path.{_≡_};
 ghost use Rattle.lists.specs.Product.{product};
 ghost use Rattle.joint_states.specs.JointStates.{JointState, numberOf};

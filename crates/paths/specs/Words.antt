@@ -1,5 +1,5 @@
 -- The words in which document 01 speaks of a list of paths. An entry has a mark for each of n components, and ends with the path's class.
-use Prim.Native.Nat.{ℕ, _<_, _≤_}
+use Prim.Native.Nat.{ℕ, _<_}
 use mathlib.Core.Path.{_≡_}
 use mathlib.Core.Bool.{Bool, true, _&&_, _||_, cond}
 use mathlib.Core.List.{List, [], _∷_}

@@ -1,14 +1,12 @@
 -- What a listing answers and leaves in the buffer, where a breach stands and where none does; and that a sound study's classes are a block.
-use Prim.Native.Nat.{ℕ, _+_, _*_, _<_, _≤_}
-use mathlib.Core.Path.{_≡_, refl, sym, ap, _∙_}
-use mathlib.Core.Bool.{true, not}
-use mathlib.Core.List.{List, []}
+use Prim.Native.Nat.{ℕ, _+_, _*_, _≤_}
+use mathlib.Core.Path.{_≡_, refl, sym}
+use mathlib.Core.List.{List}
 use native.Mathlib.Nat.{mul-le-mul}
 use native.Mathlib.Omega.{arith}
 use lib.Dec.{ltb}
 use lib.ListN.{length}
-use borrow.Author.Tests.{eq-eqb, ne-eqb, ltb-false, not-false}
-use Rattle.lists.specs.Product.{product}
+use borrow.Author.Tests.{eq-eqb, ne-eqb, ltb-false}
 use Rattle.lists.specs.Rows.{put, joined}
 use Rattle.lists.proofs.Joined.{joined-long}
 use Rattle.rules.specs.Breach.{first, firstBreach}
@@ -23,7 +21,6 @@ use Rattle.study.specs.declared.Study.{Study}
 use Rattle.study.specs.Joint.{stateCounts}
 use Rattle.soundness.specs.Check.{sound}
 use Rattle.soundness.specs.Sound.{Sound}
-use Rattle.soundness.proofs.Checked.{check-refuses}
 use Rattle.soundness.proofs.Ranges.{counts-few, count-least, count-most}
 use Rattle.fault_tree.specs.Classes.{classes}
 use Rattle.fault_tree.proofs.Tables.{classes-long}
@@ -92,6 +89,3 @@ list-unsound t buffer fault e some =
 pub list-room : (t : Study) (room : ℕ) → unsoundFault (sound t) ≡ 0 → listFault t room ≡ roomFault (length (joined (pathList t))) room
 unfolding listFault firstBreach first
 list-room t room none = rw (eq-eqb (unsoundFault (sound t)) 0 none) (first-last (roomFault (length (joined (pathList t))) room))
-
-pub listing-sound : (t : Study) → unsoundFault (sound t) ≡ 0 → Sound t
-listing-sound t none = check-refuses t (not-false (sound t) (refuse-kept 15 (not (sound t)) none))

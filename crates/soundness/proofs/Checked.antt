@@ -2,13 +2,14 @@
 -- list is none exactly when each is none.
 use Prim.Native.Nat.{ℕ, _<_, _≤_}
 use mathlib.Core.Path.{_≡_, refl, ap}
-use mathlib.Core.Bool.{Bool, true, false}
+use mathlib.Core.Bool.{Bool, true, false, not}
 use mathlib.Core.List.{List}
 use native.Mathlib.Omega.{arith}
 use lib.ListN.{getD}
-use borrow.Author.Tests.{eqb-true, eq-eqb}
+use borrow.Author.Tests.{eqb-true, eq-eqb, not-false}
 use Rattle.rules.specs.Limits.{mostComponents, mostGates, mostLoads, mostTests, mostGateInputs}
-use Rattle.rules.proofs.Kept.{first-kept, first-none, list-kept, list-none, none-none, used-kept, unused-kept, in-use-none, zero-kept, zero-none, range-kept}
+use Rattle.rules.specs.Table.{unsoundFault}
+use Rattle.rules.proofs.Kept.{refuse-kept, first-kept, first-none, list-kept, list-none, none-none, used-kept, unused-kept, in-use-none, zero-kept, zero-none, range-kept}
 use Rattle.rules.proofs.Firsts.{firstOf-kept, firstOf-none}
 use Rattle.study.specs.declared.Component.{Component}
 use Rattle.study.specs.declared.Gate.{Gate}
@@ -250,3 +251,7 @@ check-accepts t s =
     in-use-none _ _ _ _ (λ used. load-none (t .gates) (loadAt t j) (s .load j used))
     (λ from. no-load-none (loadAt t j) (s .no-load j from less))))
     none-none))))
+
+-- no breach of 16
+pub no-unsound : (t : Study) → unsoundFault (sound t) ≡ 0 → Sound t
+no-unsound t none = check-refuses t (not-false (sound t) (refuse-kept 15 (not (sound t)) none))

@@ -1,12 +1,11 @@
 -- What the counts and components of a study tell once no rule of theirs is broken: there are at most twelve, of at most four states each.
 use Prim.Native.Nat.{ℕ, _<_, _≤_}
 use mathlib.Core.Path.{_≡_}
-use mathlib.Core.Bool.{true}
 use native.Mathlib.Omega.{arith}
 use lib.ListN.{getD, List·getD-map}
 use lib.Seq.{getD-take}
-use borrow.Author.Tests.{lt-ltb, eqb-true}
-use Rattle.rules.specs.Limits.{mostComponents, mostLoads, mostStates}
+use borrow.Author.Tests.{lt-ltb}
+use Rattle.rules.specs.Limits.{mostComponents, mostStates}
 use Rattle.rules.proofs.Kept.{first-kept, list-kept, range-kept}
 use Rattle.rules.proofs.Firsts.{firstOf-kept}
 use Rattle.study.specs.declared.Component.{Component}
@@ -14,7 +13,7 @@ use Rattle.study.specs.declared.Study.{Study}
 use Rattle.study.specs.Joint.{states, stateCounts}
 use Rattle.study.specs.Places.{componentAt}
 use Rattle.study.specs.Zero.{zeroComponent}
-use Rattle.soundness.specs.Check.{frontFault, restFault, sound, componentsFault, componentPlaceFault, componentFault}
+use Rattle.soundness.specs.Check.{frontFault, componentsFault, componentPlaceFault, componentFault}
 
 pub components-most : (t : Study) → frontFault t ≡ 0 → t .components ≤ mostComponents
 unfolding frontFault
@@ -34,12 +33,3 @@ pub counts-most : (t : Study) → frontFault t ≡ 0 → (k : ℕ) → k < t .co
 counts-most t e k h =
     rw (getD-take (t .components) (states (t .component)) k 0 h, List·getD-map (λ (c : Component). c .states) (t .component) k zeroComponent)
     (states-most (componentAt t k) (component-kept t e k h))
-
--- a sound study has no breach in front
-pub sound-front : (t : Study) → sound t ≡ true → frontFault t ≡ 0
-unfolding sound
-sound-front t e = first-kept (frontFault t) (restFault t) (eqb-true _ 0 e) .left
-
-pub loads-most : (t : Study) → frontFault t ≡ 0 → t .loads ≤ mostLoads
-unfolding frontFault
-loads-most t e = range-kept 1 1 8 (t .loads) (list-kept _ _ (list-kept _ _ (list-kept _ _ e .right) .right) .left) .most

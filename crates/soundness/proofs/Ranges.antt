@@ -14,12 +14,11 @@ use Rattle.rules.specs.Limits.{mostComponents, mostGates, mostLoads, fewestStat
 use Rattle.rules.specs.Table.{inputsFault}
 use Rattle.rules.proofs.Kept.{refuse-kept, range-kept}
 use Rattle.study.specs.declared.Component.{Component}
-use Rattle.study.specs.declared.Gate.{Gate}
 use Rattle.study.specs.declared.Study.{Study}
 use Rattle.study.specs.Joint.{states, stateCounts}
 use Rattle.study.specs.Places.{componentAt, gateAt}
 use Rattle.study.specs.Zero.{zeroComponent}
-use Rattle.soundness.specs.Sound.{Sound, SoundGate}
+use Rattle.soundness.specs.Sound.{Sound}
 
 -- a count of inputs that is in use, or 0
 inputs-most : (most n : ℕ) → given 0 n (inputsFault most n) ≡ 0 → n ≤ most

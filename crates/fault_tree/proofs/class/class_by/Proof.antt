@@ -1,9 +1,7 @@
 -- `fault_tree::class::class_by` meets its contract. The bits of the loads below j are set (`Bits`).
-use Prim.Native.Nat.{ℕ, _-_}
+use Prim.Native.Nat.{_-_}
 use native.Mathlib.Omega.{arith}
-use borrow.Author.Needs.{needs}
 use Rattle.fault_tree.proofs.Bits.{Bits, bits-start, bits-more, bits-done}
-use Rattle.fault_tree.specs.Classes.{classBy}
 use Rattle.fault_tree.proofs.class.class_by.Statement.{statement}
 use Rattle.fault_tree.proofs.class.class_by.Tie as tie
 

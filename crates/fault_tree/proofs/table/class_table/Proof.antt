@@ -1,11 +1,10 @@
 -- `fault_tree::table::class_table` meets its contract: it begins with all components up.
 use mathlib.Core.Path.{_≡_, refl, sym, ap, _∙_}
-use native.Mathlib.Omega.{arith}
 use lib.ListN.{length, length-map}
 use lib.Seq.{length-take-le}
 use Rattle.study.specs.declared.Component.{Component}
 use Rattle.soundness.proofs.Ranges.{components-most}
-use Rattle.fault_tree.proofs.Ready.{up-long, up-joint, up-number}
+use Rattle.fault_tree.proofs.Ready.{up-joint, up-number}
 use borrow.Author.Needs.{needs}
 use Rattle.fault_tree.proofs.table.class_table.Statement.{statement}
 use Rattle.fault_tree.proofs.table.class_table.Tie as tie

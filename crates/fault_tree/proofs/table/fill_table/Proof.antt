@@ -2,7 +2,6 @@
 use Prim.Native.Nat.{_-_}
 use mathlib.Core.Path.{sym, ap, _∙_}
 use native.Mathlib.Omega.{arith}
-use borrow.Author.Needs.{needs}
 use Rattle.lists.specs.Product.{product}
 use Rattle.soundness.proofs.Ranges.{loads-most, gates-most, joint-most}
 use Rattle.fault_tree.specs.Classes.{classOf}

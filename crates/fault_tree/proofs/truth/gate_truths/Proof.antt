@@ -1,7 +1,6 @@
 -- `fault_tree::truth::gate_truths` meets its contract. The truths of the gates below i are set (`Evaluated`).
 use Prim.Native.Nat.{_-_}
 use native.Mathlib.Omega.{arith}
-use borrow.Author.Needs.{needs}
 use Rattle.fault_tree.proofs.Truths.{Evaluated, evaluated-start, evaluated-more, evaluated-done}
 use Rattle.fault_tree.proofs.truth.gate_truths.Statement.{statement}
 use Rattle.fault_tree.proofs.truth.gate_truths.Tie as tie

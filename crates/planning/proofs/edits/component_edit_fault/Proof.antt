@@ -6,7 +6,7 @@ use borrow.Author.Needs.{needs}
 use Rattle.planning.specs.Edits.{componentEditFault}
 use Rattle.rules.specs.Breach.{firstBreach, first}
 use Rattle.rules.proofs.Kept.{first-kept, first-some, first-next, first-assoc, first-last}
-use Rattle.soundness.proofs.Front.{components-most, sound-front}
+use Rattle.soundness.proofs.Ranges.{components-most}
 use Rattle.rules.specs.Table.{unsoundFault, itemFault}
 use Rattle.soundness.specs.Check.{sound}
 use Rattle.planning.proofs.Edited.{present}
@@ -24,7 +24,7 @@ here c none =
     let t = c .before .before .before .before .args .t1 in
     let kept = first-kept _ _ (sym (absent-is c) ∙ none) in
     let item = present t (t .components) (c .before .before .before .before .args .i) (kept .left) (kept .right) in
-    omega (arith, item .below, components-most t (sound-front t (item .is-sound)))
+    omega (arith, item .below, components-most t (item .is-sound))
 
 is-sound-requires : tie.Need-is-sound-requires
 is-sound-requires c κs = search needs

@@ -5,7 +5,7 @@ use borrow.Author.Needs.{needs}
 use Rattle.planning.specs.Edits.{loadEditFault}
 use Rattle.rules.specs.Breach.{firstBreach}
 use Rattle.rules.proofs.Kept.{list-kept, first-last}
-use Rattle.soundness.proofs.Front.{loads-most, sound-front}
+use Rattle.soundness.proofs.Ranges.{loads-most}
 use Rattle.planning.proofs.Edited.{present}
 use Rattle.planning.proofs.edits.load_edit_fault.Statement.{statement}
 use Rattle.planning.proofs.edits.load_edit_fault.Tie as tie
@@ -42,7 +42,7 @@ returns c =
           let unsound = list-kept _ _ (sym judged ∙ none) in
           let missing = list-kept _ _ (unsound .right) in
           let item = present t (t .loads) (c .before .before .before .before .before .before .args .j) (unsound .left) (missing .left) in
-          omega (arith, item .below, loads-most t (sound-front t (item .is-sound))),
+          omega (arith, item .below, loads-most t (item .is-sound)),
     )
 
 pub load-edit-fault-spec : {M : Type 1} → statement M

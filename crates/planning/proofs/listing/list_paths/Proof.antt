@@ -1,8 +1,9 @@
 -- `planning::listing::list_paths` meets its contract: 16 is looked at first, and a sound study is refused for its room alone.
 use mathlib.Core.Path.{sym, _∙_}
 use lib.ListN.{length}
+use Rattle.soundness.proofs.Checked.{no-unsound}
 use Rattle.planning.specs.Listing.{pathsListed, bufferListed}
-use Rattle.planning.proofs.Listed.{list-unsound, list-room, listing-sound}
+use Rattle.planning.proofs.Listed.{list-unsound, list-room}
 use borrow.Author.Needs.{needs}
 use Rattle.planning.proofs.listing.list_paths.Statement.{statement}
 use Rattle.planning.proofs.listing.list_paths.Tie as tie
@@ -23,7 +24,7 @@ returns c =
 list-sound-requires : tie.Need-list-sound-requires
 list-sound-requires c κs =
     let same = rw (c .before .before .before .is-sound .ensures) at (c .before .before .unsound-fault .ensures) in
-    listing-sound _ (sym same ∙ c .before .if1 .left)
+    no-unsound _ (sym same ∙ c .before .if1 .left)
 
 same-length : tie.Need-same-length
 same-length c = search needs

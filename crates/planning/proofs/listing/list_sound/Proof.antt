@@ -1,10 +1,8 @@
 -- `planning::listing::list_sound` meets its contract: the front of the class table is a block.
-use mathlib.Core.Path.{_≡_, sym, ap, _∙_}
+use mathlib.Core.Path.{_≡_, sym}
 use native.Mathlib.Omega.{arith}
-use lib.ListN.{length, take}
+use lib.ListN.{length}
 use lib.Seq.{length-take-le}
-use Rattle.lists.specs.Product.{product}
-use Rattle.study.specs.Joint.{stateCounts}
 use Rattle.soundness.proofs.Ranges.{components-most, counts-few, count-most, joint-most}
 use Rattle.fault_tree.proofs.Tables.{classes-long, table-front}
 use Rattle.planning.specs.Listing.{pathList}
