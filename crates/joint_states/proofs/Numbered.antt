@@ -76,15 +76,6 @@ number-up (c ∷ cs) (s ∷ x) up = rw (up 0, zero-mul, zero-add) (number-up cs 
 -- ---- the list of all
 
 module _ (mark : ℕ → ℕ) (rows : ℕ → List (List ℕ)) (m : ℕ) (long : (s : ℕ) → length (rows s) ≡ m) where
-  pub length-divided : (s n : ℕ) → length (divided mark rows s n) ≡ n * m
-  unfolding divided
-  length-divided s zero = sym (zero-mul m)
-  length-divided s (suc n) =
-      length-append (map (λ (row : List ℕ). mark s ∷ row) (rows s)) (divided mark rows (s + 1) n)
-      ∙ ap (λ (k : ℕ). k + length (divided mark rows (s + 1) n)) (length-map (rows s) (λ (row : List ℕ). mark s ∷ row) ∙ long s)
-      ∙ ap (λ (k : ℕ). m + k) (length-divided (s + 1) n)
-      ∙ omega arith
-
   -- row k of the i-th state's
   pub getD-divided : (s n i k : ℕ) → i < n → k < m → getD (divided mark rows s n) (i * m + k) [] ≡ mark (s + i) ∷ getD (rows (s + i)) k []
   unfolding divided
@@ -104,6 +95,15 @@ module _ (mark : ℕ → ℕ) (rows : ℕ → List (List ℕ)) (m : ℕ) (long :
       ∙ getD-append-add heads rest (i * m + k) []
       ∙ getD-divided (s + 1) n i k (omega arith) less
       ∙ ap (λ (z : ℕ). mark z ∷ getD (rows z) k []) state
+
+  pub length-divided : (s n : ℕ) → length (divided mark rows s n) ≡ n * m
+  unfolding divided
+  length-divided s zero = sym (zero-mul m)
+  length-divided s (suc n) =
+      length-append (map (λ (row : List ℕ). mark s ∷ row) (rows s)) (divided mark rows (s + 1) n)
+      ∙ ap (λ (k : ℕ). k + length (divided mark rows (s + 1) n)) (length-map (rows s) (λ (row : List ℕ). mark s ∷ row) ∙ long s)
+      ∙ ap (λ (k : ℕ). m + k) (length-divided (s + 1) n)
+      ∙ omega arith
 
 pub length-jointStates : (counts : List ℕ) → length (jointStates counts) ≡ product counts
 unfolding jointStates product
