@@ -97,7 +97,7 @@ module _ (t : ℕ) where
       omega (arith, listed .marks, listed .fork .some)
 
   part-requires : list-block-lts.Need-part-requires (claims t) (at t) list-block.Post Inv-loop μ-loop
-  part-requires c κs = fork-inside (c .before .before .before .before .loop .inv .fork) (c .before .before .if2 .taken)
+  part-requires c κs = omega (arith, fork-inside (c .before .before .before .before .loop .inv .fork) (c .before .before .if2 .taken))
 
   list-block-requires : list-block-lts.Need-list-block-requires (claims t) (at t) list-block.Post Inv-loop μ-loop
   list-block-requires c κs =

@@ -42,7 +42,7 @@ gate-truths-requires c κs =
     )
 
 class-by-requires : tie.Need-class-by-requires Inv-loop μ-loop
-class-by-requires c κs = loads-most _ (c .before .before .before .loop .inv .sound)
+class-by-requires c κs = omega (arith, loads-most _ (c .before .before .before .loop .inv .sound))
 
 array-write-table : tie.Need-array-write-table Inv-loop μ-loop
 array-write-table c = tabled-inside (c .before .before .before .before .loop .inv) (c .before .before .before .loop-test .taken)

@@ -29,7 +29,9 @@ cast-i : tie.Need-cast-i Inv-loop μ-loop
 cast-i c = search needs
 
 array-read-n : tie.Need-array-read-n Inv-loop μ-loop
-array-read-n c = c .before .before .before .before .pre .1 _ (c .loop-test .taken)
+array-read-n c =
+    let pre = c .before .before .before .before .pre in
+    omega (arith, pre .0, pre .1 _ (c .loop-test .taken))
 
 cast-n : tie.Need-cast-n Inv-loop μ-loop
 cast-n c = tt
