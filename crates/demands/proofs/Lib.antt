@@ -3,4 +3,5 @@ pub mod DeskExamples
 pub mod Edited
 pub mod FirstBreach
 pub mod Opened
+pub mod Paths
 pub mod Zero
