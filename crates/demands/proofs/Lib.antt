@@ -3,6 +3,7 @@ pub mod DeskExamples
 pub mod Edited
 pub mod FirstBreach
 pub mod Listing
+pub mod ListsEqual
 pub mod Opened
 pub mod Paths
 pub mod Zero
