@@ -4,6 +4,7 @@ pub mod Edited
 pub mod FirstBreach
 pub mod Listing
 pub mod ListsEqual
+pub mod Lost
 pub mod Opened
 pub mod Paths
 pub mod Zero
