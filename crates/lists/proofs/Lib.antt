@@ -1,6 +1,8 @@
+pub mod Digits
 pub mod Elements
 pub mod Filled
 pub mod Filling
+pub mod Fronts
 pub mod Joined
 pub mod Maps
 pub mod Products

@@ -1,6 +1,6 @@
--- What carries a loop that counts truth values, and what bounds them.
+-- What carries a loop that counts truth values, what bounds them, and when two counts are alike.
 use Prim.Native.Nat.{ℕ, zero, suc, _+_, _*_, _^_, _<_, _≤_}
-use mathlib.Core.Path.{_≡_, refl, ap, _∙_}
+use mathlib.Core.Path.{_≡_, refl, ap, ap₂, _∙_}
 use mathlib.Core.Bool.{Bool, true, false}
 use native.Mathlib.Nat.{pow-suc, mul-le-mul-right}
 use native.Mathlib.Numerals.{add-one}
@@ -22,6 +22,13 @@ pub count-most : (f : ℕ → Bool) (n : ℕ) → countTrue f n ≤ n
 unfolding countTrue sum
 count-most f zero = omega arith
 count-most f (suc n) = omega (arith, count-most f n, truth-most (f n))
+
+-- as many are true of two rows that agree
+pub count-alike : (f g : ℕ → Bool) (n : ℕ) → ((j : ℕ) → j < n → f j ≡ g j) → countTrue f n ≡ countTrue g n
+unfolding countTrue sum
+count-alike f g zero same = refl
+count-alike f g (suc n) same =
+    ap₂ (λ (s : ℕ) (b : Bool). s + truth b) (count-alike f g n (λ j h. same j (omega arith))) (same n (omega arith))
 
 -- the bits that truth values set make a number below the next power of two
 pub bits-below : (f : ℕ → Bool) (n : ℕ) → sum (λ (j : ℕ). truth (f j) * 2 ^ j) n < 2 ^ n

@@ -1,0 +1,102 @@
+-- A load is lost in a joint state just when its fault tree says so. What carries it: the truth of a gate is set once, from those of lower
+-- gates, which stay as they are; and bit j of a class is the truth that was set there.
+use Prim.Native.Nat.{ℕ, zero, suc, _+_, _<_, _≤_}
+use mathlib.Core.Path.{_≡_, refl, sym, ap, _∙_}
+use mathlib.Core.Bool.{Bool, true, false, false≢true}
+use mathlib.Core.List.{List}
+use mathlib.Core.Logic.{⊎-elim}
+use native.Mathlib.Nat.{eq-or-lt-of-le, le-of-suc-le-suc}
+use native.Mathlib.Omega.{arith}
+use lib.Dec.{leb, eqb}
+use lib.ListN.{length, getD, length-set, length-replicate}
+use lib.Seq.{getD-set-same, getD-set-other}
+use borrow.Author.Tests.{eqb-false, ne-eqb}
+use Rattle.lists.specs.Bits.{bit}
+use Rattle.lists.proofs.Digits.{bit-of-sum, no-bit-of-sum}
+use Rattle.lists.proofs.Sums.{count-alike}
+use Rattle.rules.specs.Limits.{mostGates, never}
+use Rattle.study.specs.declared.Gate.{Gate}
+use Rattle.study.specs.declared.Study.{Study}
+use Rattle.study.specs.Places.{noGate, gateAt, loadAt}
+use Rattle.soundness.proofs.Ranges.{gates-most, input-lower}
+use Rattle.fault_tree.specs.Truth.{trueTests, trueGates, gateTrue, withTruth, gateTruths}
+use Rattle.fault_tree.specs.Classes.{lost, classBy, classOf}
+use Rattle.demands.specs.Demand2.{isTrue, GatesAgree, LossGateTrue, LostIff}
+
+-- ---- the truths of gates
+
+-- a gate is as true by two accounts that agree on its gate inputs
+inputs-alike : (g : Gate) (x : List ℕ) (holds also : ℕ → Bool) → ((j : ℕ) → j < g .gates → holds (getD (g .input) j 0) ≡ also (getD (g .input) j 0))
+    → gateTrue g x holds ≡ gateTrue g x also
+unfolding gateTrue trueGates
+inputs-alike g x holds also same =
+    ap (λ (n : ℕ). leb (g .threshold) (trueTests g x + n))
+    (count-alike (λ (j : ℕ). holds (getD (g .input) j 0)) (λ (j : ℕ). also (getD (g .input) j 0)) (g .gates) same)
+
+module _ (gates : List Gate) (x : List ℕ) where
+  -- gate k is true when the first n gates are evaluated
+  abbrev trueBy : ℕ → ℕ → Bool
+  trueBy n k = getD (gateTruths gates x n) k false
+
+  truths-long : (n : ℕ) → length (gateTruths gates x n) ≡ mostGates
+  unfolding gateTruths withTruth
+  truths-long zero = length-replicate mostGates false
+  truths-long (suc n) = length-set (gateTruths gates x n) n (gateTrue (getD gates n noGate) x (trueBy n)) ∙ truths-long n
+
+  -- a gate's truth is set from those below it
+  truth-set : (i : ℕ) → i < mostGates → trueBy (suc i) i ≡ gateTrue (getD gates i noGate) x (trueBy i)
+  unfolding gateTruths withTruth
+  truth-set i h = getD-set-same (gateTruths gates x i) i (gateTrue (getD gates i noGate) x (trueBy i)) false (omega (arith, truths-long i))
+
+  -- and stays
+  truth-stays : (m n k : ℕ) → k < m → m ≤ n → trueBy n k ≡ trueBy m k
+  unfolding gateTruths withTruth
+  truth-stays m zero k h most = absurd (omega arith)
+  truth-stays m (suc n) k h most =
+      ⊎-elim (λ (last : m ≡ suc n). rw last refl)
+      (λ (more : m < suc n).
+      getD-set-other (gateTruths gates x n) n k (gateTrue (getD gates n noGate) x (trueBy n)) false (λ same. omega arith)
+      ∙ truth-stays m n k h (le-of-suc-le-suc more))
+      (eq-or-lt-of-le most)
+
+pub gates-agree : GatesAgree
+gates-agree t s x i h =
+    truth-stays (t .gate) x (suc i) (t .gates) i (omega arith) h
+    ∙ truth-set (t .gate) x i (omega (arith, gates-most t s))
+    ∙ inputs-alike (gateAt t i) x (trueBy (t .gate) x i) (isTrue t x)
+    (λ j less. sym (truth-stays (t .gate) x i (t .gates) (getD (gateAt t i .input) j 0) (input-lower t s i h j less) (omega arith)))
+
+-- ---- the bits of a class
+
+module _ (t : Study) (x : List ℕ) where
+  -- load j is lost
+  abbrev isLost : ℕ → Bool
+  isLost j = lost (gateTruths (t .gate) x (t .gates)) (loadAt t j)
+
+  class-bit : (j : ℕ) → j < t .loads → bit (classOf t x) j ≡ isLost j
+  unfolding classOf classBy
+  class-bit j h = bit-of-sum isLost (t .loads) j h
+
+  no-class-bit : (j : ℕ) → t .loads ≤ j → bit (classOf t x) j ≡ false
+  unfolding classOf classBy
+  no-class-bit j h = no-bit-of-sum isLost (t .loads) j h
+
+  lost-gate : (j : ℕ) → isLost j ≡ true → LossGateTrue t x j
+  unfolding lost
+  lost-gate j e = go (eqb (loadAt t j .gate) never) refl
+    where
+      go : (b : Bool) → eqb (loadAt t j .gate) never ≡ b → LossGateTrue t x j
+      go true none = absurd (false≢true (rw none at e))
+      go false some = record { has-gate = eqb-false (loadAt t j .gate) never some; holds = rw some at e }
+
+  gate-lost : (j : ℕ) → LossGateTrue t x j → isLost j ≡ true
+  unfolding lost
+  gate-lost j g = rw (ne-eqb (loadAt t j .gate) never (g .has-gate)) (g .holds)
+
+pub lost-iff : LostIff
+lost-iff =
+    record {
+      lost = λ t s x j h stands. lost-gate t x j (sym (class-bit t x j h) ∙ stands);
+      stands = λ t s x j h g. class-bit t x j h ∙ gate-lost t x j g;
+      lacks = λ t s x j h. no-class-bit t x j h;
+    }

@@ -1,0 +1,24 @@
+-- Laws of a list that is put at the front of another.
+use Prim.Native.Nat.{ℕ, _+_, _-_, _≤_}
+use mathlib.Core.Path.{_≡_, ap, _∙_}
+use mathlib.Core.List.{List, _++_}
+use native.Mathlib.Omega.{arith}
+use lib.ListN.{length, getD, take, drop}
+use lib.Seq.{take-at, getD-append-add, getD-drop}
+use Rattle.lists.specs.Rows.{put}
+
+-- it stands there
+pub put-front : (d x : List ℕ) (n : ℕ) → length x ≡ n → take n (put d 0 x) ≡ x
+unfolding put
+put-front d x n long = take-at x (drop (0 + length x) d) n long
+
+-- and what stands behind it is as it was
+pub put-behind : (d x : List ℕ) (k : ℕ) → length x ≤ k → getD (put d 0 x) k 0 ≡ getD d k 0
+unfolding put
+put-behind d x k h =
+    let place : k ≡ length x + (k - length x) = omega arith in
+    let same : 0 + length x + (k - length x) ≡ k = omega arith in
+    ap (λ (n : ℕ). getD (x ++ drop (0 + length x) d) n 0) place
+    ∙ getD-append-add x (drop (0 + length x) d) (k - length x) 0
+    ∙ getD-drop (0 + length x) d (k - length x) 0
+    ∙ ap (λ (n : ℕ). getD d n 0) same
