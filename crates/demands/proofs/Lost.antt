@@ -96,7 +96,7 @@ module _ (t : Study) (x : List ℕ) where
 pub lost-iff : LostIff
 lost-iff =
     record {
-      lost = λ t s x j h stands. lost-gate t x j (sym (class-bit t x j h) ∙ stands);
-      stands = λ t s x j h g. class-bit t x j h ∙ gate-lost t x j g;
-      lacks = λ t s x j h. no-class-bit t x j h;
+      lost = λ t x j h stands. lost-gate t x j (sym (class-bit t x j h) ∙ stands);
+      stands = λ t x j h g. class-bit t x j h ∙ gate-lost t x j g;
+      lacks = λ t x j h. no-class-bit t x j h;
     }

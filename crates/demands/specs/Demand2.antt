@@ -27,6 +27,6 @@ pub record LossGateTrue (t : Study) (x : List ℕ) (j : ℕ) : Type 0 where
 
 -- Bit j of a joint state's class stands exactly when load j has a loss gate and it is true there; the bit of a load that the study lacks is clear.
 pub record LostIff : Type 0 where
-  pub lost : (t : Study) → Sound t → (x : List ℕ) (j : ℕ) → j < t .loads → bit (classOf t x) j ≡ true → LossGateTrue t x j
-  pub stands : (t : Study) → Sound t → (x : List ℕ) (j : ℕ) → j < t .loads → LossGateTrue t x j → bit (classOf t x) j ≡ true
-  pub lacks : (t : Study) → Sound t → (x : List ℕ) (j : ℕ) → t .loads ≤ j → bit (classOf t x) j ≡ false
+  pub lost : (t : Study) (x : List ℕ) (j : ℕ) → j < t .loads → bit (classOf t x) j ≡ true → LossGateTrue t x j
+  pub stands : (t : Study) (x : List ℕ) (j : ℕ) → j < t .loads → LossGateTrue t x j → bit (classOf t x) j ≡ true
+  pub lacks : (t : Study) (x : List ℕ) (j : ℕ) → t .loads ≤ j → bit (classOf t x) j ≡ false

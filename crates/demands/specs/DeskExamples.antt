@@ -2,6 +2,7 @@
 -- definitions that the contracts cite.
 use Prim.Native.Nat.{ℕ, _-_}
 use mathlib.Core.Path.{_≡_}
+use mathlib.Core.Option.{Option, none, some}
 use mathlib.Core.List.{List, [], _∷_, _++_, map}
 use lib.ListN.{length, replicate}
 use Rattle.rules.specs.Limits.{mostComponents, mostGates, mostLoads, mostTests, mostGateInputs, never}
@@ -9,9 +10,12 @@ use Rattle.study.specs.declared.Component.{Component}
 use Rattle.study.specs.declared.Gate.{Gate}
 use Rattle.study.specs.declared.Load.{Load}
 use Rattle.study.specs.declared.Outcome.the-variants.{Done}
+use Rattle.study.specs.declared.Study.{Study}
 use Rattle.study.specs.declared.StudyAnswer.{StudyAnswer}
 use Rattle.study.specs.Zero.{zeroComponent, zeroGate, zeroLoad}
 use Rattle.opening.specs.Opening.{opened, refusedOpening}
+use Rattle.planning.specs.Listing.{pathList}
+use Rattle.paths.specs.Paths.{blankMark}
 
 -- ---- studies in few words
 
@@ -68,45 +72,68 @@ opens cs gs ls =
 
 -- ---- the rows
 
--- an example: its bytes, and what opening them answers
+-- what the paper gives of a study that opens
+pub record Results : Type 0 where
+  pub paths : List (List ℕ)
+
+-- an example: its bytes, what opening them answers, and what the paper gives of the study
 pub record Example : Type 0 where
   pub bytes : List ℕ
   pub opening : StudyAnswer
+  pub results : Option Results
 
+-- an example of opening alone
 abbrev example : List ℕ → StudyAnswer → Example
-example bytes opening = record { bytes = bytes; opening = opening }
+example bytes opening = record { bytes = bytes; opening = opening; results = none }
+
+-- an example with the paths of its study
+abbrev listing : List ℕ → StudyAnswer → List (List ℕ) → Example
+listing bytes opening paths = record { bytes = bytes; opening = opening; results = some (record { paths = paths }) }
+
+-- the entry of a path: its marks, and its class
+abbrev path : List ℕ → ℕ → List ℕ
+path marks class = marks ++ (class ∷ [])
 
 -- component 0 in state 1, by itself
 abbrev failed0 : Gate
 unfolding votes
 failed0 = votes 1 (test 0 2 ∷ [])
 
+-- a path of probability 0 is listed like any other
+abbrev zeroListed : List (List ℕ)
+zeroListed = path (0 ∷ []) 0 ∷ path (1 ∷ []) 1 ∷ []
+
 abbrev pub examples : List Example
 unfolding opens refusedOpening votes
 examples =
     -- A: two components, lost when either fails
-    example (2 ∷ 1 ∷ 1
+    listing (2 ∷ 1 ∷ 1
     ∷ 0x02 ∷ 0x00 ∷ 0xE1 ∷ 0xF5 ∷ 0x05
     ∷ 0x02 ∷ 0x00 ∷ 0xC2 ∷ 0xEB ∷ 0x0B
     ∷ 0x02 ∷ 2 ∷ 0 ∷ 2 ∷ 1 ∷ 2
     ∷ 0x07 ∷ 0 ∷ 0x64 ∷ 0 ∷ 0 ∷ 0 ∷ 0x3C ∷ 0 ∷ 0 ∷ 0 ∷ [])
     (opens (twoStates 100_000_000 ∷ twoStates 200_000_000 ∷ []) (votes 1 (test 0 2 ∷ test 1 2 ∷ []) ∷ []) (lostBy 0 100 60 ∷ []))
+    (path (0 ∷ 0 ∷ []) 0 ∷ path (0 ∷ 1 ∷ []) 1 ∷ path (1 ∷ blankMark ∷ []) 1 ∷ [])
     -- B: two components, lost when both fail
-    ∷ example (2 ∷ 1 ∷ 1
+    ∷ listing (2 ∷ 1 ∷ 1
     ∷ 0x02 ∷ 0x55 ∷ 0x43 ∷ 0xDE ∷ 0x13
     ∷ 0x02 ∷ 0x55 ∷ 0x43 ∷ 0xDE ∷ 0x13
     ∷ 0x03 ∷ 2 ∷ 2 ∷ 0 ∷ 2 ∷ 1 ∷ 2
     ∷ 0x01 ∷ 0 ∷ [])
     (opens (twoStates 333_333_333 ∷ twoStates 333_333_333 ∷ []) (votes 2 (test 0 2 ∷ test 1 2 ∷ []) ∷ []) (lostBy 0 0 0 ∷ []))
+    (path (0 ∷ blankMark ∷ []) 0 ∷ path (1 ∷ 0 ∷ []) 0 ∷ path (1 ∷ 1 ∷ []) 1 ∷ [])
     -- C: a load without a gate
-    ∷ example (1 ∷ 1 ∷ 1 ∷ 0x00 ∷ 0x02 ∷ 1 ∷ 0 ∷ 2 ∷ 0x00 ∷ [])
+    ∷ listing (1 ∷ 1 ∷ 1 ∷ 0x00 ∷ 0x02 ∷ 1 ∷ 0 ∷ 2 ∷ 0x00 ∷ [])
     (opens (twoStates 0 ∷ []) (failed0 ∷ []) (lostBy never 0 0 ∷ []))
+    (path (blankMark ∷ []) 0 ∷ [])
     -- D: a full mask
-    ∷ example (1 ∷ 1 ∷ 1 ∷ 0x00 ∷ 0x02 ∷ 1 ∷ 0 ∷ 3 ∷ 0x01 ∷ 0 ∷ [])
+    ∷ listing (1 ∷ 1 ∷ 1 ∷ 0x00 ∷ 0x02 ∷ 1 ∷ 0 ∷ 3 ∷ 0x01 ∷ 0 ∷ [])
     (opens (twoStates 0 ∷ []) (votes 1 (test 0 3 ∷ []) ∷ []) (lostBy 0 0 0 ∷ []))
+    (path (blankMark ∷ []) 1 ∷ [])
     -- E: three components, lost when the first and the last fail
-    ∷ example (3 ∷ 1 ∷ 1 ∷ 0x00 ∷ 0x00 ∷ 0x00 ∷ 0x03 ∷ 2 ∷ 2 ∷ 0 ∷ 2 ∷ 2 ∷ 2 ∷ 0x01 ∷ 0 ∷ [])
+    ∷ listing (3 ∷ 1 ∷ 1 ∷ 0x00 ∷ 0x00 ∷ 0x00 ∷ 0x03 ∷ 2 ∷ 2 ∷ 0 ∷ 2 ∷ 2 ∷ 2 ∷ 0x01 ∷ 0 ∷ [])
     (opens (twoStates 0 ∷ twoStates 0 ∷ twoStates 0 ∷ []) (votes 2 (test 0 2 ∷ test 2 2 ∷ []) ∷ []) (lostBy 0 0 0 ∷ []))
+    (path (0 ∷ blankMark ∷ blankMark ∷ []) 0 ∷ path (1 ∷ blankMark ∷ 0 ∷ []) 0 ∷ path (1 ∷ blankMark ∷ 1 ∷ []) 1 ∷ [])
     -- F: six components of four states, and a seventh of two
     ∷ example (6 ∷ 1 ∷ 1
     ∷ 0x01 ∷ 4 ∷ 0x01 ∷ 4 ∷ 0x01 ∷ 4 ∷ 0x01 ∷ 4 ∷ 0x01 ∷ 4 ∷ 0x01 ∷ 4
@@ -132,18 +159,25 @@ examples =
     -- I: threshold 3 over two inputs
     ∷ example (2 ∷ 1 ∷ 1 ∷ 0x00 ∷ 0x00 ∷ 0x03 ∷ 3 ∷ 2 ∷ 0 ∷ 2 ∷ 1 ∷ 2 ∷ 0x01 ∷ 0 ∷ []) (refusedOpening 12)
     -- J: threshold 2 over one test that stands twice
-    ∷ example (1 ∷ 1 ∷ 1 ∷ 0x00 ∷ 0x03 ∷ 2 ∷ 2 ∷ 0 ∷ 2 ∷ 0 ∷ 2 ∷ 0x01 ∷ 0 ∷ [])
+    ∷ listing (1 ∷ 1 ∷ 1 ∷ 0x00 ∷ 0x03 ∷ 2 ∷ 2 ∷ 0 ∷ 2 ∷ 0 ∷ 2 ∷ 0x01 ∷ 0 ∷ [])
     (opens (twoStates 0 ∷ []) (votes 2 (test 0 2 ∷ test 0 2 ∷ []) ∷ []) (lostBy 0 0 0 ∷ []))
+    (path (0 ∷ []) 0 ∷ path (1 ∷ []) 1 ∷ [])
     -- K: state 1 at 0, and a load of one customer that is lost in it
-    ∷ example (1 ∷ 1 ∷ 1 ∷ 0x00 ∷ 0x02 ∷ 1 ∷ 0 ∷ 2 ∷ 0x03 ∷ 0 ∷ 1 ∷ 0 ∷ 0 ∷ 0 ∷ [])
+    ∷ listing (1 ∷ 1 ∷ 1 ∷ 0x00 ∷ 0x02 ∷ 1 ∷ 0 ∷ 2 ∷ 0x03 ∷ 0 ∷ 1 ∷ 0 ∷ 0 ∷ 0 ∷ [])
     (opens (twoStates 0 ∷ []) (failed0 ∷ []) (lostBy 0 1 0 ∷ []))
+    zeroListed
     ∷ []
 
 -- ---- the claim
 
--- a row is true where opening its bytes answers what it says
+-- what the paper gives of a study is true of it
+abbrev pub ResultsHold : Study → Option Results → Type 0
+ResultsHold t none = Unit {0}
+ResultsHold t (some r) = pathList t ≡ r .paths
+
+-- a row is true where opening its bytes answers what it says, and the study is as the paper says
 abbrev pub Holds : Example → Type 0
-Holds e = opened (e .bytes) ≡ e .opening
+Holds e = (opened (e .bytes) ≡ e .opening) × ResultsHold (e .opening .study) (e .results)
 
 abbrev pub Each : List Example → Type 0
 Each [] = Unit {0}
