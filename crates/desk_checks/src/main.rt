@@ -1,5 +1,5 @@
 // Runs the script on standard input against the library and writes what each call answers. The script's own lines say which numbers
-// are right; `stdout` holds them, worked out by hand or, for studies drawn at random, by a second program.
+// are right; `stdout` holds them, worked out by hand or, for lists, by a second program from all joint states.
 mod commands;
 mod listings;
 mod script;
