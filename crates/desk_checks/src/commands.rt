@@ -1,4 +1,4 @@
-// The commands of the script. Each is a letter and bytes, calls the library, and writes one line of numbers.
+// The commands of the script. Each is a letter and bytes, calls the library, and writes one line of numbers, or more for a list.
 //
 //     o BYTES                     opens a study: the refusal, 0 for none; what the call returns is the current study from then on
 //     f BYTES                     opens each strict front part of the bytes, the shortest first: the refusals
@@ -8,9 +8,16 @@
 //     a FIELD ITEM PLACE VALUE    alters a field of a copy of the current study (see `desk_tools::alter`), and edits the copy so that nothing
 //                                 changes: the refusal
 //     s KIND ITEM                 shows a record of the current study (see `desk_tools::show`)
+//     l SIZE FILL                 lists the paths of the current study into so many bytes, at most 53,248, that all hold FILL. One line: the
+//                                 refusal, 0 for none, and the number of paths. A line for each path: a digit for each component or `-` for
+//                                 blank, and the class. One line: how many of the bytes behind the list hold FILL, and how many do not
+//     t SIZE FILL                 the same, but in place of the paths one line with the sum of each byte of an entry over all entries
+//     u FIELD ITEM PLACE VALUE    alters a field of a copy as `a` does, and lists its paths as `l` does into 64 bytes that hold 170
+//     n CLASS                     the number of loads lost in a class
 //
-// P1, P2, P3, N and VALUE have four bytes, lowest byte first, and the others one. A byte that is missing counts as 0. Any other
-// letter writes an empty line.
+// P1, P2, P3, N and VALUE have four bytes, lowest byte first, SIZE has two, and the others one. A byte that is missing counts as 0. Any
+// other letter writes an empty line.
+use crate::listings::list;
 use desk_tools::alter::altered;
 use desk_tools::hexadecimal::byte_at;
 use desk_tools::hexadecimal::number_at;
@@ -70,28 +77,49 @@ fn edited(letter: u8, bytes: &[u8], study: Study) -> StudyAnswer {
     }
 }
 
-// Alters a copy of the study, and edits the copy so that nothing changes.
-fn try_altered(bytes: &[u8], study: Study) {
+// The study with one field altered.
+fn altered_copy(bytes: &[u8], study: Study) -> Study {
     let field = byte_at(bytes, 0);
     let item = byte_at(bytes, 1) as usize;
     let place = byte_at(bytes, 2) as usize;
-    let copy = altered(
+    altered(
         field / 16,
         field % 16,
         item,
         place,
         number_at(bytes, 3),
         study,
-    );
+    )
+}
+
+// Alters a copy of the study, and edits the copy so that nothing changes.
+fn edit_altered(bytes: &[u8], study: Study) {
+    let copy = altered_copy(bytes, study);
     answered(planning::set_minutes(copy, 0, copy.load[0].minutes));
+}
+
+// Lists the paths of the study into a buffer of the size that the command asks for.
+fn list_sized(bytes: &[u8], study: Study, sums: bool) {
+    let size = byte_at(bytes, 0) as usize + 256 * byte_at(bytes, 1) as usize;
+    list(study, size, byte_at(bytes, 2), sums);
+}
+
+// Shows the number of loads lost in a class.
+fn show_loads_lost(class: u8) {
+    numbers::first(planning::loads_lost(class));
+    numbers::end();
 }
 
 // Obeys a command that leaves the current study as it is.
 fn look(letter: u8, bytes: &[u8], study: Study) {
     match letter {
         b'f' => open_front_parts(bytes),
-        b'a' => try_altered(bytes, study),
+        b'a' => edit_altered(bytes, study),
         b's' => show(byte_at(bytes, 0), byte_at(bytes, 1) as usize, study),
+        b'l' => list_sized(bytes, study, false),
+        b't' => list_sized(bytes, study, true),
+        b'u' => list(altered_copy(bytes, study), 64, 170, false),
+        b'n' => show_loads_lost(byte_at(bytes, 0)),
         _ => numbers::end(),
     }
 }

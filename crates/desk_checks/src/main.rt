@@ -1,6 +1,7 @@
 // Runs the script on standard input against the library and writes what each call answers. The script's own lines say which numbers
-// are right; `stdout` holds them, worked out by hand.
+// are right; `stdout` holds them, worked out by hand or, for lists, by a second program from all joint states.
 mod commands;
+mod listings;
 mod script;
 
 ghost use mathlib.Core.Path.{_≡_};

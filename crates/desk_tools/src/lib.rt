@@ -1,5 +1,6 @@
-// What the desk checks are made of: bytes in hexadecimal, lines of numbers, and altering and showing a study's fields.
+// What the desk checks are made of: bytes in hexadecimal, lines of numbers, altering and showing a study's fields, and showing a list of paths.
 pub mod alter;
+pub mod entries;
 pub mod hexadecimal;
 pub mod numbers;
 pub mod show;

@@ -16,6 +16,17 @@ pub fn next_byte(byte: u8) {
     next(byte as u32);
 }
 
+// The first number of a line, from a size.
+pub fn first_size(size: usize) {
+    io::print_decimal(1, size as u64);
+}
+
+// One more number of a line, from a size.
+pub fn next_size(size: usize) {
+    io::write_all(1, b" ");
+    first_size(size);
+}
+
 // More numbers of a line, one from each byte.
 pub fn next_bytes(bytes: &[u8]) {
     let mut i: usize = 0;
