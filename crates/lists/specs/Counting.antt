@@ -1,6 +1,7 @@
--- Sums and tests over the numbers below n, and the number that a truth value counts as.
+-- Sums and tests over the numbers below n and over lists, and the number that a truth value counts as.
 use Prim.Native.Nat.{ℕ, zero, suc, _+_}
 use mathlib.Core.Bool.{Bool, true, false, _&&_}
+use mathlib.Core.List.{List, [], _∷_}
 
 -- f 0 + f 1 + .. , n terms
 unfoldable pub sum : (ℕ → ℕ) → ℕ → ℕ
@@ -21,3 +22,13 @@ truth false = 0
 unfoldable pub countTrue : (ℕ → Bool) → ℕ → ℕ
 unfolding sum
 countTrue f n = sum (λ (j : ℕ). truth (f j)) n
+
+-- n where b holds, else 0
+abbrev pub kept : Bool → ℕ → ℕ
+kept true n = n
+kept false n = 0
+
+-- the sum of f over the elements of a list
+unfoldable pub sumOver : {A : Type 0} → (A → ℕ) → List A → ℕ
+sumOver f [] = 0
+sumOver f (x ∷ l) = f x + sumOver f l
