@@ -10,5 +10,6 @@ pub mod Puts
 pub mod Same
 pub mod Sets
 pub mod Sums
+pub mod Tabulated
 pub mod Tests
 pub mod Turns

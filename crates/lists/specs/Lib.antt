@@ -3,3 +3,4 @@ pub mod Counting
 pub mod Product
 pub mod Rows
 pub mod Run
+pub mod Tabulate

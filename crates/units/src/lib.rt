@@ -1,4 +1,35 @@
-// Fixed-point probability: whole billionths, and how many of them make certainty.
+// Fixed-point probability: whole billionths, how many of them make certainty, and products and quotients that are rounded down or up.
+ghost use Prim.Native.Nat.{_≤_, min};
+ghost use mathlib.Core.Path.{_≡_};
+ghost use Rattle.units.specs.One.{one};
+ghost use Rattle.units.specs.Rounding.{up, scale as Rounding·scale};
 
 // Certainty in units of a billionth.
 pub const ONE: u32 = 1000000000;
+
+// What is added before a division by one: nothing rounds down, one less than the divisor rounds up.
+pub const DOWN: u64 = 0;
+
+pub const UP: u64 = 999999999;
+
+// A number of units times a chance, over one.
+pub fn scale(rounding: u64, a: u64, p: u64) -> u64
+    requires { ⌜ rounding ≤ up ⌝ }
+    requires { ⌜ a ≤ one ⌝ }
+    requires { ⌜ p ≤ one ⌝ }
+    ensures { λ r. ⌜ r ≡ Rounding·scale rounding a p ⌝ }
+    ensures { λ r. ⌜ r ≤ one ⌝ }
+{
+    (a * p + rounding) / ONE as u64
+}
+
+// A number of units, at most one.
+pub fn at_most_one(a: u64) -> u64
+    ensures { λ r. ⌜ r ≡ min one a ⌝ }
+{
+    let most = ONE as u64;
+    if most < a {
+        return most;
+    }
+    a
+}

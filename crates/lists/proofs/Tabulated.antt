@@ -1,0 +1,48 @@
+-- Laws of the values of a function as a list.
+use Prim.Native.Nat.{ℕ, zero, suc, _+_, _<_}
+use mathlib.Core.Path.{_≡_, refl, sym, ap, _∙_}
+use mathlib.Core.Bool.{Bool, true, false}
+use mathlib.Core.List.{List, [], _∷_}
+use mathlib.Core.Logic.{⊎-elim}
+use native.Mathlib.Nat.{not-suc-le-zero, le-of-suc-le-suc, eq-or-lt-of-le}
+use native.Mathlib.Numerals.{add-one}
+use lib.Dec.{eqb}
+use lib.ListN.{length, getD, set, length-append, length-set, List·getD-append}
+use lib.Seq.{getD-at, getD-set-same, getD-set-other, ext-getD}
+use borrow.Author.Tests.{eqb-true, eqb-false}
+use Rattle.lists.specs.Tabulate.{tabulate}
+
+module _ {A : Type 0} where
+  pub length-tabulate : (f : ℕ → A) (n : ℕ) → length (tabulate f n) ≡ n
+  unfolding tabulate
+  length-tabulate f zero = refl
+  length-tabulate f (suc n) = length-append (tabulate f n) (f n ∷ []) ∙ ap (λ (k : ℕ). k + 1) (length-tabulate f n) ∙ add-one n
+
+  pub getD-tabulate : (f : ℕ → A) (n k : ℕ) (d : A) → k < n → getD (tabulate f n) k d ≡ f k
+  unfolding tabulate
+  getD-tabulate f zero k d h = absurd (not-suc-le-zero h)
+  getD-tabulate f (suc n) k d h =
+      ⊎-elim
+      (λ (last : k ≡ n). rw last (getD-at (tabulate f n) (f n) [] d n (length-tabulate f n)))
+      (λ (lower : k < n). List·getD-append (tabulate f n) (f n ∷ []) d k (rw (length-tabulate f n) lower) ∙ getD-tabulate f n k d lower)
+      (eq-or-lt-of-le (le-of-suc-le-suc h))
+
+  -- a list that has f's value at each place
+  pub tabulated : (f : ℕ → A) (n : ℕ) (l : List A) (d : A) → length l ≡ n → ((k : ℕ) → k < n → getD l k d ≡ f k) → l ≡ tabulate f n
+  tabulated f n l d long at =
+      ext-getD d l (tabulate f n) (long ∙ sym (length-tabulate f n))
+      (λ k h. at k (rw long at h) ∙ sym (getD-tabulate f n k d (rw long at h)))
+
+  -- one value anew
+  pub tabulate-set : (f g : ℕ → A) (n i : ℕ) (a : A) → i < n → g i ≡ a → ((k : ℕ) → (k ≡ i → ⊥) → g k ≡ f k) → set (tabulate f n) i a ≡ tabulate g n
+  tabulate-set f g n i a h here there =
+      tabulated g n (set (tabulate f n) i a) a (length-set (tabulate f n) i a ∙ length-tabulate f n) (λ k less. at k less (eqb k i) refl)
+    where
+      at : (k : ℕ) → k < n → (b : Bool) → eqb k i ≡ b → getD (set (tabulate f n) i a) k a ≡ g k
+      at k less true same =
+          ap (λ (p : ℕ). getD (set (tabulate f n) i a) p a) (eqb-true k i same)
+          ∙ getD-set-same (tabulate f n) i a a (rw (length-tabulate f n) h)
+          ∙ sym here
+          ∙ ap g (sym (eqb-true k i same))
+      at k less false other =
+          getD-set-other (tabulate f n) i k a a (eqb-false k i other) ∙ getD-tabulate f n k a less ∙ sym (there k (eqb-false k i other))
