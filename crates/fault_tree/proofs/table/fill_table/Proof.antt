@@ -1,10 +1,12 @@
 -- `fault_tree::table::fill_table` meets its contract. The classes of the joint states below k are set, and x is the one numbered k (`Tabled`).
 use Prim.Native.Nat.{_-_}
 use mathlib.Core.Path.{sym, ap, _∙_}
+use mathlib.Core.Bool.{Bool}
+use mathlib.Core.List.{List}
 use native.Mathlib.Omega.{arith}
 use Rattle.lists.specs.Product.{product}
 use Rattle.soundness.proofs.Ranges.{loads-most, gates-most, joint-most}
-use Rattle.fault_tree.specs.Classes.{classOf}
+use Rattle.fault_tree.specs.Classes.{classBy, classOf}
 use Rattle.fault_tree.proofs.Ready.{counts-inside, counts-small, states, inputs}
 use Rattle.fault_tree.proofs.Tables.{Tabled, tabled-start, tabled-more, tabled-inside, tabled-done}
 use Rattle.fault_tree.proofs.table.fill_table.Statement.{statement}
@@ -59,9 +61,17 @@ loop-less c = omega (arith, c .before .before .before .before .before .before .b
 loop-again : tie.Need-loop-again Inv-loop μ-loop
 unfolding classOf
 loop-again c =
+    let t = c .before .before .before .before .before .before .before .before .before .before .before .before .before .before .before .args .t in
     let next = c .before .before .next-joint-state .ensures in
-    let class = rw (c .before .before .before .before .before .gate-truths .ensures) at (c .before .before .before .before .class-by .ensures) in
-    tabled-more (c .before .before .before .before .before .before .before .before .loop .inv) (c .before .before .before .before .before .before .before .loop-test .taken) class (next .0) (next .1)
+    let class =
+    c .before .before .before .before .class-by .ensures
+    ∙ ap (λ (truths : List Bool). classBy truths (t .load) (t .loads)) (c .before .before .before .before .before .gate-truths .ensures) in
+    tabled-more
+    (c .before .before .before .before .before .before .before .before .loop .inv)
+    (c .before .before .before .before .before .before .before .loop-test .taken)
+    class
+    (next .0)
+    (next .1)
 
 same-length : tie.Need-same-length Inv-loop μ-loop
 same-length c = c .before .loop .inv .joint .long ∙ sym (c .before .before .before .before .before .before .before .before .pre .1 .1 .0 .long)
