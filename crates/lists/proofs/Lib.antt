@@ -1,3 +1,5 @@
+pub mod Adding
+pub mod Defaults
 pub mod Digits
 pub mod Elements
 pub mod Filled
@@ -7,6 +9,7 @@ pub mod Joined
 pub mod Maps
 pub mod Products
 pub mod Puts
+pub mod Rows
 pub mod Same
 pub mod Sets
 pub mod Sums

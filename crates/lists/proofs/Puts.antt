@@ -5,8 +5,8 @@ use mathlib.Core.List.{List, [], _∷_, _++_, append-nil, append-assoc}
 use native.Mathlib.Nat.{add-zero, add-assoc}
 use native.Mathlib.Numerals.{add-one}
 use native.Mathlib.Omega.{arith}
-use lib.ListN.{length, take, drop, set, length-append, length-drop, take-append-drop}
-use lib.Seq.{set-split, take-at, drop-append-add, drop-drop, length-take-le, append-snoc}
+use lib.ListN.{length, take, drop, set, length-append, length-drop, length-set, take-append-drop}
+use lib.Seq.{set-append-left, set-split, take-at, drop-append-add, drop-drop, length-take-le, append-snoc}
 use Rattle.lists.specs.Rows.{put}
 
 -- what is put, with what stands in front of it
@@ -47,6 +47,11 @@ put-put d at x y h =
 put-one : (d : List ℕ) (at n : ℕ) → at < length d → set d at n ≡ put d at (n ∷ [])
 unfolding put
 put-one d at n h = set-split d at n h ∙ sym (append-snoc (take at d) n (drop (suc at) d)) ∙ ap (λ (k : ℕ). take at d ++ (n ∷ []) ++ drop k d) (sym (add-one at))
+
+-- one element anew among those put at the front
+pub put-set : (d x : List ℕ) (i n : ℕ) → i < length x → set (put d 0 x) i n ≡ put d 0 (set x i n)
+unfolding put
+put-set d x i n h = set-append-left x (drop (0 + length x) d) i n h ∙ ap (λ (k : ℕ). set x i n ++ drop (0 + k) d) (sym (length-set x i n))
 
 -- x is due at a place of d₀; so far that has made d of it, and y is still to be put from p on.
 pub record Due (d₀ : List ℕ) (at : ℕ) (x d : List ℕ) (p : ℕ) (y : List ℕ) : Type 0 where

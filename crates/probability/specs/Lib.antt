@@ -1,3 +1,4 @@
 pub mod Bounds
 pub mod Chances
 pub mod Exact
+pub mod Reading

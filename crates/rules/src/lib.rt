@@ -24,6 +24,7 @@ pub use limits::MOST_MINUTES;
 pub use limits::MOST_TESTS;
 pub use limits::NEVER;
 pub use limits::SHORT;
+pub use limits::STATE_PLACES;
 pub use limits::TEST_PLACES;
 pub use table::ahead_fault;
 pub use table::count_fault;

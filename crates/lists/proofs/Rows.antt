@@ -1,0 +1,23 @@
+-- Rows of the same length, one behind the other: each stands where its number says.
+use Prim.Native.Nat.{ℕ, zero, suc, _+_, _*_, _<_}
+use mathlib.Core.Path.{_≡_, ap, _∙_}
+use mathlib.Core.List.{List, [], _∷_, _++_}
+use native.Mathlib.Nat.{not-suc-le-zero, le-of-suc-le-suc, zero-mul}
+use native.Mathlib.Omega.{arith}
+use lib.ListN.{length, getD, take, drop}
+use lib.Seq.{take-at, drop-append-add}
+use Rattle.lists.specs.Rows.{joined}
+use Rattle.lists.proofs.Elements.{Every}
+
+module _ (width : ℕ) where
+  pub row-at : (rows : List (List ℕ)) (k : ℕ) → Every (λ (row : List ℕ). length row ≡ width) [] rows → k < length rows
+      → take width (drop (k * width) (joined rows)) ≡ getD rows k []
+  unfolding joined
+  row-at [] k each h = absurd (not-suc-le-zero h)
+  row-at (row ∷ rows) zero each h = rw zero-mul (take-at row (joined rows) width (each 0 (omega arith)))
+  row-at (row ∷ rows) (suc k) each h =
+      let first : length row ≡ width = each 0 (omega arith) in
+      let place : suc k * width ≡ length row + k * width = omega (arith, first) in
+      ap (λ (p : ℕ). take width (drop p (row ++ joined rows))) place
+      ∙ ap (take width) (drop-append-add row (joined rows) (k * width))
+      ∙ row-at rows k (λ i less. each (suc i) (omega arith)) (le-of-suc-le-suc h)

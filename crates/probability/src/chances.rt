@@ -1,0 +1,61 @@
+// The chances of the states of components, as a table with four places for each.
+use rules::COMPONENT_PLACES;
+use rules::STATE_PLACES;
+use study::Component;
+use units::ONE;
+ghost use Prim.Native.Nat.{ℕ, _+_, _<_, _≤_};
+ghost use mathlib.Core.Path.{_≡_};
+ghost use lib.ListN.{length, getD};
+ghost use Rattle.lists.specs.Rows.{put};
+ghost use Rattle.units.specs.One.{one};
+ghost use Rattle.rules.specs.Limits.{mostComponents, mostStates};
+ghost use Rattle.study.specs.Zero.{zeroComponent};
+ghost use Rattle.probability.specs.Chances.{stateChances, chanceTable, chanceAt};
+
+// The places of such a table.
+pub const CHANCE_PLACES: usize = 48;
+
+// The table with the chances of a component's states from a place on.
+fn with_chances(table: [u32; CHANCE_PLACES], at: usize, c: Component) -> [u32; CHANCE_PLACES]
+    requires { ⌜ at + mostStates ≤ length table ⌝ }
+    requires { ⌜ c .p1 + c .p2 + c .p3 ≤ one ⌝ }
+    ensures { λ r. ⌜ r ≡ put table at (stateChances c) ⌝ }
+{
+    let mut more = table;
+    let mut place = at;
+    more[place] = ONE - (c.p1 + c.p2 + c.p3);
+    place = place + 1;
+    more[place] = c.p1;
+    place = place + 1;
+    more[place] = c.p2;
+    place = place + 1;
+    more[place] = c.p3;
+    more
+}
+
+// The chances of all component places.
+pub fn chance_table(component: [Component; COMPONENT_PLACES]) -> [u32; CHANCE_PLACES]
+    requires { ⌜ ((i : ℕ) → i < mostComponents → getD component i zeroComponent .p1 + getD component i zeroComponent .p2 + getD component i zeroComponent .p3 ≤ one) ⌝ }
+    ensures { λ r. ⌜ r ≡ chanceTable component ⌝ }
+{
+    let mut table = [0u32; CHANCE_PLACES];
+    let mut i: usize = 0;
+    while i < COMPONENT_PLACES {
+        let c = component[i];
+        table = with_chances(table, i * STATE_PLACES, c);
+        i = i + 1;
+    }
+    table
+}
+
+// The chance of state s of component i; 0 for one that is not in the table.
+pub fn chance_at(chances: &[u32], i: usize, s: u8) -> u32
+    requires { ⌜ i < mostComponents ⌝ }
+    ensures { λ r. ⌜ r ≡ chanceAt (now (chances .entry)) i s ⌝ }
+{
+    let at = i * STATE_PLACES + s as usize;
+    if at < chances.len() {
+        return chances[at];
+    }
+    0
+}
