@@ -5,7 +5,7 @@ use mathlib.Core.List.{List, [], _∷_, _++_, append-nil, append-assoc}
 use native.Mathlib.Nat.{add-zero, add-assoc}
 use native.Mathlib.Numerals.{add-one}
 use native.Mathlib.Omega.{arith}
-use lib.ListN.{length, take, drop, set, length-append, length-drop, length-set, take-append-drop}
+use lib.ListN.{length, take, drop, set, length-append, length-drop, length-set, take-append-drop, drop-of-length-le}
 use lib.Seq.{set-append-left, set-split, take-at, drop-append-add, drop-drop, length-take-le, append-snoc}
 use Rattle.lists.specs.Rows.{put}
 
@@ -47,6 +47,11 @@ put-put d at x y h =
 put-one : (d : List ℕ) (at n : ℕ) → at < length d → set d at n ≡ put d at (n ∷ [])
 unfolding put
 put-one d at n h = set-split d at n h ∙ sym (append-snoc (take at d) n (drop (suc at) d)) ∙ ap (λ (k : ℕ). take at d ++ (n ∷ []) ++ drop k d) (sym (add-one at))
+
+-- all is written over
+pub put-whole : (d x : List ℕ) → length x ≡ length d → put d 0 x ≡ x
+unfolding put
+put-whole d x e = ap (λ (l : List ℕ). x ++ l) (drop-of-length-le d {i = 0 + length x} (omega (arith, e))) ∙ append-nil x
 
 -- one element anew among those put at the front
 pub put-set : (d x : List ℕ) (i n : ℕ) → i < length x → set (put d 0 x) i n ≡ put d 0 (set x i n)

@@ -42,7 +42,9 @@ pub fn chance_table(component: [Component; COMPONENT_PLACES]) -> [u32; CHANCE_PL
     let mut i: usize = 0;
     while i < COMPONENT_PLACES {
         let c = component[i];
-        table = with_chances(table, i * STATE_PLACES, c);
+        let at = i * STATE_PLACES;
+        let more = with_chances(table, at, c);
+        table = more;
         i = i + 1;
     }
     table

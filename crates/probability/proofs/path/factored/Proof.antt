@@ -1,34 +1,33 @@
+-- `probability::path::factored` meets its contract: the two cases of the definition.
+use native.Mathlib.Omega.{arith}
+use Rattle.probability.proofs.Factors.{blank-factor, settled-factor}
 use borrow.Author.Needs.{needs}
 use Rattle.probability.proofs.path.factored.Statement.{statement}
 use Rattle.probability.proofs.path.factored.Tie as tie
-use Rattle.probability.proofs.path.factored.Reads as reads
-use Rattle.probability.proofs.path.factored.Lts as lts
-use Rattle.probability.proofs.chances.chance_at.Reads as chance-at-reads
-use Rattle.units.proofs.scale.Reads as scale-reads
 
--- src/path.rt:27:16
 shared-slice-read-mark : tie.Need-shared-slice-read-mark
 shared-slice-read-mark c = search needs
 
--- src/path.rt:29:9
 returns : tie.Need-returns
-returns c = ?
+returns c =
+    let start = c .before .before .before .before in
+    (blank-factor _ _ _ _ _ (start .pre .1 .1 .1 .0) (c .if1 .taken), start .pre .1 .1 .1 .1)
 
--- src/path.rt:31:28
 chance-at-requires : tie.Need-chance-at-requires
 chance-at-requires c κs = search needs
 
--- src/path.rt:31:28
 cast-scale : tie.Need-cast-scale
 cast-scale c = search needs
 
--- src/path.rt:31:5
 scale-requires : tie.Need-scale-requires
-scale-requires c κs = ?
+scale-requires c κs =
+    let start = c .before .before .before .before .before in
+    (start .pre .0, (start .pre .1 .1 .1 .1, rw (c .chance-at .ensures) (start .pre .1 .0 .each _)))
 
--- src/path.rt:18:1
 returns-2 : tie.Need-returns-2
-returns-2 c = ?
+returns-2 c =
+    let start = c .before .before .before .before .before .before in
+    (settled-factor _ _ _ _ _ (start .pre .1 .1 .1 .0) (c .before .before .if1 .left) (c .before .chance-at .ensures) (c .scale .ensures .0), c .scale .ensures .1)
 
 pub factored-spec : {M : Type 1} → statement M
 factored-spec =

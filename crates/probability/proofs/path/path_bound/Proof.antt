@@ -1,42 +1,45 @@
+-- `probability::path::path_bound` meets its contract. The bound has the factors of the components below i (`Factored`).
+use Prim.Native.Nat.{_-_}
+use native.Mathlib.Omega.{arith}
+use borrow.Author.Needs.{needs}
+use Rattle.probability.proofs.Factors.{Factored, factors-start, factors-more, factors-done}
 use Rattle.probability.proofs.path.path_bound.Statement.{statement}
 use Rattle.probability.proofs.path.path_bound.Tie as tie
-use Rattle.probability.proofs.path.path_bound.Reads as reads
-use Rattle.probability.proofs.path.path_bound.Lts as lts
-use Rattle.probability.proofs.path.factored.Reads as factored-reads
 
 abbrev Inv-loop : tie.InvT-loop
-Inv-loop rounding chances n entry bound₀ i₀ bound i = ?
+Inv-loop rounding chances n entry bound₀ i₀ bound i = Factored rounding chances entry n i bound
 
 abbrev μ-loop : tie.MeasureT-loop
-μ-loop rounding chances n entry bound₀ i₀ bound i = ?
+μ-loop rounding chances n entry bound₀ i₀ bound i = n - i
 
--- src/path.rt:43:21
 cast-bound : tie.Need-cast-bound Inv-loop μ-loop
-cast-bound c = ?
+cast-bound c = search needs
 
--- src/path.rt:45:5
 loop-holds : tie.Need-loop-holds Inv-loop μ-loop
-loop-holds c = ?
+loop-holds c = factors-start
 
--- src/path.rt:46:9
 factored-requires : tie.Need-factored-requires Inv-loop μ-loop
-factored-requires c κs = ?
+factored-requires c κs =
+    let pre = c .before .before .before .before .pre in
+    (
+      pre .0,
+      (
+        pre .1 .0,
+        (omega (arith, c .loop-test .taken, pre .1 .1 .0), (omega (arith, c .loop-test .taken, pre .1 .1 .1), c .before .loop .inv .most)),
+      ),
+    )
 
--- src/path.rt:47:13
 add-i : tie.Need-add-i Inv-loop μ-loop
-add-i c = ?
+add-i c = omega arith
 
--- src/path.rt:45:5
 loop-less : tie.Need-loop-less Inv-loop μ-loop
-loop-less c = ?
+loop-less c = omega (arith, c .before .loop-test .taken)
 
--- src/path.rt:45:5
 loop-again : tie.Need-loop-again Inv-loop μ-loop
-loop-again c = ?
+loop-again c = factors-more (c .before .before .loop .inv) (c .before .loop-test .taken) (c .factored .ensures .0) (c .factored .ensures .1)
 
--- src/path.rt:35:1
 returns : tie.Need-returns Inv-loop μ-loop
-returns c = ?
+returns c = (factors-done (c .before .loop .inv) (c .loop-test .left), c .before .loop .inv .most)
 
 pub path-bound-spec : {M : Type 1} → statement M
 path-bound-spec =
