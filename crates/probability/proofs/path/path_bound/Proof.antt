@@ -20,8 +20,7 @@ loop-holds c = factors-start
 
 factored-requires : tie.Need-factored-requires Inv-loop μ-loop
 factored-requires c κs =
-    let pre = c .before .before .before .before .pre in
-    (
+    let pre = c .before .before .before .before .pre in (
       pre .0,
       (
         pre .1 .0,
