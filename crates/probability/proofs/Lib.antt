@@ -1,2 +1,4 @@
+pub mod Bounded
 pub mod Charted
 pub mod Factors
+pub mod Lists

@@ -2,3 +2,4 @@ pub mod Bounds
 pub mod Chances
 pub mod Exact
 pub mod Reading
+pub mod Totals

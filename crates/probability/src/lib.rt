@@ -2,6 +2,9 @@
 // call `planning`.
 mod chances;
 mod path;
+mod totals;
 
 pub use chances::chance_table;
-pub use path::path_bound;
+pub use totals::class_totals;
+pub use totals::load_totals;
+pub use totals::path_bounds;

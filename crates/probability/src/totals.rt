@@ -1,0 +1,132 @@
+// Bounds and totals over a list of paths. Each call works out lower or upper numbers, by what its divisions add.
+use crate::path::path_bound;
+use rules::LOAD_PLACES;
+ghost use Prim.Native.Nat.{ℕ, _+_, _*_, _≤_, _<_, min};
+ghost use mathlib.Core.Path.{_≡_};
+ghost use lib.ListN.{length, getD, take, drop};
+ghost use Rattle.lists.specs.Bits.{bit};
+ghost use Rattle.lists.specs.Counting.{kept};
+ghost use Rattle.lists.specs.Rows.{put};
+ghost use Rattle.lists.specs.Tabulate.{tabulate};
+ghost use Rattle.units.specs.One.{one};
+ghost use Rattle.units.specs.Rounding.{up};
+ghost use Rattle.rules.specs.Limits.{mostLoads};
+ghost use Rattle.probability.specs.Reading.{AtMostOne, PathList};
+ghost use Rattle.probability.specs.Totals.{classPlaces, sumsMost, noTotals, entriesOf, pathBounds, classTotals, loadTotals};
+
+// The places of classes.
+const CLASS_PLACES: usize = 256;
+
+// The k-th entry of a list whose entries have n components.
+fn entry_at(list: &[u8], n: usize, k: usize) -> &[u8]
+    requires { ⌜ k * (n + 1) + (n + 1) ≤ length (now list) ⌝ }
+    ensures { λ r. ⌜ now r ≡ take (n + 1) (drop (k * (n + 1)) (now (list .entry))) ⌝ }
+{
+    let width = n + 1;
+    let at = k * width;
+    &list[at..at + width]
+}
+
+// Writes a bound for each of so many paths at the front of a slice.
+pub fn path_bounds(rounding: u64, chances: &[u32], n: usize, list: &[u8], paths: usize, out: &mut [u64])
+    requires { ⌜ rounding ≤ up ⌝ }
+    requires { ⌜ AtMostOne (now chances) ⌝ }
+    requires { ⌜ PathList n paths (now list) ⌝ }
+    requires { ⌜ paths ≤ length (now out) ⌝ }
+    ensures { λ r. ⌜ now (out .exit) ≡ put (now (out .entry)) 0 (pathBounds rounding (now (chances .entry)) n (entriesOf n paths (now (list .entry)))) ⌝ }
+{
+    let mut k: usize = 0;
+    while k < paths {
+        out[k] = path_bound(rounding, chances, n, entry_at(list, n, k));
+        k = k + 1;
+    }
+}
+
+// The sum of two numbers, at most so much.
+fn sum_at_most(most: u64, a: u64, b: u64) -> u64
+    requires { ⌜ a ≤ sumsMost ⌝ }
+    requires { ⌜ b ≤ one ⌝ }
+    ensures { λ r. ⌜ r ≡ min most (a + b) ⌝ }
+{
+    let sum = a + b;
+    if most < sum {
+        return most;
+    }
+    sum
+}
+
+// Clears the places of classes.
+fn clear(out: &mut [u64])
+    requires { ⌜ classPlaces ≤ length (now out) ⌝ }
+    ensures { λ r. ⌜ now (out .exit) ≡ put (now (out .entry)) 0 noTotals ⌝ }
+{
+    let mut c: usize = 0;
+    while c < CLASS_PLACES {
+        out[c] = 0;
+        c = c + 1;
+    }
+}
+
+// Writes a total for each class, at most so much, at the front of a slice: the places are cleared, and each path is added at its class.
+pub fn class_totals(rounding: u64, most: u64, chances: &[u32], n: usize, list: &[u8], paths: usize, out: &mut [u64])
+    requires { ⌜ rounding ≤ up ⌝ }
+    requires { ⌜ most ≤ sumsMost ⌝ }
+    requires { ⌜ AtMostOne (now chances) ⌝ }
+    requires { ⌜ PathList n paths (now list) ⌝ }
+    requires { ⌜ classPlaces ≤ length (now out) ⌝ }
+    ensures { λ r. ⌜ now (out .exit) ≡ put (now (out .entry)) 0 (classTotals rounding most (now (chances .entry)) n (entriesOf n paths (now (list .entry)))) ⌝ }
+{
+    clear(out);
+    let mut k: usize = 0;
+    while k < paths {
+        let entry = entry_at(list, n, k);
+        let class = entry[n] as usize;
+        out[class] = sum_at_most(most, out[class], path_bound(rounding, chances, n, entry));
+        k = k + 1;
+    }
+}
+
+// A bound where bit j of a class stands, else 0.
+fn kept_bit(class: u8, j: usize, bound: u64) -> u64
+    requires { ⌜ j < mostLoads ⌝ }
+    ensures { λ r. ⌜ r ≡ kept (bit class j) bound ⌝ }
+{
+    if (class >> j) & 1 == 1 {
+        return bound;
+    }
+    0
+}
+
+// The totals of all loads with the bound of a path added to those whose bit its class has.
+fn with_path(most: u64, totals: [u64; LOAD_PLACES], class: u8, bound: u64) -> [u64; LOAD_PLACES]
+    requires { ⌜ ((j : ℕ) → j < mostLoads → getD totals j 0 ≤ sumsMost) ⌝ }
+    requires { ⌜ bound ≤ one ⌝ }
+    ensures { λ r. ⌜ r ≡ tabulate (λ (j : ℕ). min most (getD totals j 0 + kept (bit class j) bound)) mostLoads ⌝ }
+{
+    let mut more = totals;
+    let mut j: usize = 0;
+    while j < LOAD_PLACES {
+        more[j] = sum_at_most(most, totals[j], kept_bit(class, j, bound));
+        j = j + 1;
+    }
+    more
+}
+
+// A total for each load place, at most so much, over the paths whose class has its bit.
+pub fn load_totals(rounding: u64, most: u64, chances: &[u32], n: usize, list: &[u8], paths: usize) -> [u64; LOAD_PLACES]
+    requires { ⌜ rounding ≤ up ⌝ }
+    requires { ⌜ most ≤ sumsMost ⌝ }
+    requires { ⌜ AtMostOne (now chances) ⌝ }
+    requires { ⌜ PathList n paths (now list) ⌝ }
+    ensures { λ r. ⌜ r ≡ loadTotals rounding most (now (chances .entry)) n (entriesOf n paths (now (list .entry))) ⌝ }
+{
+    let mut totals = [0u64; LOAD_PLACES];
+    let mut k: usize = 0;
+    while k < paths {
+        let entry = entry_at(list, n, k);
+        let more = with_path(most, totals, entry[n], path_bound(rounding, chances, n, entry));
+        totals = more;
+        k = k + 1;
+    }
+    totals
+}
