@@ -9,6 +9,8 @@ pub mod Products
 pub mod Puts
 pub mod Same
 pub mod Sets
+pub mod SumBelow
+pub mod SumOver
 pub mod Sums
 pub mod Tests
 pub mod Turns
