@@ -1,0 +1,4 @@
+pub mod Chanced
+pub mod Exact
+pub mod Factors
+pub mod Marks
