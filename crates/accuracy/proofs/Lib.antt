@@ -2,3 +2,4 @@ pub mod Chanced
 pub mod Exact
 pub mod Factors
 pub mod Marks
+pub mod PathBounds
