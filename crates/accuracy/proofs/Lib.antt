@@ -3,3 +3,4 @@ pub mod Exact
 pub mod Factors
 pub mod Marks
 pub mod PathBounds
+pub mod Totals
