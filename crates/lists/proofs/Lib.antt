@@ -12,6 +12,8 @@ pub mod Puts
 pub mod Rows
 pub mod Same
 pub mod Sets
+pub mod SumBelow
+pub mod SumOver
 pub mod Sums
 pub mod Tabulated
 pub mod Tests

@@ -1,4 +1,5 @@
 pub mod Bounded
+pub mod Chances
 pub mod Charted
 pub mod Factors
 pub mod Lists

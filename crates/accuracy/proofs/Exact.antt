@@ -1,0 +1,67 @@
+-- The exact chance of a set of joint states, component by component: the sum over the states of the first component of its chance times the
+-- exact chance of what is left to the later ones.
+use Prim.Native.Nat.{ℕ, zero, suc, _+_, _*_}
+use mathlib.Core.Path.{_≡_, refl, ap, _∙_}
+use mathlib.Core.Bool.{Bool}
+use mathlib.Core.List.{List, [], _∷_}
+use native.Mathlib.Nat.{zero-add, add-zero}
+use native.Mathlib.Numerals.{add-one}
+use native.Mathlib.Omega.{arith}
+use Rattle.lists.specs.Counting.{sum, kept, sumOver}
+use Rattle.lists.proofs.SumOver.{kept-scaled, sum-over-append, sum-over-scaled, sum-over-map}
+use Rattle.joint_states.specs.JointStates.{divided, jointStates}
+use Rattle.paths.proofs.Ways.{headed}
+use Rattle.study.specs.declared.Component.{Component}
+use Rattle.probability.specs.Chances.{chance}
+use Rattle.probability.specs.Exact.{weight, exact}
+
+-- ---- rows of each state
+
+module _ (marks : ℕ → ℕ) (rows : ℕ → List (List ℕ)) (f : List ℕ → ℕ) where
+  -- the sum over the rows of state s, its mark in front
+  abbrev stateSum : ℕ → ℕ
+  stateSum s = sumOver (λ (row : List ℕ). f (marks s ∷ row)) (rows s)
+
+  sum-over-divided : (s n : ℕ) → sum stateSum s + sumOver f (divided marks rows s n) ≡ sum stateSum (s + n)
+  unfolding divided sum sumOver
+  sum-over-divided s zero = rw (add-zero s) (omega arith)
+  sum-over-divided s (suc n) =
+      let rest = divided marks rows (s + 1) n in
+      let next : sum stateSum (s + 1) ≡ sum stateSum s + stateSum s = rw (add-one s) refl in
+      let places : s + 1 + n ≡ s + suc n = omega arith in
+      omega (
+        arith,
+        sum-over-append f (headed (marks s) (rows s)) rest,
+        sum-over-map f (λ (row : List ℕ). marks s ∷ row) (rows s),
+        next,
+        sum-over-divided (s + 1) n,
+        ap (sum stateSum) places,
+      )
+
+  sum-over-states : (n : ℕ) → sumOver f (divided marks rows 0 n) ≡ sum stateSum n
+  unfolding sum
+  sum-over-states n = omega (arith, sum-over-divided 0 n, ap (sum stateSum) (zero-add n))
+
+-- ---- no component
+
+pub exact-last : (components : List Component) (concerned : List ℕ → Bool) → exact components [] concerned ≡ kept (concerned []) 1
+unfolding exact weight jointStates sumOver
+exact-last components concerned = add-zero (kept (concerned []) 1)
+
+-- ---- the first component
+
+module _ (component : Component) (components : List Component) (c : ℕ) (cs : List ℕ) (concerned : List ℕ → Bool) where
+  -- the exact chance of what is concerned once the first component has state s
+  abbrev later : ℕ → ℕ
+  later s = exact components cs (λ (x : List ℕ). concerned (s ∷ x))
+
+  pub exact-first : exact (component ∷ components) (c ∷ cs) concerned ≡ sum (λ (s : ℕ). chance component s * later s) c
+  unfolding exact weight jointStates
+  exact-first =
+      sum-over-states (λ (s : ℕ). s) (λ (s : ℕ). jointStates cs) (λ (x : List ℕ). kept (concerned x) (weight (component ∷ components) x)) c
+      ∙ (λ i. sum (λ (s : ℕ). state s i) c)
+    where
+      state : (s : ℕ) → sumOver (λ (x : List ℕ). kept (concerned (s ∷ x)) (chance component s * weight components x)) (jointStates cs) ≡ chance component s * later s
+      state s =
+          (λ i. sumOver (λ (x : List ℕ). kept-scaled (concerned (s ∷ x)) (chance component s) (weight components x) i) (jointStates cs))
+          ∙ sum-over-scaled (chance component s) (λ (x : List ℕ). kept (concerned (s ∷ x)) (weight components x)) (jointStates cs)
