@@ -21,7 +21,7 @@ use Rattle.study.specs.declared.Component.{Component}
 use Rattle.study.specs.Zero.{zeroComponent}
 use Rattle.probability.specs.Bounds.{factored, pathBound}
 use Rattle.probability.specs.Chances.{chance, chanceTable, chanceAt}
-use Rattle.probability.proofs.Chances.{table-chance}
+use Rattle.probability.proofs.TableChance.{table-chance}
 use Rattle.accuracy.specs.Accuracy.{Chanced, settledCount, PathWithin, PathsAtMostOne}
 use Rattle.accuracy.proofs.Chanced.{chance-most}
 use Rattle.accuracy.proofs.Factors.{factor, factors, exact-fitting}

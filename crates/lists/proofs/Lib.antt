@@ -18,3 +18,4 @@ pub mod Sums
 pub mod Tabulated
 pub mod Tests
 pub mod Turns
+pub mod Writing

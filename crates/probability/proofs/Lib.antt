@@ -1,5 +1,7 @@
 pub mod Bounded
-pub mod Chances
 pub mod Charted
+pub mod Classed
 pub mod Factors
 pub mod Lists
+pub mod Loaded
+pub mod TableChance

@@ -2,8 +2,9 @@
 use Prim.Native.Nat.{ℕ, _+_, _*_, min}
 use mathlib.Core.List.{List, map}
 use lib.Dec.{eqb}
-use lib.ListN.{take, drop}
+use lib.ListN.{getD, take, drop}
 use Rattle.lists.specs.Bits.{bit}
+use Rattle.lists.specs.Counting.{kept}
 use Rattle.lists.specs.Tabulate.{tabulate}
 use Rattle.rules.specs.Limits.{mostLoads}
 use Rattle.probability.specs.Bounds.{pathBound, total}
@@ -42,3 +43,8 @@ unfoldable pub loadTotals : ℕ → ℕ → List ℕ → ℕ → List (List ℕ)
 unfolding tabulate total
 loadTotals rounding most chances n entries =
     tabulate (λ (j : ℕ). min most (total rounding chances n (λ (class : ℕ). bit class j) entries)) mostLoads
+
+-- the totals of all loads with the bound of a path added to those whose bit its class has
+unfoldable pub withPath : ℕ → List ℕ → ℕ → ℕ → List ℕ
+unfolding tabulate
+withPath most totals class bound = tabulate (λ (j : ℕ). min most (getD totals j 0 + kept (bit class j) bound)) mostLoads

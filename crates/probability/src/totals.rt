@@ -7,12 +7,11 @@ ghost use lib.ListN.{length, getD, take, drop};
 ghost use Rattle.lists.specs.Bits.{bit};
 ghost use Rattle.lists.specs.Counting.{kept};
 ghost use Rattle.lists.specs.Rows.{put};
-ghost use Rattle.lists.specs.Tabulate.{tabulate};
 ghost use Rattle.units.specs.One.{one};
 ghost use Rattle.units.specs.Rounding.{up};
 ghost use Rattle.rules.specs.Limits.{mostLoads};
 ghost use Rattle.probability.specs.Reading.{AtMostOne, PathList};
-ghost use Rattle.probability.specs.Totals.{classPlaces, sumsMost, noTotals, entriesOf, pathBounds, classTotals, loadTotals};
+ghost use Rattle.probability.specs.Totals.{classPlaces, sumsMost, noTotals, entriesOf, pathBounds, classTotals, loadTotals, withPath};
 
 // The places of classes.
 const CLASS_PLACES: usize = 256;
@@ -101,7 +100,7 @@ fn kept_bit(class: u8, j: usize, bound: u64) -> u64
 fn with_path(most: u64, totals: [u64; LOAD_PLACES], class: u8, bound: u64) -> [u64; LOAD_PLACES]
     requires { ⌜ ((j : ℕ) → j < mostLoads → getD totals j 0 ≤ sumsMost) ⌝ }
     requires { ⌜ bound ≤ one ⌝ }
-    ensures { λ r. ⌜ r ≡ tabulate (λ (j : ℕ). min most (getD totals j 0 + kept (bit class j) bound)) mostLoads ⌝ }
+    ensures { λ r. ⌜ r ≡ withPath most totals class bound ⌝ }
 {
     let mut more = totals;
     let mut j: usize = 0;

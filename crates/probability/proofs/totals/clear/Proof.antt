@@ -1,45 +1,42 @@
+-- `probability::totals::clear` meets its contract. The places below c are cleared (`Writing`).
+use Prim.Native.Nat.{_-_}
+use mathlib.Core.Path.{sym}
+use native.Mathlib.Omega.{arith}
+use Rattle.lists.proofs.Writing.{Writing, writing-start, writing-more, writing-room, writing-done}
+use Rattle.probability.specs.Totals.{noTotals}
+use Rattle.probability.proofs.Classed.{none-long, none-is}
 use Rattle.probability.proofs.totals.clear.Statement.{statement}
 use Rattle.probability.proofs.totals.clear.Tie as tie
-use Rattle.probability.proofs.totals.clear.Reads as reads
-use Rattle.probability.proofs.totals.clear.Lts as lts
 
 abbrev Inv-loop : tie.InvT-loop
-Inv-loop out₀ c₀ out c = ?
+Inv-loop out₀ c₀ out c = Writing noTotals out₀ c out
 
 abbrev μ-loop : tie.MeasureT-loop
-μ-loop out₀ c₀ out c = ?
+μ-loop out₀ c₀ out c = 256 - c
 
--- src/totals.rt:64:5
 loop-holds : tie.Need-loop-holds Inv-loop μ-loop
-loop-holds c = ?
+loop-holds c = writing-start (omega (arith, none-long, c .pre))
 
--- src/totals.rt:65:9
 mul-out : tie.Need-mul-out Inv-loop μ-loop
-mul-out c = ?
+mul-out c = omega arith
 
--- src/totals.rt:65:9
 slice-write-out : tie.Need-slice-write-out Inv-loop μ-loop
-slice-write-out c = ?
+slice-write-out c = writing-room (c .before .loop .inv) (omega (arith, none-long, c .loop-test .taken))
 
--- src/totals.rt:66:13
 add-c : tie.Need-add-c Inv-loop μ-loop
-add-c c = ?
+add-c c = omega arith
 
--- src/totals.rt:64:5
 loop-less : tie.Need-loop-less Inv-loop μ-loop
-loop-less c = ?
+loop-less c = omega arith
 
--- src/totals.rt:64:5
 loop-again : tie.Need-loop-again Inv-loop μ-loop
-loop-again c = ?
+loop-again c = writing-more (c .before .loop .inv) (omega (arith, none-long, c .loop-test .taken)) (sym (none-is _ (c .loop-test .taken)))
 
--- src/totals.rt:59:1
 same-length : tie.Need-same-length Inv-loop μ-loop
-same-length c = ?
+same-length c = c .before .loop .inv .due .size
 
--- src/totals.rt:59:1
 returns : tie.Need-returns Inv-loop μ-loop
-returns c = ?
+returns c = writing-done (c .before .loop .inv) (omega (arith, none-long, c .loop-test .left))
 
 pub clear-spec : {M : Type 1} → statement M
 clear-spec =

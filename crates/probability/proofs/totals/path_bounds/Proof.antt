@@ -1,19 +1,24 @@
--- `probability::totals::path_bounds` meets its contract. The bounds of the paths below k are written (`Bounded`).
+-- `probability::totals::path_bounds` meets its contract. The bounds of the paths below k are written (`Writing`).
 use Prim.Native.Nat.{_-_}
+use mathlib.Core.Path.{_∙_}
 use native.Mathlib.Omega.{arith}
 use Rattle.probability.proofs.Lists.{entry-inside, entry-long}
-use Rattle.probability.proofs.Bounded.{Bounded, bounded-start, bounded-more, bounded-room, bounded-done}
+use Rattle.lists.proofs.Writing.{Writing, writing-start, writing-more, writing-room, writing-done}
+use Rattle.probability.proofs.Bounded.{bounds, bounds-long, bound-is}
 use Rattle.probability.proofs.totals.path_bounds.Statement.{statement}
 use Rattle.probability.proofs.totals.path_bounds.Tie as tie
 
 abbrev Inv-loop : tie.InvT-loop
-Inv-loop rounding chances n list paths out₀ k₀ out k = Bounded rounding chances n list paths out₀ k out
+Inv-loop rounding chances n list paths out₀ k₀ out k = Writing (bounds rounding chances n list paths) out₀ k out
 
 abbrev μ-loop : tie.MeasureT-loop
 μ-loop rounding chances n list paths out₀ k₀ out k = paths - k
 
 loop-holds : tie.Need-loop-holds Inv-loop μ-loop
-loop-holds c = bounded-start (c .before .before .before .pre .1 .1 .1)
+loop-holds c =
+    let start = c .before .before .before in
+    let long = bounds-long (start .args .rounding) (start .args .chances .now) (start .args .n) (start .args .list .now) (start .args .paths) in
+    writing-start (omega (arith, long, start .pre .1 .1 .1))
 
 entry-at-requires : tie.Need-entry-at-requires Inv-loop μ-loop
 entry-at-requires c κs = entry-inside (c .before .before .before .before .before .pre .1 .1 .0) (c .loop-test .taken)
@@ -29,7 +34,9 @@ mul-out c = omega (arith, c .before .before .loop-test .taken, c .before .before
 
 slice-write-out : tie.Need-slice-write-out Inv-loop μ-loop
 slice-write-out c =
-    bounded-room (c .before .before .before .loop .inv) (c .before .before .loop-test .taken) (c .before .before .before .before .before .before .before .pre .1 .1 .1)
+    let start = c .before .before .before .before .before .before .before in
+    let long = bounds-long (start .args .rounding) (start .args .chances .now) (start .args .n) (start .args .list .now) (start .args .paths) in
+    writing-room (c .before .before .before .loop .inv) (omega (arith, long, c .before .before .loop-test .taken))
 
 add-k : tie.Need-add-k Inv-loop μ-loop
 add-k c = omega arith
@@ -39,13 +46,19 @@ loop-less c = omega (arith, c .before .before .loop-test .taken)
 
 loop-again : tie.Need-loop-again Inv-loop μ-loop
 loop-again c =
-    bounded-more (c .before .before .before .loop .inv) (c .before .before .loop-test .taken) (c .before .entry-at .ensures) (c .path-bound .ensures .0)
+    let start = c .before .before .before .before .before .before .before in
+    let long = bounds-long (start .args .rounding) (start .args .chances .now) (start .args .n) (start .args .list .now) (start .args .paths) in
+    let taken = c .before .before .loop-test .taken in
+    writing-more (c .before .before .before .loop .inv) (omega (arith, long, taken)) (c .path-bound .ensures .0 ∙ bound-is _ _ _ _ _ _ _ taken (c .before .entry-at .ensures))
 
 same-length : tie.Need-same-length Inv-loop μ-loop
 same-length c = c .before .loop .inv .due .size
 
 returns : tie.Need-returns Inv-loop μ-loop
-returns c = bounded-done (c .before .loop .inv) (c .loop-test .left)
+returns c =
+    let start = c .before .before .before .before .before in
+    let long = bounds-long (start .args .rounding) (start .args .chances .now) (start .args .n) (start .args .list .now) (start .args .paths) in
+    writing-done (c .before .loop .inv) (omega (arith, long, c .loop-test .left))
 
 pub path-bounds-spec : {M : Type 1} → statement M
 path-bounds-spec =

@@ -1,59 +1,71 @@
+-- `probability::totals::with_path` meets its contract. The totals of the loads below j are filled in (`Filling`).
+use Prim.Native.Nat.{ℕ, _+_, _-_, min}
+use mathlib.Core.Path.{_≡_, sym, ap, subst, _∙_}
+use native.Mathlib.Omega.{arith}
+use borrow.Author.Needs.{needs}
+use lib.ListN.{length, getD, set}
+use Rattle.lists.specs.Bits.{bit}
+use Rattle.lists.proofs.Filling.{Filling, filling-start, filling-more, filling-done}
+use Rattle.lists.proofs.SumOver.{kept-most}
+use Rattle.probability.specs.Totals.{withPath}
+use Rattle.probability.proofs.Loaded.{with-long, with-is}
 use Rattle.probability.proofs.totals.with_path.Statement.{statement}
 use Rattle.probability.proofs.totals.with_path.Tie as tie
-use Rattle.probability.proofs.totals.with_path.Reads as reads
-use Rattle.probability.proofs.totals.with_path.Lts as lts
-use Rattle.probability.proofs.totals.kept_bit.Reads as kept-bit-reads
-use Rattle.probability.proofs.totals.sum_at_most.Reads as sum-at-most-reads
 
 abbrev Inv-loop : tie.InvT-loop
-Inv-loop most class bound totals more₀ j₀ more j = ?
+Inv-loop most class bound totals more₀ j₀ more j =
+    Filling (withPath most totals class bound) j more
 
 abbrev μ-loop : tie.MeasureT-loop
-μ-loop most class bound totals more₀ j₀ more j = ?
+μ-loop most class bound totals more₀ j₀ more j = 8 - j
 
--- src/totals.rt:108:5
 loop-holds : tie.Need-loop-holds Inv-loop μ-loop
-loop-holds c = ?
+loop-holds c =
+    let eight : length (c .args .t2) ≡ 8 = search needs in
+    filling-start (eight ∙ sym (with-long (c .args .most) (c .args .t2) (c .args .class) (c .args .bound)))
 
--- src/totals.rt:109:37
 mul-sum-at-most : tie.Need-mul-sum-at-most Inv-loop μ-loop
-mul-sum-at-most c = ?
+mul-sum-at-most c = omega arith
 
--- src/totals.rt:109:37
 array-read-sum-at-most : tie.Need-array-read-sum-at-most Inv-loop μ-loop
-array-read-sum-at-most c = ?
+array-read-sum-at-most c = omega arith
 
--- src/totals.rt:109:48
 kept-bit-requires : tie.Need-kept-bit-requires Inv-loop μ-loop
-kept-bit-requires c κs = ?
+kept-bit-requires c κs = c .loop-test .taken
 
--- src/totals.rt:109:19
 sum-at-most-requires : tie.Need-sum-at-most-requires Inv-loop μ-loop
-sum-at-most-requires c κs = ?
+sum-at-most-requires c κs =
+    let start = c .before .before .before in
+    (start .pre .0 _ (c .before .loop-test .taken), omega (arith, c .kept-bit .ensures, kept-most (bit (start .args .class) (c .before .before .loop .j)) (start .args .bound), start .pre .1))
 
--- src/totals.rt:109:9
 mul-more : tie.Need-mul-more Inv-loop μ-loop
-mul-more c = ?
+mul-more c = omega (arith, c .before .before .loop-test .taken)
 
--- src/totals.rt:109:9
 array-write-more : tie.Need-array-write-more Inv-loop μ-loop
-array-write-more c = ?
+array-write-more c = omega (arith, c .before .before .loop-test .taken)
 
--- src/totals.rt:110:13
 add-j : tie.Need-add-j Inv-loop μ-loop
-add-j c = ?
+add-j c = omega arith
 
--- src/totals.rt:108:5
 loop-less : tie.Need-loop-less Inv-loop μ-loop
-loop-less c = ?
+loop-less c = omega (arith, c .before .before .loop-test .taken)
 
--- src/totals.rt:108:5
 loop-again : tie.Need-loop-again Inv-loop μ-loop
-loop-again c = ?
+loop-again c =
+    let args = c .before .before .before .before .args in
+    let loop = c .before .before .before .loop in
+    let taken = c .before .before .loop-test .taken in
+    let value : c .sum-at-most .result ≡ getD (withPath (args .most) (args .t2) (args .class) (args .bound)) (loop .j) 0 =
+        c .sum-at-most .ensures
+        ∙ ap (λ (n : ℕ). min (args .most) (getD (args .t2) (loop .j) 0 + n)) (c .before .kept-bit .ensures)
+        ∙ sym (with-is (args .most) (args .t2) (args .class) (args .bound) (loop .j) taken) in
+    subst (λ (n : ℕ). Filling (withPath (args .most) (args .t2) (args .class) (args .bound)) (loop .j + 1) (set (loop .more) (loop .j) n)) (sym value)
+    (filling-more 0 (loop .inv) (omega (arith, taken, with-long (args .most) (args .t2) (args .class) (args .bound))))
 
--- src/totals.rt:101:1
 returns : tie.Need-returns Inv-loop μ-loop
-returns c = ?
+returns c =
+    let args = c .before .before .args in
+    filling-done (c .before .loop .inv) (omega (arith, c .loop-test .left, with-long (args .most) (args .t2) (args .class) (args .bound)))
 
 pub with-path-spec : {M : Type 1} → statement M
 with-path-spec =
