@@ -6,6 +6,7 @@ use mathlib.Core.List.{List, [], _∷_}
 use mathlib.Core.Logic.{⊎-elim}
 use native.Mathlib.Nat.{not-suc-le-zero, le-of-suc-le-suc, eq-or-lt-of-le}
 use native.Mathlib.Numerals.{add-one}
+use native.Mathlib.Omega.{arith}
 use lib.Dec.{eqb}
 use lib.ListN.{length, getD, set, length-append, length-set, List·getD-append}
 use lib.Seq.{getD-at, getD-set-same, getD-set-other, ext-getD}
@@ -32,6 +33,12 @@ module _ {A : Type 0} where
   tabulated f n l d long at =
       ext-getD d l (tabulate f n) (long ∙ sym (length-tabulate f n))
       (λ k h. at k (rw long at h) ∙ sym (getD-tabulate f n k d (rw long at h)))
+
+  -- two functions that agree below n
+  pub tabulate-alike : (f g : ℕ → A) (n : ℕ) → ((k : ℕ) → k < n → f k ≡ g k) → tabulate f n ≡ tabulate g n
+  unfolding tabulate
+  tabulate-alike f g zero same = refl
+  tabulate-alike f g (suc n) same = rw (tabulate-alike f g n (λ k h. same k (omega arith)), same n (omega arith)) refl
 
   -- one value anew
   pub tabulate-set : (f g : ℕ → A) (n i : ℕ) (a : A) → i < n → g i ≡ a → ((k : ℕ) → (k ≡ i → ⊥) → g k ≡ f k) → set (tabulate f n) i a ≡ tabulate g n

@@ -1,14 +1,9 @@
 -- The bounds of all paths of a list: how many there are, and what each is.
-use Prim.Native.Nat.{ℕ, _+_, _*_, _<_, _≤_}
+use Prim.Native.Nat.{ℕ, _+_, _*_, _<_}
 use mathlib.Core.Path.{_≡_, sym, ap, _∙_}
-use mathlib.Core.List.{List, [], _∷_}
-use native.Mathlib.Numerals.{add-one}
-use native.Mathlib.Omega.{arith}
-use lib.ListN.{length, getD, take, drop, set, length-map, drop-of-length-le}
-use lib.Seq.{drop-cons}
-use Rattle.lists.specs.Rows.{put}
+use mathlib.Core.List.{List, []}
+use lib.ListN.{length, getD, take, drop, length-map}
 use Rattle.lists.proofs.Maps.{getD-map-inside}
-use Rattle.lists.proofs.Puts.{Due, due-start, due-set, due-done}
 use Rattle.probability.specs.Bounds.{pathBound}
 use Rattle.probability.specs.Totals.{entriesOf, pathBounds}
 use Rattle.probability.proofs.Lists.{entries-long, entry-is}

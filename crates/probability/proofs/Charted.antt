@@ -8,7 +8,6 @@ use lib.ListN.{length, getD, drop, drop-of-length-le}
 use lib.Seq.{drop-cons}
 use Rattle.lists.specs.Rows.{put, joined}
 use Rattle.lists.proofs.Puts.{Due, due-start, due-room, due-more, due-done, put-whole}
-use Rattle.lists.proofs.Joined.{joined-long}
 use Rattle.rules.specs.Limits.{mostComponents, mostStates}
 use Rattle.study.specs.declared.Component.{Component}
 use Rattle.study.specs.Zero.{zeroComponent}

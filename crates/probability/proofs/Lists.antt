@@ -1,12 +1,17 @@
--- Laws of a list of paths as bytes: where its entries stand, and what each is.
+-- Laws of a list of paths as bytes: where its entries stand, what each is, and what one more adds to a total.
 use Prim.Native.Nat.{ℕ, suc, _+_, _*_, _<_, _≤_}
-use mathlib.Core.Path.{_≡_, sym, ap, _∙_}
+use mathlib.Core.Path.{_≡_, refl, ap, _∙_}
+use mathlib.Core.Bool.{Bool}
 use mathlib.Core.List.{List, []}
 use native.Mathlib.Nat.{mul-le-mul-right}
 use native.Mathlib.Omega.{arith}
 use lib.ListN.{length, getD, take, drop, length-drop}
 use lib.Seq.{length-take-le}
+use Rattle.lists.specs.Counting.{kept, sumOver}
+use Rattle.lists.proofs.Adding.{add-next}
 use Rattle.lists.proofs.Tabulated.{length-tabulate, getD-tabulate}
+use Rattle.paths.specs.Words.{classBorne}
+use Rattle.probability.specs.Bounds.{pathBound, total}
 use Rattle.probability.specs.Reading.{PathList}
 use Rattle.probability.specs.Totals.{entriesOf}
 
@@ -29,3 +34,17 @@ entries-long n paths list = length-tabulate (λ (k : ℕ). take (n + 1) (drop (k
 pub entry-is : (n paths : ℕ) (list : List ℕ) (k : ℕ) → k < paths → getD (entriesOf n paths list) k [] ≡ take (n + 1) (drop (k * (n + 1)) list)
 unfolding entriesOf
 entry-is n paths list k h = getD-tabulate (λ (k : ℕ). take (n + 1) (drop (k * (n + 1)) list)) paths k [] h
+
+-- ---- one path more is added
+
+module _ (rounding : ℕ) (chances : List ℕ) (n : ℕ) (keep : ℕ → Bool) where
+  pub total-none : total rounding chances n keep [] ≡ 0
+  unfolding total sumOver
+  total-none = refl
+
+  pub total-next : (entries : List (List ℕ)) (k : ℕ) → k < length entries
+      → total rounding chances n keep (take (k + 1) entries)
+      ≡ total rounding chances n keep (take k entries) + kept (keep (classBorne n (getD entries k []))) (pathBound rounding chances n (getD entries k []))
+  unfolding total
+  total-next entries k h =
+      add-next (λ (entry : List ℕ). kept (keep (classBorne n entry)) (pathBound rounding chances n entry)) entries k [] h

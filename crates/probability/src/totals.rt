@@ -27,7 +27,14 @@ fn entry_at(list: &[u8], n: usize, k: usize) -> &[u8]
 }
 
 // Writes a bound for each of so many paths at the front of a slice.
-pub fn path_bounds(rounding: u64, chances: &[u32], n: usize, list: &[u8], paths: usize, out: &mut [u64])
+pub fn path_bounds(
+    rounding: u64,
+    chances: &[u32],
+    n: usize,
+    list: &[u8],
+    paths: usize,
+    out: &mut [u64],
+)
     requires { ⌜ rounding ≤ up ⌝ }
     requires { ⌜ AtMostOne (now chances) ⌝ }
     requires { ⌜ PathList n paths (now list) ⌝ }
@@ -66,8 +73,43 @@ fn clear(out: &mut [u64])
     }
 }
 
-// Writes a total for each class, at most so much, at the front of a slice: the places are cleared, and each path is added at its class.
-pub fn class_totals(rounding: u64, most: u64, chances: &[u32], n: usize, list: &[u8], paths: usize, out: &mut [u64])
+// Adds each path at its class, at most so much, to places that were cleared.
+fn add_paths(
+    rounding: u64,
+    most: u64,
+    chances: &[u32],
+    n: usize,
+    list: &[u8],
+    paths: usize,
+    out: &mut [u64],
+)
+    requires { ⌜ rounding ≤ up ⌝ }
+    requires { ⌜ most ≤ sumsMost ⌝ }
+    requires { ⌜ AtMostOne (now chances) ⌝ }
+    requires { ⌜ PathList n paths (now list) ⌝ }
+    requires { ⌜ classPlaces ≤ length (now out) ⌝ }
+    requires { ⌜ now out ≡ put (now out) 0 noTotals ⌝ }
+    ensures { λ r. ⌜ now (out .exit) ≡ put (now (out .entry)) 0 (classTotals rounding most (now (chances .entry)) n (entriesOf n paths (now (list .entry)))) ⌝ }
+{
+    let mut k: usize = 0;
+    while k < paths {
+        let entry = entry_at(list, n, k);
+        let class = entry[n] as usize;
+        out[class] = sum_at_most(most, out[class], path_bound(rounding, chances, n, entry));
+        k = k + 1;
+    }
+}
+
+// Writes a total for each class, at most so much, at the front of a slice: the totals are added up in the slice itself.
+pub fn class_totals(
+    rounding: u64,
+    most: u64,
+    chances: &[u32],
+    n: usize,
+    list: &[u8],
+    paths: usize,
+    out: &mut [u64],
+)
     requires { ⌜ rounding ≤ up ⌝ }
     requires { ⌜ most ≤ sumsMost ⌝ }
     requires { ⌜ AtMostOne (now chances) ⌝ }
@@ -76,13 +118,7 @@ pub fn class_totals(rounding: u64, most: u64, chances: &[u32], n: usize, list: &
     ensures { λ r. ⌜ now (out .exit) ≡ put (now (out .entry)) 0 (classTotals rounding most (now (chances .entry)) n (entriesOf n paths (now (list .entry)))) ⌝ }
 {
     clear(out);
-    let mut k: usize = 0;
-    while k < paths {
-        let entry = entry_at(list, n, k);
-        let class = entry[n] as usize;
-        out[class] = sum_at_most(most, out[class], path_bound(rounding, chances, n, entry));
-        k = k + 1;
-    }
+    add_paths(rounding, most, chances, n, list, paths, out);
 }
 
 // A bound where bit j of a class stands, else 0.
@@ -112,7 +148,14 @@ fn with_path(most: u64, totals: [u64; LOAD_PLACES], class: u8, bound: u64) -> [u
 }
 
 // A total for each load place, at most so much, over the paths whose class has its bit.
-pub fn load_totals(rounding: u64, most: u64, chances: &[u32], n: usize, list: &[u8], paths: usize) -> [u64; LOAD_PLACES]
+pub fn load_totals(
+    rounding: u64,
+    most: u64,
+    chances: &[u32],
+    n: usize,
+    list: &[u8],
+    paths: usize,
+) -> [u64; LOAD_PLACES]
     requires { ⌜ rounding ≤ up ⌝ }
     requires { ⌜ most ≤ sumsMost ⌝ }
     requires { ⌜ AtMostOne (now chances) ⌝ }
@@ -123,7 +166,12 @@ pub fn load_totals(rounding: u64, most: u64, chances: &[u32], n: usize, list: &[
     let mut k: usize = 0;
     while k < paths {
         let entry = entry_at(list, n, k);
-        let more = with_path(most, totals, entry[n], path_bound(rounding, chances, n, entry));
+        let more = with_path(
+            most,
+            totals,
+            entry[n],
+            path_bound(rounding, chances, n, entry),
+        );
         totals = more;
         k = k + 1;
     }

@@ -1,5 +1,4 @@
 -- `probability::path::factored` meets its contract: the two cases of the definition.
-use native.Mathlib.Omega.{arith}
 use Rattle.probability.proofs.Factors.{blank-factor, settled-factor}
 use borrow.Author.Needs.{needs}
 use Rattle.probability.proofs.path.factored.Statement.{statement}

@@ -56,9 +56,9 @@ loop-again c =
     let loop = c .before .before .before .loop in
     let taken = c .before .before .loop-test .taken in
     let value : c .sum-at-most .result ≡ getD (withPath (args .most) (args .t2) (args .class) (args .bound)) (loop .j) 0 =
-        c .sum-at-most .ensures
-        ∙ ap (λ (n : ℕ). min (args .most) (getD (args .t2) (loop .j) 0 + n)) (c .before .kept-bit .ensures)
-        ∙ sym (with-is (args .most) (args .t2) (args .class) (args .bound) (loop .j) taken) in
+    c .sum-at-most .ensures
+    ∙ ap (λ (n : ℕ). min (args .most) (getD (args .t2) (loop .j) 0 + n)) (c .before .kept-bit .ensures)
+    ∙ sym (with-is (args .most) (args .t2) (args .class) (args .bound) (loop .j) taken) in
     subst (λ (n : ℕ). Filling (withPath (args .most) (args .t2) (args .class) (args .bound)) (loop .j + 1) (set (loop .more) (loop .j) n)) (sym value)
     (filling-more 0 (loop .inv) (omega (arith, taken, with-long (args .most) (args .t2) (args .class) (args .bound))))
 
