@@ -1,3 +1,5 @@
 pub mod Answers
+pub mod Bounds
 pub mod Edits
 pub mod Listing
+pub mod Page

@@ -1,8 +1,12 @@
 // The calls of the planning package. None asks anything of its caller: what is wrong is refused, with the number of the first breach met, and
 // nothing that was lent or handed in is changed then.
+mod bounds;
 mod edits;
 mod listing;
+mod page;
 
+pub use bounds::PathsBounded;
+pub use bounds::path_bounds;
 pub use edits::set_customers;
 pub use edits::set_minutes;
 pub use edits::set_probabilities;

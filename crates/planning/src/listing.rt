@@ -44,7 +44,7 @@ fn list_classes(counts: &[u8], block: &[u8], buffer: &mut [u8]) -> Listing
 }
 
 // Lists the paths of a sound study. Refused by 18.
-fn list_sound(t: Study, buffer: &mut [u8]) -> Listing
+pub fn list_sound(t: Study, buffer: &mut [u8]) -> Listing
     requires { ⌜ Sound t ⌝ }
     ensures { λ r. ⌜ r ≡ listed (roomFault (length (joined (pathList t))) (length (now (buffer .entry)))) (pathList t) ⌝ }
     ensures { λ r. ⌜ now (buffer .exit) ≡ written (roomFault (length (joined (pathList t))) (length (now (buffer .entry)))) (pathList t) (now (buffer .entry)) ⌝ }

@@ -1,13 +1,14 @@
 -- What the rules of a sound study tell of its numbers: how many records there are, of how many states, and what a gate's inputs name.
-use Prim.Native.Nat.{ℕ, _<_, _≤_}
-use mathlib.Core.Path.{_≡_, refl, _∙_}
+use Prim.Native.Nat.{ℕ, _+_, _<_, _≤_}
+use mathlib.Core.Path.{_≡_, refl, sym, subst, _∙_}
 use mathlib.Core.Bool.{Bool, true, false}
 use native.Mathlib.Nat.{min-le-left}
 use native.Mathlib.Omega.{arith}
 use lib.Dec.{leb, ltb, eqb}
 use lib.ListN.{length, getD, length-take, length-map, List·getD-map}
 use lib.Seq.{getD-take, length-take-le}
-use borrow.Author.Tests.{leb-false, ltb-false, eqb-true}
+use borrow.Author.Tests.{leb-false, ltb-true, ltb-false, eqb-true}
+use Rattle.units.specs.One.{one}
 use Rattle.lists.specs.Product.{product}
 use Rattle.rules.specs.Breach.{given}
 use Rattle.rules.specs.Limits.{mostComponents, mostGates, mostLoads, fewestStates, mostStates, mostJointStates, mostTests, mostGateInputs}
@@ -58,6 +59,18 @@ module _ (t : Study) (s : Sound t) where
 
   pub count-most : (k : ℕ) → k < t .components → getD (stateCounts t) k 0 ≤ mostStates
   count-most k h = rw (count-at k h) (range-kept 3 2 4 (componentAt t k .states) (s .component k h .states) .most)
+
+  -- states 1 to 3 of every component place, in use or not, sum to one at most
+  pub chances-sum : (i : ℕ) → i < mostComponents → componentAt t i .p1 + componentAt t i .p2 + componentAt t i .p3 ≤ one
+  chances-sum i less = go (ltb i (t .components)) refl
+    where
+      go : (b : Bool) → ltb i (t .components) ≡ b → componentAt t i .p1 + componentAt t i .p2 + componentAt t i .p3 ≤ one
+      go true used =
+          let c = componentAt t i in
+          let rule = s .component i (ltb-true i (t .components) used) .sum in
+          ltb-false one (c .p1 + c .p2 + c .p3) (refuse-kept 5 (ltb one (c .p1 + c .p2 + c .p3)) rule)
+      go false unused =
+          subst (λ (c : Component). c .p1 + c .p2 + c .p3 ≤ one) (sym (s .no-component i (ltb-false i (t .components) unused) less)) (omega arith)
 
   module _ (i : ℕ) (h : i < t .gates) where
     pub tests-most : gateAt t i .tests ≤ mostTests

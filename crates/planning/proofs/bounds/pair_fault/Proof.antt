@@ -1,0 +1,23 @@
+-- `planning::bounds::pair_fault` meets its contract: the first of the two breaches, and none behind them.
+use Rattle.rules.specs.Breach.{firstBreach}
+use Rattle.rules.proofs.Kept.{first-last}
+use borrow.Author.Needs.{needs}
+use Rattle.planning.proofs.bounds.pair_fault.Statement.{statement}
+use Rattle.planning.proofs.bounds.pair_fault.Tie as tie
+
+room-fault-requires : tie.Need-room-fault-requires
+room-fault-requires c κs = search needs
+
+room-fault-requires-2 : tie.Need-room-fault-requires-2
+room-fault-requires-2 c κs = search needs
+
+first-requires : tie.Need-first-requires
+first-requires c κs = search needs
+
+returns : tie.Need-returns
+unfolding firstBreach
+returns c = cc (c .first .ensures, c .before .room-fault2 .ensures, c .before .before .room-fault .ensures, first-last (c .before .room-fault2 .result))
+
+pub pair-fault-spec : {M : Type 1} → statement M
+pair-fault-spec =
+    tie.close (tie.spec room-fault-requires room-fault-requires-2 first-requires returns)

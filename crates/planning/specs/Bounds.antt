@@ -1,0 +1,93 @@
+-- Bounds for the paths, classes and loads of a study, and what the calls for them answer and write.
+use Prim.Native.Nat.{ℕ}
+use mathlib.Core.Bool.{Bool, cond}
+use mathlib.Core.List.{List, [], _∷_}
+use lib.Dec.{eqb}
+use lib.ListN.{length}
+use Rattle.lists.specs.Rows.{put}
+use Rattle.lists.specs.Tabulate.{tabulate}
+use Rattle.rules.specs.Breach.{firstBreach}
+use Rattle.rules.specs.Table.{unsoundFault, roomFault}
+use Rattle.units.specs.Rounding.{down, up}
+use Rattle.probability.specs.Bounds.{lowerTotal, upperTotal}
+use Rattle.probability.specs.Chances.{chanceTable}
+use Rattle.probability.specs.Totals.{classPlaces, pathBounds}
+use Rattle.study.specs.declared.Study.{Study}
+use Rattle.study.specs.declared.Outcome.{Outcome}
+use Rattle.study.specs.declared.Outcome.the-variants.{Done, Refused}
+use Rattle.study.specs.Joint.{stateCounts}
+use Rattle.soundness.specs.Check.{sound}
+use Rattle.planning.specs.declared.bounds.PathsBounded.{PathsBounded}
+use Rattle.planning.specs.declared.bounds.PathsBounded.the-variants.{Bounded, Refused as NotBounded}
+use Rattle.planning.specs.Listing.{pathList}
+
+-- the chances of a study's components, and how many components it has
+abbrev pub chancesOf : Study → List ℕ
+chancesOf t = chanceTable (t .component)
+
+abbrev pub componentsOf : Study → ℕ
+componentsOf t = length (stateCounts t)
+
+-- the lower and the upper bound of each path
+abbrev pub lowerBounds : Study → List ℕ
+lowerBounds t = pathBounds down (chancesOf t) (componentsOf t) (pathList t)
+
+abbrev pub upperBounds : Study → List ℕ
+upperBounds t = pathBounds up (chancesOf t) (componentsOf t) (pathList t)
+
+-- the bounds of the joint states whose class is kept
+abbrev pub lowerOf : Study → (ℕ → Bool) → ℕ
+lowerOf t keep = lowerTotal (chancesOf t) (componentsOf t) keep (pathList t)
+
+abbrev pub upperOf : Study → (ℕ → Bool) → ℕ
+upperOf t keep = upperTotal (chancesOf t) (componentsOf t) keep (pathList t)
+
+-- the bounds of each class, at places 0 to 255; 0 for a class with no path
+abbrev pub lowerClasses : Study → List ℕ
+lowerClasses t = tabulate (λ (c : ℕ). lowerOf t (λ (class : ℕ). eqb class c)) classPlaces
+
+abbrev pub upperClasses : Study → List ℕ
+upperClasses t = tabulate (λ (c : ℕ). upperOf t (λ (class : ℕ). eqb class c)) classPlaces
+
+-- ---- slices
+
+-- 18 where either of two slices has fewer places than needed
+unfoldable pub pairRoom : ℕ → List ℕ → List ℕ → ℕ
+pairRoom need lower upper = firstBreach (roomFault need (length lower) ∷ roomFault need (length upper) ∷ [])
+
+-- 16, then 18
+unfoldable pub pairFault : Study → ℕ → List ℕ → List ℕ → ℕ
+unfolding pairRoom
+pairFault t need lower upper = firstBreach (unsoundFault (sound t) ∷ pairRoom need lower upper ∷ [])
+
+-- a slice after a call: new values in front, and the rest as it was; a breach leaves it all as it was
+unfoldable pub filled : ℕ → List ℕ → List ℕ → List ℕ
+filled breach values slice = cond (eqb breach 0) (put slice 0 values) slice
+
+-- ---- the call for paths
+
+unfoldable pub pathsFault : Study → List ℕ → List ℕ → ℕ
+unfolding pairFault
+pathsFault t lower upper = pairFault t (length (pathList t)) lower upper
+
+-- the answer: the number of paths, or the breach
+unfoldable pub bounded : ℕ → ℕ → PathsBounded
+bounded breach paths = cond (eqb breach 0) (Bounded paths) (NotBounded breach)
+
+unfoldable pub pathsBounded : Study → List ℕ → List ℕ → PathsBounded
+unfolding bounded
+pathsBounded t lower upper = bounded (pathsFault t lower upper) (length (pathList t))
+
+-- ---- the call for classes
+
+unfoldable pub classesFault : Study → List ℕ → List ℕ → ℕ
+unfolding pairFault
+classesFault t lower upper = pairFault t classPlaces lower upper
+
+-- the answer: only that it is done, or the breach
+unfoldable pub done : ℕ → Outcome
+done breach = cond (eqb breach 0) Done (Refused breach)
+
+unfoldable pub classesBounded : Study → List ℕ → List ℕ → Outcome
+unfolding done
+classesBounded t lower upper = done (classesFault t lower upper)

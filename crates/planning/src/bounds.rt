@@ -1,0 +1,80 @@
+// Bounds for paths and classes, into lent slices.
+use crate::page::blank_page;
+use crate::page::list_page;
+use probability::chance_table;
+use rules::first;
+use rules::room_fault;
+use rules::unsound_fault;
+use soundness::is_sound;
+use study::Study;
+use units::DOWN;
+use units::UP;
+ghost use Prim.Native.Nat.{_≤_};
+ghost use mathlib.Core.Path.{_≡_};
+ghost use mathlib.Core.List.{[], _∷_};
+ghost use lib.ListN.{length};
+ghost use Rattle.lists.specs.Rows.{put};
+ghost use Rattle.rules.specs.Breach.{firstBreach};
+ghost use Rattle.rules.specs.Table.{roomFault};
+ghost use Rattle.soundness.specs.Sound.{Sound};
+ghost use Rattle.planning.specs.Bounds.{lowerBounds, upperBounds, pairRoom, filled, bounded, pathsFault, pathsBounded};
+ghost use Rattle.planning.specs.Listing.{pathList};
+ghost use Rattle.planning.specs.Page.{Paged};
+
+// What a call for the bounds of all paths answers: the number of paths, or the number of the refusal table by which it was refused.
+pub enum PathsBounded {
+    Bounded(u32),
+    Refused(u8),
+}
+
+// The breach of two slices of which each needs so many places.
+fn pair_fault(need: usize, lower: usize, upper: usize) -> u8
+    ensures { λ r. ⌜ r ≡ firstBreach (roomFault need lower ∷ roomFault need upper ∷ []) ⌝ }
+{
+    first(room_fault(need, lower), room_fault(need, upper))
+}
+
+// Writes the bounds of all paths of a study whose list is on a page.
+fn write_paths(t: Study, page: &[u8], paths: u32, lower: &mut [u64], upper: &mut [u64])
+    requires { ⌜ Paged t paths (now page) ⌝ }
+    requires { ⌜ paths ≤ length (now lower) ⌝ }
+    requires { ⌜ paths ≤ length (now upper) ⌝ }
+    ensures { λ r. ⌜ now (lower .exit) ≡ put (now (lower .entry)) 0 (lowerBounds t) ⌝ }
+    ensures { λ r. ⌜ now (upper .exit) ≡ put (now (upper .entry)) 0 (upperBounds t) ⌝ }
+{
+    let component = t.component;
+    let n = t.components as usize;
+    let chances = chance_table(component);
+    probability::path_bounds(DOWN, &chances, n, page, paths as usize, lower);
+    probability::path_bounds(UP, &chances, n, page, paths as usize, upper);
+}
+
+// Bounds for the paths of a sound study. Refused by 18.
+fn bound_paths(t: Study, lower: &mut [u64], upper: &mut [u64]) -> PathsBounded
+    requires { ⌜ Sound t ⌝ }
+    ensures { λ r. ⌜ r ≡ bounded (pairRoom (length (pathList t)) (now (lower .entry)) (now (upper .entry))) (length (pathList t)) ⌝ }
+    ensures { λ r. ⌜ now (lower .exit) ≡ filled (pairRoom (length (pathList t)) (now (lower .entry)) (now (upper .entry))) (lowerBounds t) (now (lower .entry)) ⌝ }
+    ensures { λ r. ⌜ now (upper .exit) ≡ filled (pairRoom (length (pathList t)) (now (lower .entry)) (now (upper .entry))) (upperBounds t) (now (upper .entry)) ⌝ }
+{
+    let mut page = blank_page();
+    let paths = list_page(t, &mut page);
+    let fault = pair_fault(paths as usize, lower.len(), upper.len());
+    if fault != 0 {
+        return PathsBounded::Refused(fault);
+    }
+    write_paths(t, &page, paths, lower, upper);
+    PathsBounded::Bounded(paths)
+}
+
+// Bounds for the paths of a study, in the order of its list, at the front of two slices. Refused by 16, 18, in this order.
+pub fn path_bounds(study: Study, lower: &mut [u64], upper: &mut [u64]) -> PathsBounded
+    ensures { λ r. ⌜ r ≡ pathsBounded study (now (lower .entry)) (now (upper .entry)) ⌝ }
+    ensures { λ r. ⌜ now (lower .exit) ≡ filled (pathsFault study (now (lower .entry)) (now (upper .entry))) (lowerBounds study) (now (lower .entry)) ⌝ }
+    ensures { λ r. ⌜ now (upper .exit) ≡ filled (pathsFault study (now (lower .entry)) (now (upper .entry))) (upperBounds study) (now (upper .entry)) ⌝ }
+{
+    let unsound = unsound_fault(is_sound(study));
+    if unsound != 0 {
+        return PathsBounded::Refused(unsound);
+    }
+    bound_paths(study, lower, upper)
+}
