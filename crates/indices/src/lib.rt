@@ -1,7 +1,11 @@
 // The three interruption figures, from bounds for the loss of each load, its customers and its minutes. Paths are not known here. Not for callers
 // from outside: those call `planning`.
 mod figures;
+mod sums;
 
 pub use figures::Caidi;
 pub use figures::Enclosure;
 pub use figures::Figures;
+pub use sums::customers_sum;
+pub use sums::loss_sum;
+pub use sums::minutes_sum;
