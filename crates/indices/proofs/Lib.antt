@@ -1,2 +1,4 @@
 pub mod Limits
+pub mod Ordering
+pub mod Stated
 pub mod Summed

@@ -6,6 +6,5 @@ mod sums;
 pub use figures::Caidi;
 pub use figures::Enclosure;
 pub use figures::Figures;
+pub use figures::figures_of;
 pub use sums::customers_sum;
-pub use sums::loss_sum;
-pub use sums::minutes_sum;
