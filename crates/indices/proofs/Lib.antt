@@ -1,3 +1,4 @@
+pub mod Enclosed
 pub mod Limits
 pub mod Ordering
 pub mod Stated
