@@ -1,2 +1,3 @@
+pub mod Enclosed
 pub mod Figures
 pub mod Reading

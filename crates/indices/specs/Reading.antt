@@ -15,3 +15,7 @@ pub record Sizes (loads : List Load) (n : ℕ) : Type 0 where
 -- the first n bounds are at most one
 pub record Losses (losses : List ℕ) (n : ℕ) : Type 0 where
   pub most : (j : ℕ) → j < n → getD losses j 0 ≤ one
+
+-- each of the first n lower bounds is at most its upper bound
+pub record Ordered (lower upper : List ℕ) (n : ℕ) : Type 0 where
+  pub each : (j : ℕ) → j < n → getD lower j 0 ≤ getD upper j 0

@@ -1,7 +1,7 @@
 -- The refusal table: each row once, on plain numbers, with its number and its rule.
 use Prim.Native.Nat.{ℕ, _+_, _-_, _^_}
 use mathlib.Core.Bool.{Bool, not}
-use lib.Dec.{ltb, leb}
+use lib.Dec.{ltb, leb, eqb}
 use Rattle.units.specs.One.{one}
 use Rattle.rules.specs.Limits.{fewestStates, mostStates, mostJointStates}
 use Rattle.rules.specs.Breach.{refuse, outside}
@@ -80,3 +80,7 @@ itemFault count item = refuse 17 (leb count item)
 -- 18 no room: a lent buffer or slice is shorter than needed
 abbrev pub roomFault : ℕ → ℕ → ℕ
 roomFault need room = refuse 18 (ltb room need)
+
+-- 19 no customers: the customers sum to 0
+abbrev pub customersFault : ℕ → ℕ
+customersFault sum = refuse 19 (eqb sum 0)

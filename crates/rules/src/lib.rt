@@ -28,6 +28,7 @@ pub use limits::STATE_PLACES;
 pub use limits::TEST_PLACES;
 pub use table::ahead_fault;
 pub use table::count_fault;
+pub use table::customers_fault;
 pub use table::inputs_fault;
 pub use table::item_fault;
 pub use table::left_fault;

@@ -7,7 +7,7 @@ use crate::limits::MOST_STATES;
 ghost use mathlib.Core.Path.{_≡_};
 ghost use Rattle.rules.specs.Table.{countFault, strayFault, statesFault, noStateFault, sumFault, widthFault, inputsFault};
 ghost use Rattle.rules.specs.Table.{noComponentFault, maskFault, aheadFault, thresholdFault, noGateFault, sizeFault, leftFault};
-ghost use Rattle.rules.specs.Table.{unsoundFault, unusedFault, itemFault, roomFault};
+ghost use Rattle.rules.specs.Table.{unsoundFault, unusedFault, itemFault, roomFault, customersFault};
 
 // 2 counts
 pub fn count_fault(most: u8, n: u8) -> u8
@@ -136,4 +136,11 @@ pub fn room_fault(need: usize, room: usize) -> u8
     ensures { λ r. ⌜ r ≡ roomFault need room ⌝ }
 {
     refuse(18, room < need)
+}
+
+// 19 no customers
+pub fn customers_fault(sum: u64) -> u8
+    ensures { λ r. ⌜ r ≡ customersFault sum ⌝ }
+{
+    refuse(19, sum == 0)
 }

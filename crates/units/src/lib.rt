@@ -1,8 +1,8 @@
 // Fixed-point probability: whole billionths, how many of them make certainty, and products and quotients that are rounded down or up.
-ghost use Prim.Native.Nat.{_≤_, min};
+ghost use Prim.Native.Nat.{_<_, _≤_, min};
 ghost use mathlib.Core.Path.{_≡_};
 ghost use Rattle.units.specs.One.{one};
-ghost use Rattle.units.specs.Rounding.{up, scale as Rounding·scale};
+ghost use Rattle.units.specs.Rounding.{up, scale as Rounding·scale, quotientDown, quotientUp};
 
 // Certainty in units of a billionth.
 pub const ONE: u32 = 1000000000;
@@ -32,4 +32,22 @@ pub fn at_most_one(a: u64) -> u64
         return most;
     }
     a
+}
+
+// A quotient, rounded down.
+pub fn quotient_down(a: u64, b: u64) -> u64
+    requires { ⌜ 0 < b ⌝ }
+    ensures { λ r. ⌜ r ≡ quotientDown a b ⌝ }
+{
+    a / b
+}
+
+// A quotient, rounded up. Within these limits what rounding adds fits.
+pub fn quotient_up(a: u64, b: u64) -> u64
+    requires { ⌜ a ≤ 16000000000000000000 ⌝ }
+    requires { ⌜ 0 < b ⌝ }
+    requires { ⌜ b ≤ 1000000000000000 ⌝ }
+    ensures { λ r. ⌜ r ≡ quotientUp a b ⌝ }
+{
+    (a + (b - 1)) / b
 }

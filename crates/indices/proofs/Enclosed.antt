@@ -1,0 +1,90 @@
+-- The figures enclose the quotients of the published formulas: sums of bounds enclose the exact sums, and a quotient that is rounded down and up
+-- encloses the exact one. Every fact is multiplied out, so that nothing is divided.
+use Prim.Native.Nat.{ℕ, zero, suc, _*_, _<_, _≤_}
+use mathlib.Core.Path.{subst}
+use mathlib.Core.List.{List}
+use native.Mathlib.Nat.{pos-of-ne-zero, mul-pos, mul-le-mul-left, mul-le-mul-right}
+use native.Mathlib.Omega.{arith}
+use lib.ListN.{getD}
+use Rattle.lists.specs.Counting.{sum}
+use Rattle.units.specs.One.{one}
+use Rattle.units.specs.Rounding.{quotientDown, quotientUp}
+use Rattle.units.proofs.Quotients.{quotient-below, quotient-above}
+use Rattle.study.specs.declared.Load.{Load}
+use Rattle.study.specs.Zero.{zeroLoad}
+use Rattle.indices.specs.declared.figures.Enclosure.{Enclosure}
+use Rattle.indices.specs.Figures.{customersSum, lossSum, minutesSum, enclosure, figuresOf}
+use Rattle.indices.specs.Enclosed.{Encloses, LossesEnclosed, exactLoss, exactMinutes, SaifiEncloses, SaidiEncloses, CaidiEncloses}
+use Rattle.indices.proofs.Stated.{stated-some, stated-bounds}
+
+-- two bounds in units enclose x / w
+record Between (low high x w : ℕ) : Type 0 where
+  below : low * w ≤ one * x
+  above : one * x ≤ high * w
+
+-- ---- sums
+
+times : {low high x w : ℕ} (k : ℕ) → Between low high x w → Between (low * k) (high * k) (x * k) w
+times k b = record { below = omega (arith, mul-le-mul-right k (b .below)); above = omega (arith, mul-le-mul-right k (b .above)) }
+
+sums-between : (low high x : ℕ → ℕ) (w n : ℕ) → ((j : ℕ) → j < n → Between (low j) (high j) (x j) w)
+    → Between (sum low n) (sum high n) (sum x n) w
+unfolding sum
+sums-between low high x w zero each = record { below = omega arith; above = omega arith }
+sums-between low high x w (suc n) each =
+    let rest = sums-between low high x w n (λ j h. each j (omega arith)) in
+    let last = each n (omega arith) in
+    record { below = omega (arith, rest .below, last .below); above = omega (arith, rest .above, last .above) }
+
+-- ---- quotients, rounded down and up
+
+-- over one divisor that is exact
+over-exact : {low high x w : ℕ} (c : ℕ) → 0 < c → 0 < w → Between low high x w → Encloses (enclosure low c high c) (one * x) (w * c)
+over-exact {low} {high} {x} {w} c some whole b =
+    record {
+      divisor = mul-pos whole some;
+      below = omega (arith, mul-le-mul-right w (quotient-below low c), b .below);
+      above = omega (arith, mul-le-mul-right w (quotient-above high c some), b .above);
+    }
+
+-- over a divisor that has bounds itself: the lower quotient divides by its upper bound, and the upper quotient by its lower one
+over-bounds : {low high x under over y w : ℕ} → 0 < over → 0 < w → Between low high x w → Between over under y w → Encloses (enclosure low under high over) x y
+over-bounds {low} {high} {x} {under} {over} {y} {w} some whole b d =
+    let lower = quotientDown low under in
+    let upper = quotientUp high over in
+    record {
+      divisor = omega (arith, mul-pos some whole, d .below);
+      below = omega (arith, mul-le-mul-left lower (d .above), mul-le-mul-right w (quotient-below low under), b .below);
+      above = omega (arith, mul-le-mul-left upper (d .below), mul-le-mul-right w (quotient-above high over some), b .above);
+    }
+
+-- ---- the figures
+
+module _ {lower upper : List ℕ} {x : ℕ → ℕ} {w n : ℕ} (loads : List Load) (enclosed : LossesEnclosed lower upper x w n) where
+  -- P × C of one load
+  loss-of : (j : ℕ) → j < n
+      → Between (getD lower j 0 * getD loads j zeroLoad .customers) (getD upper j 0 * getD loads j zeroLoad .customers)
+      (x j * getD loads j zeroLoad .customers) w
+  loss-of j h = times (getD loads j zeroLoad .customers) (record { below = enclosed .below j h; above = enclosed .above j h })
+
+  loss-between : Between (lossSum lower loads n) (lossSum upper loads n) (exactLoss x loads n) w
+  unfolding lossSum
+  loss-between = sums-between _ _ _ w n loss-of
+
+  minutes-between : Between (minutesSum lower loads n) (minutesSum upper loads n) (exactMinutes x loads n) w
+  unfolding minutesSum
+  minutes-between = sums-between _ _ _ w n (λ j h. times (getD loads j zeroLoad .minutes) (loss-of j h))
+
+  pub saifi-encloses : 0 < customersSum loads n → SaifiEncloses (figuresOf lower upper loads n) x w loads n
+  unfolding figuresOf
+  saifi-encloses some = over-exact (customersSum loads n) some (enclosed .whole) loss-between
+
+  pub saidi-encloses : 0 < customersSum loads n → SaidiEncloses (figuresOf lower upper loads n) x w loads n
+  unfolding figuresOf
+  saidi-encloses some = over-exact (customersSum loads n) some (enclosed .whole) minutes-between
+
+  pub caidi-encloses : CaidiEncloses (figuresOf lower upper loads n) x loads n
+  unfolding figuresOf
+  caidi-encloses bounds stated =
+      subst (λ (b : Enclosure). Encloses b (exactMinutes x loads n) (exactLoss x loads n)) (stated-bounds lower upper loads n stated)
+      (over-bounds (pos-of-ne-zero (stated-some lower upper loads n stated)) (enclosed .whole) minutes-between loss-between)

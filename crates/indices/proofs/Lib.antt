@@ -1,0 +1,5 @@
+pub mod Enclosed
+pub mod Limits
+pub mod Ordering
+pub mod Stated
+pub mod Summed
