@@ -1,4 +1,4 @@
 pub mod Edited
 pub mod Listed
 pub mod Paged
-pub mod Pairs
+pub mod Paired

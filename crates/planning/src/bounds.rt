@@ -1,9 +1,8 @@
-// Bounds for paths and classes, into lent slices.
+// Bounds for the paths of a study, into two lent slices.
 use crate::page::blank_page;
 use crate::page::list_page;
+use crate::pairs::pair_fault;
 use probability::chance_table;
-use rules::first;
-use rules::room_fault;
 use rules::unsound_fault;
 use soundness::is_sound;
 use study::Study;
@@ -11,11 +10,8 @@ use units::DOWN;
 use units::UP;
 ghost use Prim.Native.Nat.{_≤_};
 ghost use mathlib.Core.Path.{_≡_};
-ghost use mathlib.Core.List.{[], _∷_};
 ghost use lib.ListN.{length};
 ghost use Rattle.lists.specs.Rows.{put};
-ghost use Rattle.rules.specs.Breach.{firstBreach};
-ghost use Rattle.rules.specs.Table.{roomFault};
 ghost use Rattle.soundness.specs.Sound.{Sound};
 ghost use Rattle.planning.specs.Bounds.{lowerBounds, upperBounds, pairRoom, filled, bounded, pathsFault, pathsBounded};
 ghost use Rattle.planning.specs.Listing.{pathList};
@@ -25,13 +21,6 @@ ghost use Rattle.planning.specs.Page.{Paged};
 pub enum PathsBounded {
     Bounded(u32),
     Refused(u8),
-}
-
-// The breach of two slices of which each needs so many places.
-fn pair_fault(need: usize, lower: usize, upper: usize) -> u8
-    ensures { λ r. ⌜ r ≡ firstBreach (roomFault need lower ∷ roomFault need upper ∷ []) ⌝ }
-{
-    first(room_fault(need, lower), room_fault(need, upper))
 }
 
 // Writes the bounds of all paths of a study whose list is on a page.

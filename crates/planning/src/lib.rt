@@ -1,12 +1,15 @@
 // The calls of the planning package. None asks anything of its caller: what is wrong is refused, with the number of the first breach met, and
 // nothing that was lent or handed in is changed then.
 mod bounds;
+mod classes;
 mod edits;
 mod listing;
 mod page;
+mod pairs;
 
 pub use bounds::PathsBounded;
 pub use bounds::path_bounds;
+pub use classes::class_bounds;
 pub use edits::set_customers;
 pub use edits::set_minutes;
 pub use edits::set_probabilities;

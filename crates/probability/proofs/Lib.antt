@@ -4,4 +4,5 @@ pub mod Classed
 pub mod Factors
 pub mod Lists
 pub mod Loaded
+pub mod Most
 pub mod TableChance

@@ -5,6 +5,7 @@ mod path;
 mod totals;
 
 pub use chances::chance_table;
+pub use totals::SUMS_MOST;
 pub use totals::class_totals;
 pub use totals::load_totals;
 pub use totals::path_bounds;

@@ -16,6 +16,9 @@ ghost use Rattle.probability.specs.Totals.{classPlaces, sumsMost, noTota
 // The places of classes.
 const CLASS_PLACES: usize = 256;
 
+// No limit to sums of lower bounds: one for each of 4,096 paths.
+pub const SUMS_MOST: u64 = 4096000000000;
+
 // The k-th entry of a list whose entries have n components.
 fn entry_at(list: &[u8], n: usize, k: usize) -> &[u8]
     requires { ⌜ k * (n + 1) + (n + 1) ≤ length (now list) ⌝ }

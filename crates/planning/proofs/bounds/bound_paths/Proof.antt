@@ -2,7 +2,7 @@
 use mathlib.Core.Path.{sym, ap, _∙_}
 use native.Mathlib.Omega.{arith}
 use Rattle.planning.specs.declared.bounds.PathsBounded.the-variants.{Bounded}
-use Rattle.planning.proofs.Pairs.{pair-is, pair-room, filled-kept, filled-done, bounded-refused, bounded-done}
+use Rattle.planning.proofs.Paired.{pair-is, pair-room, filled-kept, filled-done, bounded-refused, bounded-done}
 use borrow.Author.Needs.{needs}
 use Rattle.planning.proofs.bounds.bound_paths.Statement.{statement}
 use Rattle.planning.proofs.bounds.bound_paths.Tie as tie

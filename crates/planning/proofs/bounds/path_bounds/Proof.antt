@@ -4,7 +4,7 @@ use lib.ListN.{length}
 use Rattle.soundness.proofs.Checked.{no-unsound}
 use Rattle.planning.specs.Listing.{pathList}
 use Rattle.planning.specs.Bounds.{pathsFault, pathsBounded}
-use Rattle.planning.proofs.Pairs.{pair-unsound, pair-sound, filled-kept, bounded-refused}
+use Rattle.planning.proofs.Paired.{pair-unsound, pair-sound, filled-kept, bounded-refused}
 use borrow.Author.Needs.{needs}
 use Rattle.planning.proofs.bounds.path_bounds.Statement.{statement}
 use Rattle.planning.proofs.bounds.path_bounds.Tie as tie

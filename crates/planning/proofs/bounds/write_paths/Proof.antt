@@ -3,7 +3,7 @@ use mathlib.Core.Path.{_≡_, sym}
 use native.Mathlib.Omega.{arith}
 use lib.ListN.{length}
 use Rattle.soundness.proofs.Ranges.{chances-sum}
-use Rattle.planning.proofs.Pairs.{study-chances, study-components}
+use Rattle.planning.proofs.Paired.{study-chances, study-components}
 use borrow.Author.Needs.{needs}
 use Rattle.planning.proofs.bounds.write_paths.Statement.{statement}
 use Rattle.planning.proofs.bounds.write_paths.Tie as tie

@@ -1,9 +1,9 @@
--- `planning::bounds::pair_fault` meets its contract: the first of the two breaches, and none behind them.
+-- `planning::pairs::pair_fault` meets its contract: the first of the two breaches, and none behind them.
 use Rattle.rules.specs.Breach.{firstBreach}
 use Rattle.rules.proofs.Kept.{first-last}
 use borrow.Author.Needs.{needs}
-use Rattle.planning.proofs.bounds.pair_fault.Statement.{statement}
-use Rattle.planning.proofs.bounds.pair_fault.Tie as tie
+use Rattle.planning.proofs.pairs.pair_fault.Statement.{statement}
+use Rattle.planning.proofs.pairs.pair_fault.Tie as tie
 
 room-fault-requires : tie.Need-room-fault-requires
 room-fault-requires c κs = search needs

@@ -1,26 +1,37 @@
 -- What calls with a pair of slices answer and leave in them, where a breach stands and where none does; and what a sound study's chances keep.
 use Prim.Native.Nat.{ℕ, _*_, _≤_}
-use mathlib.Core.Path.{_≡_, refl, sym, ap}
+use mathlib.Core.Path.{_≡_, refl, sym, ap, _∙_}
 use mathlib.Core.List.{List, [], _∷_}
 use native.Mathlib.Omega.{arith}
+use lib.Dec.{eqb}
 use lib.ListN.{length}
 use borrow.Author.Tests.{eq-eqb, ne-eqb}
 use Rattle.lists.specs.Rows.{put}
+use Rattle.lists.specs.Tabulate.{tabulate}
+use Rattle.units.specs.One.{one}
+use Rattle.units.specs.Rounding.{down, up}
 use Rattle.rules.specs.Breach.{first, firstBreach}
 use Rattle.rules.specs.Limits.{mostComponents, mostStates}
 use Rattle.rules.specs.Table.{unsoundFault, roomFault}
 use Rattle.rules.proofs.Kept.{list-kept, first-last}
+use Rattle.probability.specs.Bounds.{lowerTotal, upperTotal}
 use Rattle.probability.specs.Chances.{chanceTable}
+use Rattle.probability.specs.Totals.{classPlaces, sumsMost, entriesOf, classTotals}
 use Rattle.probability.specs.Reading.{AtMostOne}
 use Rattle.probability.proofs.TableChance.{chances-most}
+use Rattle.probability.proofs.Most.{lower-classes, upper-classes}
 use Rattle.probability.proofs.Charted.{table-long}
 use Rattle.study.specs.Joint.{stateCounts}
+use Rattle.study.specs.declared.Outcome.the-variants.{Done, Refused as NotDone}
 use Rattle.study.specs.declared.Study.{Study}
 use Rattle.soundness.specs.Check.{sound}
 use Rattle.soundness.specs.Sound.{Sound}
+use Rattle.soundness.proofs.Checked.{no-unsound}
 use Rattle.soundness.proofs.Ranges.{counts-long, chances-sum}
 use Rattle.planning.specs.declared.bounds.PathsBounded.the-variants.{Bounded, Refused}
-use Rattle.planning.specs.Bounds.{pairRoom, pairFault, filled, bounded}
+use Rattle.planning.specs.Bounds.{lowerClasses, upperClasses, pairRoom, pairFault, filled, bounded, done}
+use Rattle.planning.specs.Listing.{pathList}
+use Rattle.planning.specs.Page.{Paged}
 use Rattle.planning.proofs.Listed.{room-kept}
 
 -- ---- by the breach
@@ -71,6 +82,23 @@ pub pair-sound : (t : Study) (need : ℕ) (lower upper : List ℕ) → unsoundFa
 unfolding pairFault firstBreach first
 pair-sound t need lower upper none = rw (eq-eqb (unsoundFault (sound t)) 0 none) (first-last (pairRoom need lower upper))
 
+-- 16 and 18 found together
+pub pair-both : (t : Study) (need : ℕ) (lower upper : List ℕ) (fault unsound room : ℕ) → fault ≡ first unsound room → unsound ≡ unsoundFault (sound t)
+    → room ≡ pairRoom need lower upper → fault ≡ pairFault t need lower upper
+unfolding pairFault firstBreach
+pair-both t need lower upper fault unsound room e is-unsound is-room = rw (first-last, ← is-unsound, ← is-room) e
+
+-- neither
+pub record Taken (t : Study) (need : ℕ) (lower upper : List ℕ) : Type 0 where
+  pub is-sound : Sound t
+  pub room : Room need lower upper
+
+pub pair-taken : (t : Study) (need : ℕ) (lower upper : List ℕ) → pairFault t need lower upper ≡ 0 → Taken t need lower upper
+unfolding pairFault
+pair-taken t need lower upper none =
+    let one-by-one = list-kept _ _ none in
+    record { is-sound = no-unsound t (one-by-one .left); room = pair-room need lower upper (list-kept _ _ (one-by-one .right) .left) }
+
 -- ---- the chances of a sound study
 
 module _ (t : Study) (s : Sound t) (table : List ℕ) (e : table ≡ chanceTable (t .component)) (places : length table ≡ mostComponents * mostStates) where
@@ -83,3 +111,38 @@ module _ (t : Study) (s : Sound t) (table : List ℕ) (e : table ≡ chanceTable
 
   pub study-components : length (stateCounts t) ≡ t .components
   study-components = counts-long t s twelve
+
+-- ---- the totals of a study whose list is on a page
+
+module _ (t : Study) (paths : ℕ) (page : List ℕ) (paged : Paged t paths page) (table : List ℕ) (e : table ≡ chanceTable (t .component))
+    (places : length table ≡ mostComponents * mostStates) where
+  components : length (stateCounts t) ≡ t .components
+  components = study-components t (paged .is-sound) table e places
+
+  -- totals over the page are those over the list
+  by-list : (rounding most : ℕ) → classTotals rounding most table (t .components) (entriesOf (t .components) paths page) ≡ classTotals rounding most table (length (stateCounts t)) (pathList t)
+  by-list rounding most =
+      ap (λ (n : ℕ). classTotals rounding most table n (entriesOf n paths page)) (sym components)
+      ∙ ap (classTotals rounding most table (length (stateCounts t))) (paged .entries)
+
+  pub study-lower : classTotals down sumsMost table (t .components) (entriesOf (t .components) paths page) ≡ lowerClasses t
+  study-lower =
+      by-list down sumsMost
+      ∙ lower-classes table (study-chances t (paged .is-sound) table e places) (length (stateCounts t)) (pathList t) (omega (arith, paged .number, paged .list .few))
+      ∙ ap (λ (chances : List ℕ). tabulate (λ (c : ℕ). lowerTotal chances (length (stateCounts t)) (λ (class : ℕ). eqb class c) (pathList t)) classPlaces) e
+
+  pub study-upper : classTotals up one table (t .components) (entriesOf (t .components) paths page) ≡ upperClasses t
+  study-upper =
+      by-list up one
+      ∙ upper-classes table (length (stateCounts t)) (pathList t)
+      ∙ ap (λ (chances : List ℕ). tabulate (λ (c : ℕ). upperTotal chances (length (stateCounts t)) (λ (class : ℕ). eqb class c) (pathList t)) classPlaces) e
+
+-- ---- the answer of the call for classes
+
+pub done-refused : (breach : ℕ) → (breach ≡ 0 → ⊥) → NotDone breach ≡ done breach
+unfolding done
+done-refused breach some = rw (ne-eqb breach 0 some) refl
+
+pub done-done : (breach : ℕ) → breach ≡ 0 → Done ≡ done breach
+unfolding done
+done-done breach none = rw (eq-eqb breach 0 none) refl
