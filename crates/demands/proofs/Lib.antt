@@ -1,3 +1,4 @@
+pub mod Bounds
 pub mod Chances
 pub mod Checked
 pub mod DeskExamples
