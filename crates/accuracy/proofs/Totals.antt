@@ -54,7 +54,7 @@ sum-fitting f x (entry ∷ entries) = rw (sum-fitting f x entries) (go (fits x e
     go false = zero-add (sumOver f (fitting x entries))
 
 -- what the list of all joint states holds
-all-joint : (counts : List ℕ) → Every (JointState counts) [] (jointStates counts)
+pub all-joint : (counts : List ℕ) → Every (JointState counts) [] (jointStates counts)
 all-joint counts k h =
     let w = with-number counts k (rw (length-jointStates counts) at h) in
     let place = sym (numbered counts (w .joint) (w .is-joint)) ∙ ap (λ (n : ℕ). getD (jointStates counts) n []) (w .number) in

@@ -1,3 +1,5 @@
+pub mod Bounds
+pub mod Chances
 pub mod Checked
 pub mod DeskExamples
 pub mod Edited

@@ -19,7 +19,7 @@ use Rattle.planning.proofs.Listed.{study-block}
 use Rattle.demands.specs.Demand3.{OnePathEach, PathsAscend, BlankExactly}
 
 -- the class that the table of a study has for a joint state
-table-class : (t : Study) (x : List ℕ) → JointState (stateCounts t) x → classAt (stateCounts t) (classes t) x ≡ classOf t x
+pub table-class : (t : Study) (x : List ℕ) → JointState (stateCounts t) x → classAt (stateCounts t) (classes t) x ≡ classOf t x
 table-class t x j = class-at t (stateCounts t) x refl j (numberOf (stateCounts t) x) refl
 
 pub one-path : OnePathEach

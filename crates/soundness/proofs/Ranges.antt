@@ -51,7 +51,7 @@ module _ (t : Study) (s : Sound t) where
   counts-long e =
       length-take-le (t .components) (states (t .component)) (omega (arith, e, components-most, length-map (t .component) (λ (c : Component). c .states)))
 
-  count-at : (k : ℕ) → k < t .components → getD (stateCounts t) k 0 ≡ componentAt t k .states
+  pub count-at : (k : ℕ) → k < t .components → getD (stateCounts t) k 0 ≡ componentAt t k .states
   count-at k h = getD-take (t .components) (states (t .component)) k 0 h ∙ List·getD-map (λ (c : Component). c .states) (t .component) k zeroComponent
 
   pub count-least : (k : ℕ) → k < t .components → fewestStates ≤ getD (stateCounts t) k 0
