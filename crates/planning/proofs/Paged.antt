@@ -2,7 +2,7 @@
 use Prim.Native.Nat.{ℕ, _+_, _*_, _<_, _≤_}
 use mathlib.Core.Path.{_≡_, refl, sym, ap, subst, _∙_}
 use mathlib.Core.Bool.{Bool, true, false, true≢false}
-use mathlib.Core.List.{List, [], _++_}
+use mathlib.Core.List.{List, []}
 use native.Mathlib.Nat.{mul-le-mul-right}
 use native.Mathlib.Omega.{arith}
 use lib.ListN.{length, getD, take, drop, length-drop}
@@ -15,11 +15,9 @@ use Rattle.lists.proofs.Puts.{put-size}
 use Rattle.lists.proofs.Rows.{row-at}
 use Rattle.lists.proofs.Tabulated.{tabulated}
 use Rattle.rules.specs.Breach.{refuse}
-use Rattle.rules.specs.Limits.{mostJointStates}
 use Rattle.rules.specs.Table.{roomFault}
 use Rattle.paths.proofs.Entries.{entries-long}
 use Rattle.paths.proofs.Few.{few-paths}
-use Rattle.probability.specs.Reading.{PathList}
 use Rattle.probability.specs.Totals.{entriesOf}
 use Rattle.study.specs.declared.Study.{Study}
 use Rattle.study.specs.Joint.{stateCounts}

@@ -4,10 +4,12 @@ use mathlib.Core.Bool.{Bool, cond}
 use mathlib.Core.List.{List, [], _∷_}
 use lib.Dec.{eqb}
 use lib.ListN.{length}
+use Rattle.lists.specs.Bits.{bit}
 use Rattle.lists.specs.Rows.{put}
 use Rattle.lists.specs.Tabulate.{tabulate}
 use Rattle.rules.specs.Breach.{firstBreach}
-use Rattle.rules.specs.Table.{unsoundFault, roomFault}
+use Rattle.rules.specs.Limits.{mostLoads}
+use Rattle.rules.specs.Table.{unsoundFault, itemFault, roomFault}
 use Rattle.units.specs.Rounding.{down, up}
 use Rattle.probability.specs.Bounds.{lowerTotal, upperTotal}
 use Rattle.probability.specs.Chances.{chanceTable}
@@ -19,6 +21,9 @@ use Rattle.study.specs.Joint.{stateCounts}
 use Rattle.soundness.specs.Check.{sound}
 use Rattle.planning.specs.declared.bounds.PathsBounded.{PathsBounded}
 use Rattle.planning.specs.declared.bounds.PathsBounded.the-variants.{Bounded, Refused as NotBounded}
+use Rattle.indices.specs.declared.figures.Enclosure.{Enclosure}
+use Rattle.planning.specs.declared.loads.LoadBounded.{LoadBounded}
+use Rattle.planning.specs.declared.loads.LoadBounded.the-variants.{Bounds as LossBounds, Refused as NoLossBounds}
 use Rattle.planning.specs.Listing.{pathList}
 
 -- the chances of a study's components, and how many components it has
@@ -48,6 +53,13 @@ lowerClasses t = tabulate (λ (c : ℕ). lowerOf t (λ (class : ℕ). eqb class 
 
 abbrev pub upperClasses : Study → List ℕ
 upperClasses t = tabulate (λ (c : ℕ). upperOf t (λ (class : ℕ). eqb class c)) classPlaces
+
+-- the bounds of each load place
+abbrev pub lowerLoads : Study → List ℕ
+lowerLoads t = tabulate (λ (j : ℕ). lowerOf t (λ (class : ℕ). bit class j)) mostLoads
+
+abbrev pub upperLoads : Study → List ℕ
+upperLoads t = tabulate (λ (j : ℕ). upperOf t (λ (class : ℕ). bit class j)) mostLoads
 
 -- ---- slices
 
@@ -91,3 +103,18 @@ done breach = cond (eqb breach 0) Done (Refused breach)
 unfoldable pub classesBounded : Study → List ℕ → List ℕ → Outcome
 unfolding done
 classesBounded t lower upper = done (classesFault t lower upper)
+
+-- ---- the call for a load
+
+-- 16, then 17
+unfoldable pub lossFault : Study → ℕ → ℕ
+lossFault t j = firstBreach (unsoundFault (sound t) ∷ itemFault (t .loads) j ∷ [])
+
+-- the pair itself, or the breach
+unfoldable pub lossOf : ℕ → Enclosure → LoadBounded
+lossOf breach pair = cond (eqb breach 0) (LossBounds pair) (NoLossBounds breach)
+
+unfoldable pub loadBounded : Study → ℕ → LoadBounded
+unfolding lossOf
+loadBounded t j =
+    lossOf (lossFault t j) (record { lower = lowerOf t (λ (class : ℕ). bit class j); upper = upperOf t (λ (class : ℕ). bit class j) })

@@ -1,5 +1,5 @@
 -- No bound of a path is above one, where no chance is, and no total above one for each path.
-use Prim.Native.Nat.{ℕ, zero, suc, _+_, _*_, _≤_, min}
+use Prim.Native.Nat.{ℕ, zero, suc, _*_, _≤_, min}
 use mathlib.Core.Path.{_≡_, refl}
 use mathlib.Core.Bool.{Bool, true, false, cond}
 use mathlib.Core.List.{List, [], _∷_}
@@ -7,19 +7,20 @@ use native.Mathlib.Nat.{mul-le-mul}
 use native.Mathlib.Omega.{arith}
 use lib.Dec.{eqb}
 use lib.ListN.{length, getD}
+use Rattle.lists.specs.Bits.{bit}
 use Rattle.lists.specs.Counting.{sumOver}
 use Rattle.lists.specs.Tabulate.{tabulate}
 use Rattle.lists.proofs.SumOver.{kept-most}
 use Rattle.lists.proofs.Tabulated.{tabulate-alike}
 use Rattle.units.specs.One.{one}
 use Rattle.units.specs.Rounding.{down, up, scale}
-use Rattle.rules.specs.Limits.{mostJointStates}
+use Rattle.rules.specs.Limits.{mostJointStates, mostLoads}
 use Rattle.paths.specs.Paths.{blankMark}
 use Rattle.paths.specs.Words.{classBorne}
 use Rattle.probability.specs.Bounds.{factored, pathBound, total, lowerTotal, upperTotal}
 use Rattle.probability.specs.Chances.{chanceAt}
 use Rattle.probability.specs.Reading.{AtMostOne}
-use Rattle.probability.specs.Totals.{classPlaces, sumsMost, classTotals}
+use Rattle.probability.specs.Totals.{classPlaces, sumsMost, classTotals, loadTotals}
 
 scale-most : (rounding a p : ℕ) → rounding ≤ up → a ≤ one → p ≤ one → scale rounding a p ≤ one
 unfolding scale
@@ -45,21 +46,35 @@ module _ (rounding : ℕ) (less : rounding ≤ up) (chances : List ℕ) (chance 
       omega (arith, kept-most (keep (classBorne n entry)) (pathBound rounding chances n entry), path-most n entry, total-most keep entries)
 
 -- a limit of one for each of 4,096 paths is none
-pub lower-unlimited : (chances : List ℕ) → AtMostOne chances → (n : ℕ) (keep : ℕ → Bool) (entries : List (List ℕ)) → length entries ≤ mostJointStates
+lower-unlimited : (chances : List ℕ) → AtMostOne chances → (n : ℕ) (keep : ℕ → Bool) (entries : List (List ℕ)) → length entries ≤ mostJointStates
     → min sumsMost (total down chances n keep entries) ≡ lowerTotal chances n keep entries
 lower-unlimited chances chance n keep entries few = omega (arith, total-most down (omega arith) chances chance n keep entries)
 
-pub lower-classes : (chances : List ℕ) → AtMostOne chances → (n : ℕ) (entries : List (List ℕ)) → length entries ≤ mostJointStates
-    → classTotals down sumsMost chances n entries ≡ tabulate (λ (c : ℕ). lowerTotal chances n (λ (class : ℕ). eqb class c) entries) classPlaces
-unfolding classTotals
-lower-classes chances chance n entries few =
-    tabulate-alike
-    (λ (c : ℕ). min sumsMost (total down chances n (λ (class : ℕ). eqb class c) entries))
-    (λ (c : ℕ). lowerTotal chances n (λ (class : ℕ). eqb class c) entries)
-    classPlaces
-    (λ c h. lower-unlimited chances chance n (λ (class : ℕ). eqb class c) entries few)
+-- nor is it to the totals of each class or load
+module _ (keep : ℕ → ℕ → Bool) (places : ℕ) where
+  lower-table : (chances : List ℕ) → AtMostOne chances → (n : ℕ) (entries : List (List ℕ)) → length entries ≤ mostJointStates
+      → tabulate (λ (p : ℕ). min sumsMost (total down chances n (keep p) entries)) places ≡ tabulate (λ (p : ℕ). lowerTotal chances n (keep p) entries) places
+  lower-table chances chance n entries few =
+      tabulate-alike
+      (λ (p : ℕ). min sumsMost (total down chances n (keep p) entries))
+      (λ (p : ℕ). lowerTotal chances n (keep p) entries)
+      places
+      (λ p h. lower-unlimited chances chance n (keep p) entries few)
 
-pub upper-classes : (chances : List ℕ) (n : ℕ) (entries : List (List ℕ))
-    → classTotals up one chances n entries ≡ tabulate (λ (c : ℕ). upperTotal chances n (λ (class : ℕ). eqb class c) entries) classPlaces
-unfolding classTotals
-upper-classes chances n entries = refl
+module _ (chances : List ℕ) (chance : AtMostOne chances) (n : ℕ) (entries : List (List ℕ)) (few : length entries ≤ mostJointStates) where
+  pub lower-classes : classTotals down sumsMost chances n entries ≡ tabulate (λ (c : ℕ). lowerTotal chances n (λ (class : ℕ). eqb class c) entries) classPlaces
+  unfolding classTotals
+  lower-classes = lower-table (λ (c class : ℕ). eqb class c) classPlaces chances chance n entries few
+
+  pub lower-loads : loadTotals down sumsMost chances n entries ≡ tabulate (λ (j : ℕ). lowerTotal chances n (λ (class : ℕ). bit class j) entries) mostLoads
+  unfolding loadTotals
+  lower-loads = lower-table (λ (j class : ℕ). bit class j) mostLoads chances chance n entries few
+
+module _ (chances : List ℕ) (n : ℕ) (entries : List (List ℕ)) where
+  pub upper-classes : classTotals up one chances n entries ≡ tabulate (λ (c : ℕ). upperTotal chances n (λ (class : ℕ). eqb class c) entries) classPlaces
+  unfolding classTotals
+  upper-classes = refl
+
+  pub upper-loads : loadTotals up one chances n entries ≡ tabulate (λ (j : ℕ). upperTotal chances n (λ (class : ℕ). bit class j) entries) mostLoads
+  unfolding loadTotals
+  upper-loads = refl

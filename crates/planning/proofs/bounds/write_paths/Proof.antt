@@ -1,5 +1,5 @@
 -- `planning::bounds::write_paths` meets its contract: the entries on the page are the study's list.
-use mathlib.Core.Path.{_≡_, sym}
+use mathlib.Core.Path.{_≡_}
 use native.Mathlib.Omega.{arith}
 use lib.ListN.{length}
 use Rattle.soundness.proofs.Ranges.{chances-sum}
