@@ -2,9 +2,14 @@
 -- definitions that the contracts cite.
 use Prim.Native.Nat.{ℕ, _-_}
 use mathlib.Core.Path.{_≡_}
+use mathlib.Core.Bool.{Bool}
 use mathlib.Core.Option.{Option, none, some}
 use mathlib.Core.List.{List, [], _∷_, _++_, map}
+use lib.Dec.{eqb}
 use lib.ListN.{length, replicate}
+use Rattle.lists.specs.Bits.{bit}
+use Rattle.lists.specs.Tabulate.{tabulate}
+use Rattle.units.specs.One.{one}
 use Rattle.rules.specs.Limits.{mostComponents, mostGates, mostLoads, mostTests, mostGateInputs, never}
 use Rattle.study.specs.declared.Component.{Component}
 use Rattle.study.specs.declared.Gate.{Gate}
@@ -15,6 +20,7 @@ use Rattle.study.specs.declared.StudyAnswer.{StudyAnswer}
 use Rattle.study.specs.Zero.{zeroComponent, zeroGate, zeroLoad}
 use Rattle.opening.specs.Opening.{opened, refusedOpening}
 use Rattle.planning.specs.Listing.{pathList}
+use Rattle.planning.specs.Bounds.{lowerBounds, upperBounds, lowerOf, upperOf}
 use Rattle.paths.specs.Paths.{blankMark}
 
 -- ---- studies in few words
@@ -72,9 +78,24 @@ opens cs gs ls =
 
 -- ---- the rows
 
--- what the paper gives of a study that opens
+-- a lower and an upper bound
+pub record Pair : Type 0 where
+  pub lower : ℕ
+  pub upper : ℕ
+
+abbrev between : ℕ → ℕ → Pair
+between lower upper = record { lower = lower; upper = upper }
+
+-- both the same
+abbrev at : ℕ → Pair
+at n = between n n
+
+-- what the paper gives of a study that opens: its paths, and bounds for each path, for the classes from 0 on, and for each load
 pub record Results : Type 0 where
   pub paths : List (List ℕ)
+  pub bounds : List Pair
+  pub classes : List Pair
+  pub loads : List Pair
 
 -- an example: its bytes, what opening them answers, and what the paper gives of the study
 pub record Example : Type 0 where
@@ -86,9 +107,10 @@ pub record Example : Type 0 where
 abbrev example : List ℕ → StudyAnswer → Example
 example bytes opening = record { bytes = bytes; opening = opening; results = none }
 
--- an example with the paths of its study
-abbrev listing : List ℕ → StudyAnswer → List (List ℕ) → Example
-listing bytes opening paths = record { bytes = bytes; opening = opening; results = some (record { paths = paths }) }
+-- an example with the paths of its study, and the bounds of paths, classes and loads
+abbrev listing : List ℕ → StudyAnswer → List (List ℕ) → List Pair → List Pair → List Pair → Example
+listing bytes opening paths bounds classes loads =
+    record { bytes = bytes; opening = opening; results = some (record { paths = paths; bounds = bounds; classes = classes; loads = loads }) }
 
 -- the entry of a path: its marks, and its class
 abbrev path : List ℕ → ℕ → List ℕ
@@ -114,6 +136,9 @@ examples =
     ∷ 0x07 ∷ 0 ∷ 0x64 ∷ 0 ∷ 0 ∷ 0 ∷ 0x3C ∷ 0 ∷ 0 ∷ 0 ∷ [])
     (opens (twoStates 100_000_000 ∷ twoStates 200_000_000 ∷ []) (votes 1 (test 0 2 ∷ test 1 2 ∷ []) ∷ []) (lostBy 0 100 60 ∷ []))
     (path (0 ∷ 0 ∷ []) 0 ∷ path (0 ∷ 1 ∷ []) 1 ∷ path (1 ∷ blankMark ∷ []) 1 ∷ [])
+    (at 720_000_000 ∷ at 180_000_000 ∷ at 100_000_000 ∷ [])
+    (at 720_000_000 ∷ at 280_000_000 ∷ [])
+    (at 280_000_000 ∷ [])
     -- B: two components, lost when both fail
     ∷ listing (2 ∷ 1 ∷ 1
     ∷ 0x02 ∷ 0x55 ∷ 0x43 ∷ 0xDE ∷ 0x13
@@ -122,18 +147,30 @@ examples =
     ∷ 0x01 ∷ 0 ∷ [])
     (opens (twoStates 333_333_333 ∷ twoStates 333_333_333 ∷ []) (votes 2 (test 0 2 ∷ test 1 2 ∷ []) ∷ []) (lostBy 0 0 0 ∷ []))
     (path (0 ∷ blankMark ∷ []) 0 ∷ path (1 ∷ 0 ∷ []) 0 ∷ path (1 ∷ 1 ∷ []) 1 ∷ [])
+    (at 666_666_667 ∷ between 222_222_222 222_222_223 ∷ between 111_111_110 111_111_111 ∷ [])
+    (between 888_888_889 888_888_890 ∷ between 111_111_110 111_111_111 ∷ [])
+    (between 111_111_110 111_111_111 ∷ [])
     -- C: a load without a gate
     ∷ listing (1 ∷ 1 ∷ 1 ∷ 0x00 ∷ 0x02 ∷ 1 ∷ 0 ∷ 2 ∷ 0x00 ∷ [])
     (opens (twoStates 0 ∷ []) (failed0 ∷ []) (lostBy never 0 0 ∷ []))
     (path (blankMark ∷ []) 0 ∷ [])
+    (at one ∷ [])
+    (at one ∷ [])
+    (at 0 ∷ [])
     -- D: a full mask
     ∷ listing (1 ∷ 1 ∷ 1 ∷ 0x00 ∷ 0x02 ∷ 1 ∷ 0 ∷ 3 ∷ 0x01 ∷ 0 ∷ [])
     (opens (twoStates 0 ∷ []) (votes 1 (test 0 3 ∷ []) ∷ []) (lostBy 0 0 0 ∷ []))
     (path (blankMark ∷ []) 1 ∷ [])
+    (at one ∷ [])
+    (at 0 ∷ at one ∷ [])
+    (at one ∷ [])
     -- E: three components, lost when the first and the last fail
     ∷ listing (3 ∷ 1 ∷ 1 ∷ 0x00 ∷ 0x00 ∷ 0x00 ∷ 0x03 ∷ 2 ∷ 2 ∷ 0 ∷ 2 ∷ 2 ∷ 2 ∷ 0x01 ∷ 0 ∷ [])
     (opens (twoStates 0 ∷ twoStates 0 ∷ twoStates 0 ∷ []) (votes 2 (test 0 2 ∷ test 2 2 ∷ []) ∷ []) (lostBy 0 0 0 ∷ []))
     (path (0 ∷ blankMark ∷ blankMark ∷ []) 0 ∷ path (1 ∷ blankMark ∷ 0 ∷ []) 0 ∷ path (1 ∷ blankMark ∷ 1 ∷ []) 1 ∷ [])
+    (at one ∷ at 0 ∷ at 0 ∷ [])
+    (at one ∷ at 0 ∷ [])
+    (at 0 ∷ [])
     -- F: six components of four states, and a seventh of two
     ∷ example (6 ∷ 1 ∷ 1
     ∷ 0x01 ∷ 4 ∷ 0x01 ∷ 4 ∷ 0x01 ∷ 4 ∷ 0x01 ∷ 4 ∷ 0x01 ∷ 4 ∷ 0x01 ∷ 4
@@ -162,18 +199,35 @@ examples =
     ∷ listing (1 ∷ 1 ∷ 1 ∷ 0x00 ∷ 0x03 ∷ 2 ∷ 2 ∷ 0 ∷ 2 ∷ 0 ∷ 2 ∷ 0x01 ∷ 0 ∷ [])
     (opens (twoStates 0 ∷ []) (votes 2 (test 0 2 ∷ test 0 2 ∷ []) ∷ []) (lostBy 0 0 0 ∷ []))
     (path (0 ∷ []) 0 ∷ path (1 ∷ []) 1 ∷ [])
+    (at one ∷ at 0 ∷ [])
+    (at one ∷ at 0 ∷ [])
+    (at 0 ∷ [])
     -- K: state 1 at 0, and a load of one customer that is lost in it
     ∷ listing (1 ∷ 1 ∷ 1 ∷ 0x00 ∷ 0x02 ∷ 1 ∷ 0 ∷ 2 ∷ 0x03 ∷ 0 ∷ 1 ∷ 0 ∷ 0 ∷ 0 ∷ [])
     (opens (twoStates 0 ∷ []) (failed0 ∷ []) (lostBy 0 1 0 ∷ []))
     zeroListed
+    (at one ∷ at 0 ∷ [])
+    (at one ∷ at 0 ∷ [])
+    (at 0 ∷ [])
     ∷ []
 
 -- ---- the claim
 
+-- the bounds of a set of classes
+abbrev boundsOf : Study → (ℕ → Bool) → Pair
+boundsOf t keep = between (lowerOf t keep) (upperOf t keep)
+
 -- what the paper gives of a study is true of it
+pub record ResultsTrue (t : Study) (r : Results) : Type 0 where
+  pub paths : pathList t ≡ r .paths
+  pub lower : lowerBounds t ≡ map (λ (p : Pair). p .lower) (r .bounds)
+  pub upper : upperBounds t ≡ map (λ (p : Pair). p .upper) (r .bounds)
+  pub classes : tabulate (λ (c : ℕ). boundsOf t (λ (class : ℕ). eqb class c)) (length (r .classes)) ≡ r .classes
+  pub loads : tabulate (λ (j : ℕ). boundsOf t (λ (class : ℕ). bit class j)) (t .loads) ≡ r .loads
+
 abbrev pub ResultsHold : Study → Option Results → Type 0
 ResultsHold t none = Unit {0}
-ResultsHold t (some r) = pathList t ≡ r .paths
+ResultsHold t (some r) = ResultsTrue t r
 
 -- a row is true where opening its bytes answers what it says, and the study is as the paper says
 abbrev pub Holds : Example → Type 0
