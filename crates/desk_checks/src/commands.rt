@@ -13,14 +13,24 @@
 //                                 blank, and the class. One line: how many of the bytes behind the list hold FILL, and how many do not
 //     t SIZE FILL                 the same, but in place of the paths one line with the sum of each byte of an entry over all entries
 //     u FIELD ITEM PLACE VALUE    alters a field of a copy as `a` does, and lists its paths as `l` does into 64 bytes that hold 170
+//     b LOWER UPPER               asks for the bounds of the current study's paths in slices of so many places, at most 512 each, that all
+//                                 hold 18,446,744,073,709,551,615. One line: the refusal, 0 for none, and the number of paths. A line for each
+//                                 path: its lower and its upper bound. One line: how many places of both slices behind the bounds, or of all
+//                                 places if refused, hold what they held, and how many do not
+//     k LOWER UPPER               the same for the classes. One line: the refusal. A line for each class whose bounds are not both 0: the class
+//                                 and its bounds. One line: how many places from 256 on, or of all if refused, hold what they held, and how
+//                                 many do not
 //     n CLASS                     the number of loads lost in a class
 //
-// P1, P2, P3, N and VALUE have four bytes, lowest byte first, SIZE has two, and the others one. A byte that is missing counts as 0. Any
+// P1, P2, P3, N and VALUE have four bytes, lowest byte first, SIZE, LOWER and UPPER have two, and the others one. A byte that is missing counts as 0. Any
 // other letter writes an empty line.
+use crate::bounds::bound_classes;
+use crate::bounds::bound_paths;
 use crate::listings::list;
 use desk_tools::alter::altered;
 use desk_tools::hexadecimal::byte_at;
 use desk_tools::hexadecimal::number_at;
+use desk_tools::hexadecimal::size_at;
 use desk_tools::numbers;
 use desk_tools::show::show;
 use study::Outcome;
@@ -100,8 +110,7 @@ fn edit_altered(bytes: &[u8], study: Study) {
 
 // Lists the paths of the study into a buffer of the size that the command asks for.
 fn list_sized(bytes: &[u8], study: Study, sums: bool) {
-    let size = byte_at(bytes, 0) as usize + 256 * byte_at(bytes, 1) as usize;
-    list(study, size, byte_at(bytes, 2), sums);
+    list(study, size_at(bytes, 0), byte_at(bytes, 2), sums);
 }
 
 // Shows the number of loads lost in a class.
@@ -119,6 +128,8 @@ fn look(letter: u8, bytes: &[u8], study: Study) {
         b'l' => list_sized(bytes, study, false),
         b't' => list_sized(bytes, study, true),
         b'u' => list(altered_copy(bytes, study), 64, 170, false),
+        b'b' => bound_paths(study, size_at(bytes, 0), size_at(bytes, 2)),
+        b'k' => bound_classes(study, size_at(bytes, 0), size_at(bytes, 2)),
         b'n' => show_loads_lost(byte_at(bytes, 0)),
         _ => numbers::end(),
     }

@@ -36,7 +36,7 @@ fn list_size(lent: &[u8], paths: u32, components: u8) -> usize
 }
 
 // Shows the refusal, 0 for none, and the number of paths on a line.
-fn show_answer(refusal: u8, paths: u32) {
+pub fn show_answer(refusal: u8, paths: u32) {
     numbers::first(refusal as u32);
     numbers::next(paths);
     numbers::end();

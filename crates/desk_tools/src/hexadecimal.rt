@@ -69,3 +69,10 @@ pub fn number_at(bytes: &[u8], at: usize) -> u32
         byte_at(bytes, at + 3),
     )
 }
+
+// The number of two bytes at a place near the front.
+pub fn size_at(bytes: &[u8], at: usize) -> usize
+    requires { ⌜ at ≤ 4096 ⌝ }
+{
+    byte_at(bytes, at) as usize + 256 * byte_at(bytes, at + 1) as usize
+}

@@ -27,6 +27,17 @@ pub fn next_size(size: usize) {
     first_size(size);
 }
 
+// The first number of a line, from a long one.
+pub fn first_long(n: u64) {
+    io::print_decimal(1, n);
+}
+
+// One more number of a line, from a long one.
+pub fn next_long(n: u64) {
+    io::write_all(1, b" ");
+    first_long(n);
+}
+
 // More numbers of a line, one from each byte.
 pub fn next_bytes(bytes: &[u8]) {
     let mut i: usize = 0;
