@@ -1,4 +1,4 @@
-// Asks for the bounds of a study's paths and classes in two lent slices, and shows what the call answers and what it wrote.
+// Asks for the bounds of a study's paths, classes and loads, and shows what the call answers and what it wrote.
 use crate::listings::show_answer;
 use desk_tools::numbers;
 use desk_tools::places::front_count;
@@ -6,6 +6,7 @@ use desk_tools::places::show_bounds;
 use desk_tools::places::show_classes;
 use desk_tools::places::show_touched;
 use desk_tools::places::untouched_places;
+use planning::LoadBounded;
 use planning::PathsBounded;
 use study::Outcome;
 use study::Study;
@@ -72,4 +73,21 @@ pub fn bound_classes(study: Study, lower_count: usize, upper_count: usize) {
     let lower_end = front_count(&lower, lower_count);
     let upper_end = front_count(&upper, upper_count);
     bound_classes_into(study, &mut lower[..lower_end], &mut upper[..upper_end]);
+}
+
+// Shows a refusal, 0 for none, and a pair of bounds on a line.
+fn show_pair(number: u8, lower: u64, upper: u64) {
+    numbers::first(number as u32);
+    numbers::next_long(lower);
+    numbers::next_long(upper);
+    numbers::end();
+}
+
+// Asks for the bounds of a load, and shows them.
+pub fn bound_load(study: Study, load: usize) {
+    let answer = planning::load_bounds(study, load);
+    match answer {
+        LoadBounded::Bounds(pair) => show_pair(0, pair.lower, pair.upper),
+        LoadBounded::Refused(number) => show_pair(number, 0, 0),
+    }
 }

@@ -20,11 +20,13 @@
 //     k LOWER UPPER               the same for the classes. One line: the refusal. A line for each class whose bounds are not both 0: the class
 //                                 and its bounds. One line: how many places from 256 on, or of all if refused, hold what they held, and how
 //                                 many do not
+//     v ITEM                      the bounds of a load of the current study: the refusal, 0 for none, the lower and the upper bound
 //     n CLASS                     the number of loads lost in a class
 //
 // P1, P2, P3, N and VALUE have four bytes, lowest byte first, SIZE, LOWER and UPPER have two, and the others one. A byte that is missing counts as 0. Any
 // other letter writes an empty line.
 use crate::bounds::bound_classes;
+use crate::bounds::bound_load;
 use crate::bounds::bound_paths;
 use crate::listings::list;
 use desk_tools::alter::altered;
@@ -130,6 +132,7 @@ fn look(letter: u8, bytes: &[u8], study: Study) {
         b'u' => list(altered_copy(bytes, study), 64, 170, false),
         b'b' => bound_paths(study, size_at(bytes, 0), size_at(bytes, 2)),
         b'k' => bound_classes(study, size_at(bytes, 0), size_at(bytes, 2)),
+        b'v' => bound_load(study, byte_at(bytes, 0) as usize),
         b'n' => show_loads_lost(byte_at(bytes, 0)),
         _ => numbers::end(),
     }
