@@ -24,10 +24,10 @@ use Rattle.soundness.specs.Sound.{Sound}
 use Rattle.soundness.proofs.Checked.{no-unsound}
 use Rattle.fault_tree.specs.Classes.{classOf, classes}
 use Rattle.fault_tree.proofs.Tables.{classes-long, class-at}
-use Rattle.planning.specs.declared.listing.Listing.{Listing}
-use Rattle.planning.specs.declared.listing.Listing.the-variants.{Listed, Refused}
+use Rattle.planning.specs.declared.listing.Listing.the-variants.{Listed}
 use Rattle.planning.specs.Answers.{listRefusal}
 use Rattle.planning.specs.Listing.{pathList, listFault, pathsListed, bufferListed}
+use Rattle.planning.proofs.Paged.{told}
 use Rattle.planning.proofs.Listed.{study-block, list-need, listed-done, written-done}
 use Rattle.demands.specs.Demand3.{LoseAlike, entryBytes, BothListed, ListsEqual, ListsEqualIff}
 use Rattle.demands.proofs.Listing.{list-refused}
@@ -39,11 +39,6 @@ record Made (t : Study) (d : List ℕ) (m : ℕ) : Type 0 where
   is-sound : Sound t
   number : m ≡ length (pathList t)
   bytes : take (m * entryBytes t) (bufferListed t d) ≡ joined (pathList t)
-
--- the number of paths that an answer tells
-abbrev told : Listing → ℕ
-told (Listed count) = count .paths
-told (Refused n) = 0
 
 fault-sound : (t : Study) (room : ℕ) → listFault t room ≡ 0 → Sound t
 unfolding listFault

@@ -1,16 +1,15 @@
 -- What carries the filling of the class table: the classes of the joint states below k are set, and x is the joint state numbered k.
 use Prim.Native.Nat.{ℕ, _+_, _%_, _<_, _≤_}
 use mathlib.Core.Path.{_≡_, sym, ap, _∙_}
-use mathlib.Core.List.{List, [], _∷_}
+use mathlib.Core.List.{List, []}
 use native.Mathlib.Nat.{mod-eq-of-lt, zero-mod}
-use native.Mathlib.Numerals.{add-one}
 use native.Mathlib.Omega.{arith}
-use lib.ListN.{length, getD, take, drop, set, length-map, length-replicate, drop-of-length-le}
-use lib.Seq.{drop-cons, take-at}
+use lib.ListN.{length, getD, take, drop, set, length-map, length-replicate}
+use lib.Seq.{take-at}
 use Rattle.lists.specs.Product.{product}
 use Rattle.lists.specs.Rows.{put}
 use Rattle.lists.proofs.Maps.{getD-map-inside}
-use Rattle.lists.proofs.Puts.{Due, due-start, due-set, due-done}
+use Rattle.lists.proofs.Writing.{Writing, writing-start, writing-more, writing-done}
 use Rattle.rules.specs.Limits.{mostJointStates}
 use Rattle.joint_states.specs.JointStates.{JointState, jointStates, numberOf}
 use Rattle.joint_states.proofs.Numbered.{number-below, length-jointStates, numbered}
@@ -42,7 +41,7 @@ pub record Tabled (t : Study) (counts : List ℕ) (all k : ℕ) (x table : List 
   pub joint : JointState counts x
   pub number : numberOf counts x ≡ k % product counts
   pub whole : all ≡ product counts
-  pub due : Due cleared 0 (classes t) table k (drop k (classes t))
+  pub writing : Writing (classes t) cleared k table
 
 module _ {t : Study} {counts : List ℕ} {all : ℕ} where
   pub tabled-start : {x table : List ℕ} → Sound t → counts ≡ stateCounts t → JointState counts x → numberOf counts x ≡ 0
@@ -55,7 +54,7 @@ module _ {t : Study} {counts : List ℕ} {all : ℕ} where
         joint = j;
         number = number ∙ sym (zero-mod (product counts));
         whole = whole;
-        due = rw e (due-start (omega (arith, classes-long t, joint-most t s, length-replicate {A = ℕ} mostJointStates 0)));
+        writing = rw e (writing-start (omega (arith, classes-long t, joint-most t s, length-replicate {A = ℕ} mostJointStates 0)));
       }
 
   -- the class of x is set, and x moves on
@@ -65,14 +64,13 @@ module _ {t : Study} {counts : List ℕ} {all : ℕ} where
       let at : numberOf counts x ≡ k = w .number ∙ mod-eq-of-lt (rw (w .whole) at h) in
       let here : getD (classes t) k 0 ≡ class = class-at t counts x (w .same) (w .joint) k at ∙ sym e in
       let inside : k < length (classes t) = omega (arith, h, w .whole, classes-long t, ap product (w .same)) in
-      let next : drop k (classes t) ≡ class ∷ drop (k + 1) (classes t) = rw (here, sym (add-one k)) at (drop-cons (classes t) k 0 inside) in
       record {
         sound = w .sound;
         same = w .same;
         joint = j;
         number = moved ∙ ap (λ (n : ℕ). (n + 1) % product counts) at;
         whole = w .whole;
-        due = due-set (rw next at (w .due));
+        writing = writing-more (w .writing) inside (sym here);
       }
 
   pub tabled-inside : {k : ℕ} {x table : List ℕ} → Tabled t counts all k x table → k < all → k < mostJointStates
@@ -80,6 +78,4 @@ module _ {t : Study} {counts : List ℕ} {all : ℕ} where
 
   pub tabled-done : {k : ℕ} {x table : List ℕ} → Tabled t counts all k x table → all ≤ k → table ≡ classTable t
   unfolding classTable
-  tabled-done {k} {x} {table} w h =
-      let none = drop-of-length-le (classes t) {i = k} (omega (arith, classes-long t, h, w .whole, ap product (w .same))) in
-      due-done (rw none at (w .due))
+  tabled-done {k} {x} {table} w h = writing-done (w .writing) (omega (arith, classes-long t, h, w .whole, ap product (w .same)))
