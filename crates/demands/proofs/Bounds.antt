@@ -28,9 +28,9 @@ use Rattle.soundness.specs.Sound.{Sound}
 use Rattle.fault_tree.specs.Classes.{classOf, classes}
 use Rattle.planning.specs.Listing.{pathList}
 use Rattle.planning.specs.Bounds.{chancesOf, componentsOf, lowerOf, upperOf}
+use Rattle.planning.proofs.Chances.{study-chanced}
 use Rattle.planning.proofs.Listed.{study-block}
 use Rattle.demands.specs.Demand2.{exactOf, wholeOf, PathsWithin, ClassesWithin, LoadsWithin}
-use Rattle.demands.proofs.Chances.{study-chanced}
 use Rattle.demands.proofs.Paths.{table-class}
 
 -- the exact chance by the table of classes is that by the classes of joint states

@@ -1,5 +1,4 @@
 pub mod Bounds
-pub mod Chances
 pub mod Checked
 pub mod DeskExamples
 pub mod Edited

@@ -104,14 +104,14 @@ pair-taken t need lower upper none =
 
 module _ (t : Study) (s : Sound t) (table : List ℕ) (e : table ≡ chanceTable (t .component)) (places : length table ≡ mostComponents * mostStates) where
   -- the struct has twelve component places
-  twelve : length (t .component) ≡ mostComponents
-  twelve = omega (arith, ap length e, table-long (t .component), places)
+  pub study-twelve : length (t .component) ≡ mostComponents
+  study-twelve = omega (arith, ap length e, table-long (t .component), places)
 
   pub study-chances : AtMostOne table
-  study-chances = record { each = λ k. rw e (chances-most (t .component) (λ i h. chances-sum t s i (omega (arith, twelve))) k) }
+  study-chances = record { each = λ k. rw e (chances-most (t .component) (λ i h. chances-sum t s i (omega (arith, study-twelve))) k) }
 
   pub study-components : length (stateCounts t) ≡ t .components
-  study-components = counts-long t s twelve
+  study-components = counts-long t s study-twelve
 
 -- ---- the totals of a study whose list is on a page
 

@@ -1,5 +1,6 @@
 pub mod Answers
 pub mod Bounds
 pub mod Edits
+pub mod Figures
 pub mod Listing
 pub mod Page

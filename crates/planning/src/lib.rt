@@ -7,6 +7,7 @@ mod listing;
 mod loads;
 mod page;
 mod pairs;
+mod three_figures;
 
 pub use bounds::PathsBounded;
 pub use bounds::path_bounds;
@@ -16,12 +17,16 @@ pub use edits::set_minutes;
 pub use edits::set_probabilities;
 pub use event_tree::PathCount;
 pub use fault_tree::loads_lost;
+pub use indices::Caidi;
 pub use indices::Enclosure;
+pub use indices::Figures;
 pub use listing::Listing;
 pub use listing::list_paths;
 pub use loads::LoadBounded;
 pub use loads::load_bounds;
 use study::StudyAnswer;
+pub use three_figures::FiguresAnswer;
+pub use three_figures::figures;
 ghost use mathlib.Core.Path.{_≡_};
 ghost use Rattle.opening.specs.Opening.{opened};
 

@@ -15,6 +15,8 @@ use units::DOWN;
 use units::ONE;
 use units::UP;
 ghost use mathlib.Core.Path.{_≡_};
+ghost use Rattle.rules.specs.Limits.{mostLoads};
+ghost use Rattle.indices.specs.Reading.{Ordered, Losses as LossesMost};
 ghost use Rattle.soundness.specs.Sound.{Sound};
 ghost use Rattle.planning.specs.Bounds.{lowerLoads, upperLoads, loadBounded};
 ghost use Rattle.planning.specs.Page.{Paged};
@@ -36,6 +38,8 @@ fn losses_on(t: Study, page: &[u8], paths: u32) -> Losses
     requires { ⌜ Paged t paths (now page) ⌝ }
     ensures { λ r. ⌜ r .lower ≡ lowerLoads t ⌝ }
     ensures { λ r. ⌜ r .upper ≡ upperLoads t ⌝ }
+    ensures { λ r. ⌜ LossesMost (r .upper) mostLoads ⌝ }
+    ensures { λ r. ⌜ Ordered (r .lower) (r .upper) mostLoads ⌝ }
 {
     let component = t.component;
     let n = t.components as usize;
@@ -50,6 +54,8 @@ pub fn losses_of(t: Study) -> Losses
     requires { ⌜ Sound t ⌝ }
     ensures { λ r. ⌜ r .lower ≡ lowerLoads t ⌝ }
     ensures { λ r. ⌜ r .upper ≡ upperLoads t ⌝ }
+    ensures { λ r. ⌜ LossesMost (r .upper) mostLoads ⌝ }
+    ensures { λ r. ⌜ Ordered (r .lower) (r .upper) mostLoads ⌝ }
 {
     let mut page = blank_page();
     let paths = list_page(t, &mut page);

@@ -79,7 +79,7 @@ returns-2 c =
     let item = loss-taken (start .args .study) (start .args .load) none in
     let inside : start .args .load < 8 = omega (arith, item .below, loads-most (start .args .study) (item .is-sound)) in
     let losses = c .before .before .losses-of .ensures in
-    (λ i. Bounds (record { lower = lower-at (start .args .study) _ _ (losses .0) inside i; upper = upper-at (start .args .study) _ _ (losses .1) inside i })) ∙ loss-done _ _ none
+    (λ i. Bounds (record { lower = lower-at (start .args .study) _ _ (losses .0) inside i; upper = upper-at (start .args .study) _ _ (losses .1 .0) inside i })) ∙ loss-done _ _ none
 
 pub load-bounds-spec : {M : Type 1} → statement M
 load-bounds-spec =

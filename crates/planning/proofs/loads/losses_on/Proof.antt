@@ -1,9 +1,11 @@
--- `planning::loads::losses_on` meets its contract: the entries on the page are the study's list, and sums of lower bounds have no limit.
+-- `planning::loads::losses_on` meets its contract: the entries on the page are the study's list, sums of lower bounds have no limit, and
+-- the bounds enclose exact chances.
 use mathlib.Core.Path.{_≡_, _∙_}
 use native.Mathlib.Omega.{arith}
 use lib.ListN.{length}
 use Rattle.soundness.proofs.Ranges.{chances-sum}
-use Rattle.planning.proofs.Paired.{study-chances, study-components, study-lower-loads, study-upper-loads}
+use Rattle.planning.proofs.LossOrder.{losses-most, losses-ordered}
+use Rattle.planning.proofs.Paired.{study-twelve, study-chances, study-components, study-lower-loads, study-upper-loads}
 use borrow.Author.Needs.{needs}
 use Rattle.planning.proofs.loads.losses_on.Statement.{statement}
 use Rattle.planning.proofs.loads.losses_on.Tie as tie
@@ -49,12 +51,14 @@ load-totals-requires-2 c κs =
 
 returns : tie.Need-returns
 returns c =
-    let paged = c .before .before .before .before .before .before .before .before .pre in
+    let start = c .before .before .before .before .before .before .before .before in
+    let paged = start .pre in
     let table = c .before .before .before .before .chance-table in
-    let places : length (table .result) ≡ 48 = search needs in (
-      c .before .before .load-totals .ensures ∙ study-lower-loads _ _ _ paged _ (table .ensures) places,
-      c .load-totals2 .ensures ∙ study-upper-loads _ _ _ paged _ (table .ensures) places,
-    )
+    let places : length (table .result) ≡ 48 = search needs in
+    let twelve = study-twelve _ (paged .is-sound) _ (table .ensures) places in
+    let lower = c .before .before .load-totals .ensures ∙ study-lower-loads _ _ _ paged _ (table .ensures) places in
+    let upper = c .load-totals2 .ensures ∙ study-upper-loads _ _ _ paged _ (table .ensures) places in
+    (lower, (upper, (losses-most (start .args .t) _ upper, losses-ordered (start .args .t) (paged .is-sound) twelve _ _ lower upper)))
 
 pub losses-on-spec : {M : Type 1} → statement M
 losses-on-spec =
