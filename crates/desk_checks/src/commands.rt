@@ -21,6 +21,8 @@
 //                                 and its bounds. One line: how many places from 256 on, or of all if refused, hold what they held, and how
 //                                 many do not
 //     v ITEM                      the bounds of a load of the current study: the refusal, 0 for none, the lower and the upper bound
+//     i                           the three figures of the current study. One line: the refusal, 0 for none. Unless refused, a line each for SAIFI,
+//                                 SAIDI and CAIDI: the lower and the upper bound, and an empty line where CAIDI is not stated
 //     n CLASS                     the number of loads lost in a class
 //
 // P1, P2, P3, N and VALUE have four bytes, lowest byte first, SIZE, LOWER and UPPER have two, and the others one. A byte that is missing counts as 0. Any
@@ -28,6 +30,7 @@
 use crate::bounds::bound_classes;
 use crate::bounds::bound_load;
 use crate::bounds::bound_paths;
+use crate::figures::show_figures;
 use crate::listings::list;
 use desk_tools::alter::altered;
 use desk_tools::hexadecimal::byte_at;
@@ -133,6 +136,7 @@ fn look(letter: u8, bytes: &[u8], study: Study) {
         b'b' => bound_paths(study, size_at(bytes, 0), size_at(bytes, 2)),
         b'k' => bound_classes(study, size_at(bytes, 0), size_at(bytes, 2)),
         b'v' => bound_load(study, byte_at(bytes, 0) as usize),
+        b'i' => show_figures(study),
         b'n' => show_loads_lost(byte_at(bytes, 0)),
         _ => numbers::end(),
     }

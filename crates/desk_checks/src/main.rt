@@ -2,6 +2,7 @@
 // are right; `stdout` holds them, worked out by hand or, for lists and bounds, by a second program from all joint states.
 mod bounds;
 mod commands;
+mod figures;
 mod listings;
 mod script;
 
