@@ -2,6 +2,7 @@ pub mod Bounds
 pub mod Checked
 pub mod DeskExamples
 pub mod Edited
+pub mod Figures
 pub mod FirstBreach
 pub mod Listing
 pub mod ListsEqual

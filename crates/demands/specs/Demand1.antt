@@ -12,7 +12,8 @@ use Rattle.study.specs.Zero.{zeroStudy}
 use Rattle.opening.specs.Opening.{opened}
 use Rattle.soundness.specs.Sound.{Sound}
 use Rattle.soundness.specs.Check.{sound}
-use Rattle.planning.specs.Answers.{refusalOf, listRefusal}
+use Rattle.planning.specs.Answers.{refusalOf, listRefusal, figuresRefusal}
+use Rattle.planning.specs.Figures.{figuresFault, figuresGiven}
 use Rattle.planning.specs.Listing.{pathList, listFault, pathsListed, bufferListed}
 use Rattle.demands.specs.Edits.{Edit, edit, breach, after, tableOf, tableAfter, othersOf}
 
@@ -62,3 +63,7 @@ pub record ListRefused : Type 0 where
   pub number : (t : Study) (buffer : List ℕ) → listRefusal (pathsListed t buffer) ≡ listFault t (length buffer)
   pub kept : (t : Study) (buffer : List ℕ) → (listFault t (length buffer) ≡ 0 → ⊥) → bufferListed t buffer ≡ buffer
   pub behind : (t : Study) (buffer : List ℕ) (k : ℕ) → length (joined (pathList t)) ≤ k → getD (bufferListed t buffer) k 0 ≡ getD buffer k 0
+
+-- A call for the figures is refused by the first breach of its list.
+abbrev pub FiguresRefused : Type 0
+FiguresRefused = (t : Study) → figuresRefusal (figuresGiven t) ≡ figuresFault t

@@ -1,4 +1,5 @@
--- Demand 2: a load is lost in a joint state just when its fault tree says so, and the bounds enclose the exact sums.
+-- Demand 2: a load is lost in a joint state just when its fault tree says so, the bounds enclose the exact sums, and the
+-- figures the exact quotients.
 use Prim.Native.Nat.{ℕ, _^_, _<_, _≤_}
 use mathlib.Core.Path.{_≡_}
 use mathlib.Core.Bool.{Bool, true, false}
@@ -16,11 +17,13 @@ use Rattle.accuracy.specs.Accuracy.{pathDistance, totalDistance}
 use Rattle.study.specs.Joint.{stateCounts}
 use Rattle.study.specs.declared.Study.{Study}
 use Rattle.study.specs.Places.{gateAt, loadAt}
+use Rattle.indices.specs.Enclosed.{SaifiEncloses, SaidiEncloses, CaidiEncloses}
 use Rattle.soundness.specs.Sound.{Sound}
 use Rattle.fault_tree.specs.Truth.{gateTrue, gateTruths}
 use Rattle.fault_tree.specs.Classes.{classOf}
 use Rattle.planning.specs.Listing.{pathList}
 use Rattle.planning.specs.Bounds.{componentsOf, lowerBounds, upperBounds, lowerOf, upperOf, lowerClasses, upperClasses}
+use Rattle.planning.specs.Figures.{customersOf, studyFigures}
 
 -- gate i is true in joint state x
 abbrev pub isTrue : Study → List ℕ → ℕ → Bool
@@ -71,3 +74,17 @@ LoadsWithin =
     (t : Study) → Sound t → length (t .component) ≡ mostComponents → (j : ℕ)
     → Within (lowerOf t (λ (class : ℕ). bit class j)) (upperOf t (λ (class : ℕ). bit class j))
     (totalDistance (componentsOf t) (λ (class : ℕ). bit class j) (pathList t)) (exactOf t (λ (x : List ℕ). bit (classOf t x) j)) (wholeOf t)
+
+-- ---- the figures
+
+-- the exact chance that load j is lost
+abbrev pub exactLost : Study → ℕ → ℕ
+exactLost t j = exactOf t (λ (x : List ℕ). bit (classOf t x) j)
+
+-- The three figures enclose the quotients of the published formulas, over the exact chances; CAIDI does wherever it is stated.
+pub record FiguresEnclose : Type 0 where
+  pub saifi : (t : Study) → Sound t → length (t .component) ≡ mostComponents → 0 < customersOf t
+      → SaifiEncloses (studyFigures t) (exactLost t) (wholeOf t) (t .load) (t .loads)
+  pub saidi : (t : Study) → Sound t → length (t .component) ≡ mostComponents → 0 < customersOf t
+      → SaidiEncloses (studyFigures t) (exactLost t) (wholeOf t) (t .load) (t .loads)
+  pub caidi : (t : Study) → Sound t → length (t .component) ≡ mostComponents → CaidiEncloses (studyFigures t) (exactLost t) (t .load) (t .loads)

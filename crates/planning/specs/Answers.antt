@@ -4,6 +4,8 @@ use Rattle.study.specs.declared.Outcome.{Outcome}
 use Rattle.study.specs.declared.Outcome.the-variants.{Done, Refused}
 use Rattle.planning.specs.declared.listing.Listing.{Listing}
 use Rattle.planning.specs.declared.listing.Listing.the-variants.{Listed, Refused as NotListed}
+use Rattle.planning.specs.declared.three_figures.FiguresAnswer.{FiguresAnswer}
+use Rattle.planning.specs.declared.three_figures.FiguresAnswer.the-variants.{Figures, Refused as NoFigures}
 
 abbrev pub refusalOf : Outcome → ℕ
 refusalOf Done = 0
@@ -12,3 +14,7 @@ refusalOf (Refused n) = n
 abbrev pub listRefusal : Listing → ℕ
 listRefusal (Listed count) = 0
 listRefusal (NotListed n) = n
+
+abbrev pub figuresRefusal : FiguresAnswer → ℕ
+figuresRefusal (Figures triple) = 0
+figuresRefusal (NoFigures n) = n
