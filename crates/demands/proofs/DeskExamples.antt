@@ -4,7 +4,7 @@ use Rattle.lists.specs.Counting.{sum, allBelow, countTrue, sumOver}
 use Rattle.lists.specs.Rows.{same, joined}
 use Rattle.lists.specs.Run.{each}
 use Rattle.lists.specs.Tabulate.{tabulate}
-use Rattle.units.specs.Rounding.{scale}
+use Rattle.units.specs.Rounding.{scale, quotientDown, quotientUp}
 use Rattle.lists.specs.Product.{product}
 use Rattle.rules.specs.Breach.{refuse, outside}
 use Rattle.reading.specs.Reader.{byte, word}
@@ -22,10 +22,12 @@ use Rattle.probability.specs.Chances.{chanceTable}
 use Rattle.probability.specs.Totals.{pathBounds}
 use Rattle.fault_tree.specs.Truth.{trueTests, trueGates, gateTrue, withTruth, gateTruths}
 use Rattle.fault_tree.specs.Classes.{lost, classBy, classOf, classes}
+use Rattle.indices.specs.Figures.{customersSum, lossSum, minutesSum, caidi, figuresOf}
+use Rattle.planning.specs.Figures.{figuresBy}
 use Rattle.planning.specs.Listing.{pathList}
 use Rattle.demands.specs.DeskExamples.{DeskExamples, padded, votes, opens}
 
 pub desk-examples : DeskExamples
-unfolding each product refuse outside byte word mapByte stateCount probability componentField component threshold inputsByte test tests input inputs gateField gate lossGate size customers minutes loadField load count componentAfter componentRecord records study refusedOpening answer opened absentGate zeroGate noComponents noGates noLoads zeroStudy padded votes opens sum allBelow countTrue same divided jointStates isBlank mark ways branches paths trueTests trueGates gateTrue withTruth gateTruths lost classBy classOf classes pathList sumOver joined tabulate scale chanceTable factored pathBound total pathBounds
+unfolding each product refuse outside byte word mapByte stateCount probability componentField component threshold inputsByte test tests input inputs gateField gate lossGate size customers minutes loadField load count componentAfter componentRecord records study refusedOpening answer opened absentGate zeroGate noComponents noGates noLoads zeroStudy padded votes opens sum allBelow countTrue same divided jointStates isBlank mark ways branches paths trueTests trueGates gateTrue withTruth gateTruths lost classBy classOf classes pathList sumOver joined tabulate scale chanceTable factored pathBound total pathBounds quotientDown quotientUp customersSum lossSum minutesSum caidi figuresOf figuresBy
 desk-examples =
-    ((refl, record { paths = refl; lower = refl; upper = refl; classes = refl; loads = refl }), ((refl, record { paths = refl; lower = refl; upper = refl; classes = refl; loads = refl }), ((refl, record { paths = refl; lower = refl; upper = refl; classes = refl; loads = refl }), ((refl, record { paths = refl; lower = refl; upper = refl; classes = refl; loads = refl }), ((refl, record { paths = refl; lower = refl; upper = refl; classes = refl; loads = refl }), ((refl, tt), ((refl, tt), ((refl, tt), ((refl, tt), ((refl, tt), ((refl, tt), ((refl, tt), ((refl, tt), ((refl, record { paths = refl; lower = refl; upper = refl; classes = refl; loads = refl }), ((refl, record { paths = refl; lower = refl; upper = refl; classes = refl; loads = refl }), tt)))))))))))))))
+    ((refl, record { paths = refl; lower = refl; upper = refl; classes = refl; loads = refl; figures = refl }), ((refl, record { paths = refl; lower = refl; upper = refl; classes = refl; loads = refl; figures = refl }), ((refl, record { paths = refl; lower = refl; upper = refl; classes = refl; loads = refl; figures = refl }), ((refl, record { paths = refl; lower = refl; upper = refl; classes = refl; loads = refl; figures = refl }), ((refl, record { paths = refl; lower = refl; upper = refl; classes = refl; loads = refl; figures = refl }), ((refl, tt), ((refl, tt), ((refl, tt), ((refl, tt), ((refl, tt), ((refl, tt), ((refl, tt), ((refl, tt), ((refl, record { paths = refl; lower = refl; upper = refl; classes = refl; loads = refl; figures = refl }), ((refl, record { paths = refl; lower = refl; upper = refl; classes = refl; loads = refl; figures = refl }), tt)))))))))))))))

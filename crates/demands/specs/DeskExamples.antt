@@ -11,6 +11,7 @@ use Rattle.lists.specs.Bits.{bit}
 use Rattle.lists.specs.Tabulate.{tabulate}
 use Rattle.units.specs.One.{one}
 use Rattle.rules.specs.Limits.{mostComponents, mostGates, mostLoads, mostTests, mostGateInputs, never}
+use Rattle.rules.specs.Table.{customersFault}
 use Rattle.study.specs.declared.Component.{Component}
 use Rattle.study.specs.declared.Gate.{Gate}
 use Rattle.study.specs.declared.Load.{Load}
@@ -19,6 +20,12 @@ use Rattle.study.specs.declared.Study.{Study}
 use Rattle.study.specs.declared.StudyAnswer.{StudyAnswer}
 use Rattle.study.specs.Zero.{zeroComponent, zeroGate, zeroLoad}
 use Rattle.opening.specs.Opening.{opened, refusedOpening}
+use Rattle.indices.specs.declared.figures.Caidi.{Caidi}
+use Rattle.indices.specs.declared.figures.Caidi.the-variants.{Bounds, NotStated}
+use Rattle.indices.specs.declared.figures.Enclosure.{Enclosure}
+use Rattle.planning.specs.declared.three_figures.FiguresAnswer.{FiguresAnswer}
+use Rattle.planning.specs.declared.three_figures.FiguresAnswer.the-variants.{Figures, Refused}
+use Rattle.planning.specs.Figures.{customersOf, studyFigures, figuresBy}
 use Rattle.planning.specs.Listing.{pathList}
 use Rattle.planning.specs.Bounds.{lowerBounds, upperBounds, lowerOf, upperOf}
 use Rattle.paths.specs.Paths.{blankMark}
@@ -79,23 +86,20 @@ opens cs gs ls =
 -- ---- the rows
 
 -- a lower and an upper bound
-pub record Pair : Type 0 where
-  pub lower : ℕ
-  pub upper : ℕ
-
-abbrev between : ℕ → ℕ → Pair
+abbrev between : ℕ → ℕ → Enclosure
 between lower upper = record { lower = lower; upper = upper }
 
 -- both the same
-abbrev at : ℕ → Pair
+abbrev at : ℕ → Enclosure
 at n = between n n
 
--- what the paper gives of a study that opens: its paths, and bounds for each path, for the classes from 0 on, and for each load
+-- what the paper gives of a study that opens: its paths, bounds for each path, for the classes from 0 on and for each load, and the figures
 pub record Results : Type 0 where
   pub paths : List (List ℕ)
-  pub bounds : List Pair
-  pub classes : List Pair
-  pub loads : List Pair
+  pub bounds : List Enclosure
+  pub classes : List Enclosure
+  pub loads : List Enclosure
+  pub figures : FiguresAnswer
 
 -- an example: its bytes, what opening them answers, and what the paper gives of the study
 pub record Example : Type 0 where
@@ -108,9 +112,16 @@ abbrev example : List ℕ → StudyAnswer → Example
 example bytes opening = record { bytes = bytes; opening = opening; results = none }
 
 -- an example with the paths of its study, and the bounds of paths, classes and loads
-abbrev listing : List ℕ → StudyAnswer → List (List ℕ) → List Pair → List Pair → List Pair → Example
-listing bytes opening paths bounds classes loads =
-    record { bytes = bytes; opening = opening; results = some (record { paths = paths; bounds = bounds; classes = classes; loads = loads }) }
+abbrev listing : List ℕ → StudyAnswer → List (List ℕ) → List Enclosure → List Enclosure → List Enclosure → FiguresAnswer → Example
+listing bytes opening paths bounds classes loads figures =
+    record { bytes = bytes; opening = opening; results = some (record { paths = paths; bounds = bounds; classes = classes; loads = loads; figures = figures }) }
+
+-- the figures, and their refusal where there are no customers
+abbrev threeFigures : Enclosure → Enclosure → Caidi → FiguresAnswer
+threeFigures saifi saidi caidi = Figures (record { saifi = saifi; saidi = saidi; caidi = caidi })
+
+abbrev noCustomers : FiguresAnswer
+noCustomers = Refused 19
 
 -- the entry of a path: its marks, and its class
 abbrev path : List ℕ → ℕ → List ℕ
@@ -139,6 +150,7 @@ examples =
     (at 720_000_000 ∷ at 180_000_000 ∷ at 100_000_000 ∷ [])
     (at 720_000_000 ∷ at 280_000_000 ∷ [])
     (at 280_000_000 ∷ [])
+    (threeFigures (at 280_000_000) (at 16_800_000_000) (Bounds (at 60)))
     -- B: two components, lost when both fail
     ∷ listing (2 ∷ 1 ∷ 1
     ∷ 0x02 ∷ 0x55 ∷ 0x43 ∷ 0xDE ∷ 0x13
@@ -150,6 +162,7 @@ examples =
     (at 666_666_667 ∷ between 222_222_222 222_222_223 ∷ between 111_111_110 111_111_111 ∷ [])
     (between 888_888_889 888_888_890 ∷ between 111_111_110 111_111_111 ∷ [])
     (between 111_111_110 111_111_111 ∷ [])
+    noCustomers
     -- C: a load without a gate
     ∷ listing (1 ∷ 1 ∷ 1 ∷ 0x00 ∷ 0x02 ∷ 1 ∷ 0 ∷ 2 ∷ 0x00 ∷ [])
     (opens (twoStates 0 ∷ []) (failed0 ∷ []) (lostBy never 0 0 ∷ []))
@@ -157,6 +170,7 @@ examples =
     (at one ∷ [])
     (at one ∷ [])
     (at 0 ∷ [])
+    noCustomers
     -- D: a full mask
     ∷ listing (1 ∷ 1 ∷ 1 ∷ 0x00 ∷ 0x02 ∷ 1 ∷ 0 ∷ 3 ∷ 0x01 ∷ 0 ∷ [])
     (opens (twoStates 0 ∷ []) (votes 1 (test 0 3 ∷ []) ∷ []) (lostBy 0 0 0 ∷ []))
@@ -164,6 +178,7 @@ examples =
     (at one ∷ [])
     (at 0 ∷ at one ∷ [])
     (at one ∷ [])
+    noCustomers
     -- E: three components, lost when the first and the last fail
     ∷ listing (3 ∷ 1 ∷ 1 ∷ 0x00 ∷ 0x00 ∷ 0x00 ∷ 0x03 ∷ 2 ∷ 2 ∷ 0 ∷ 2 ∷ 2 ∷ 2 ∷ 0x01 ∷ 0 ∷ [])
     (opens (twoStates 0 ∷ twoStates 0 ∷ twoStates 0 ∷ []) (votes 2 (test 0 2 ∷ test 2 2 ∷ []) ∷ []) (lostBy 0 0 0 ∷ []))
@@ -171,6 +186,7 @@ examples =
     (at one ∷ at 0 ∷ at 0 ∷ [])
     (at one ∷ at 0 ∷ [])
     (at 0 ∷ [])
+    noCustomers
     -- F: six components of four states, and a seventh of two
     ∷ example (6 ∷ 1 ∷ 1
     ∷ 0x01 ∷ 4 ∷ 0x01 ∷ 4 ∷ 0x01 ∷ 4 ∷ 0x01 ∷ 4 ∷ 0x01 ∷ 4 ∷ 0x01 ∷ 4
@@ -202,6 +218,7 @@ examples =
     (at one ∷ at 0 ∷ [])
     (at one ∷ at 0 ∷ [])
     (at 0 ∷ [])
+    noCustomers
     -- K: state 1 at 0, and a load of one customer that is lost in it
     ∷ listing (1 ∷ 1 ∷ 1 ∷ 0x00 ∷ 0x02 ∷ 1 ∷ 0 ∷ 2 ∷ 0x03 ∷ 0 ∷ 1 ∷ 0 ∷ 0 ∷ 0 ∷ [])
     (opens (twoStates 0 ∷ []) (failed0 ∷ []) (lostBy 0 1 0 ∷ []))
@@ -209,21 +226,24 @@ examples =
     (at one ∷ at 0 ∷ [])
     (at one ∷ at 0 ∷ [])
     (at 0 ∷ [])
+    (threeFigures (at 0) (at 0) NotStated)
     ∷ []
 
 -- ---- the claim
 
 -- the bounds of a set of classes
-abbrev boundsOf : Study → (ℕ → Bool) → Pair
+abbrev boundsOf : Study → (ℕ → Bool) → Enclosure
 boundsOf t keep = between (lowerOf t keep) (upperOf t keep)
 
 -- what the paper gives of a study is true of it
 pub record ResultsTrue (t : Study) (r : Results) : Type 0 where
   pub paths : pathList t ≡ r .paths
-  pub lower : lowerBounds t ≡ map (λ (p : Pair). p .lower) (r .bounds)
-  pub upper : upperBounds t ≡ map (λ (p : Pair). p .upper) (r .bounds)
+  pub lower : lowerBounds t ≡ map (λ (p : Enclosure). p .lower) (r .bounds)
+  pub upper : upperBounds t ≡ map (λ (p : Enclosure). p .upper) (r .bounds)
   pub classes : tabulate (λ (c : ℕ). boundsOf t (λ (class : ℕ). eqb class c)) (length (r .classes)) ≡ r .classes
   pub loads : tabulate (λ (j : ℕ). boundsOf t (λ (class : ℕ). bit class j)) (t .loads) ≡ r .loads
+  -- what the call answers once the study is found sound
+  pub figures : figuresBy (customersFault (customersOf t)) (studyFigures t) ≡ r .figures
 
 abbrev pub ResultsHold : Study → Option Results → Type 0
 ResultsHold t none = Unit {0}
