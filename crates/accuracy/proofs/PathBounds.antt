@@ -22,7 +22,7 @@ use Rattle.study.specs.Zero.{zeroComponent}
 use Rattle.probability.specs.Bounds.{factored, pathBound}
 use Rattle.probability.specs.Chances.{chance, chanceTable, chanceAt}
 use Rattle.probability.proofs.TableChance.{table-chance}
-use Rattle.accuracy.specs.Accuracy.{Chanced, settledCount, PathWithin, PathsAtMostOne}
+use Rattle.accuracy.specs.Accuracy.{Chanced, settledCount, PathWithin}
 use Rattle.accuracy.proofs.Chanced.{chance-most}
 use Rattle.accuracy.proofs.Factors.{factor, factors, exact-fitting}
 use Rattle.accuracy.proofs.Marks.{Marked, paths-marked}
@@ -97,7 +97,3 @@ path-within counts block components b chanced i h =
     let entry = getD (paths counts block) i [] in
     let marked = paths-marked counts block b i h in
     rw (exact-fitting counts components entry chanced marked) (path-bounded counts components entry chanced marked (length counts) (omega arith) .within)
-
-pub paths-at-most-one : PathsAtMostOne
-paths-at-most-one counts block components b chanced i h =
-    path-bounded counts components (getD (paths counts block) i []) chanced (paths-marked counts block b i h) (length counts) (omega arith) .most

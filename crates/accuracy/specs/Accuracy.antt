@@ -61,10 +61,3 @@ TotalWithin =
     (totalDistance (length counts) keep (paths counts block))
     (exact components counts (λ (x : List ℕ). keep (classAt counts block x)))
     (one ^ length counts)
-
--- No bound of a path is above one.
-abbrev pub PathsAtMostOne : Type 0
-PathsAtMostOne =
-    (counts block : List ℕ) (components : List Component) → Block counts block → Chanced counts components
-    → (i : ℕ) → i < length (paths counts block)
-    → pathBound up (chanceTable components) (length counts) (getD (paths counts block) i []) ≤ one

@@ -1,7 +1,7 @@
--- Bounds that enclose exact chances are ordered, each lower one at most its upper one; and what follows where they are.
+-- What follows where each lower bound is at most its upper one.
 use Prim.Native.Nat.{ℕ, _≤_}
 use mathlib.Core.List.{List}
-use native.Mathlib.Nat.{mul-le-mul-right, le-trans, le-of-mul-le-mul-right}
+use native.Mathlib.Nat.{mul-le-mul-right}
 use native.Mathlib.Omega.{arith}
 use lib.ListN.{getD}
 use Rattle.lists.proofs.SumBelow.{sum-most}
@@ -9,11 +9,6 @@ use Rattle.study.specs.declared.Load.{Load}
 use Rattle.study.specs.Zero.{zeroLoad}
 use Rattle.indices.specs.Figures.{lossSum}
 use Rattle.indices.specs.Reading.{Losses, Ordered}
-use Rattle.indices.specs.Enclosed.{LossesEnclosed}
-
-pub enclosed-ordered : {lower upper : List ℕ} {x : ℕ → ℕ} {w n : ℕ} → LossesEnclosed lower upper x w n → Ordered lower upper n
-enclosed-ordered enclosed =
-    record { each = λ j h. le-of-mul-le-mul-right (le-trans (enclosed .below j h) (enclosed .above j h)) (enclosed .whole) }
 
 module _ {lower upper : List ℕ} {n : ℕ} (ordered : Ordered lower upper n) where
   -- the lower bounds are at most one, as the upper ones are
