@@ -26,10 +26,10 @@ use Rattle.study.specs.declared.Study.{Study}
 use Rattle.study.specs.Joint.{stateCounts}
 use Rattle.soundness.specs.Sound.{Sound}
 use Rattle.fault_tree.specs.Classes.{classOf, classes}
-use Rattle.planning.specs.Listing.{pathList}
-use Rattle.planning.specs.Bounds.{chancesOf, componentsOf, lowerOf, upperOf}
-use Rattle.planning.proofs.Chances.{study-chanced}
-use Rattle.planning.proofs.Listed.{study-block}
+use Rattle.evaluation.specs.Listing.{pathList}
+use Rattle.evaluation.specs.Bounds.{chancesOf, componentsOf, lowerOf, upperOf}
+use Rattle.evaluation.proofs.Chances.{study-chanced}
+use Rattle.evaluation.proofs.Listed.{study-block}
 use Rattle.demands.specs.Demand2.{exactOf, wholeOf, PathsWithin, ClassesWithin, LoadsWithin}
 use Rattle.demands.proofs.Paths.{table-class}
 

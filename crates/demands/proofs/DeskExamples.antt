@@ -23,8 +23,8 @@ use Rattle.probability.specs.Totals.{pathBounds}
 use Rattle.fault_tree.specs.Truth.{trueTests, trueGates, gateTrue, withTruth, gateTruths}
 use Rattle.fault_tree.specs.Classes.{lost, classBy, classOf, classes}
 use Rattle.indices.specs.Figures.{customersSum, lossSum, minutesSum, caidi, figuresOf}
-use Rattle.planning.specs.Figures.{figuresBy}
-use Rattle.planning.specs.Listing.{pathList}
+use Rattle.evaluation.specs.Figures.{figuresBy}
+use Rattle.evaluation.specs.Listing.{pathList}
 use Rattle.demands.specs.DeskExamples.{DeskExamples, padded, votes, opens}
 
 pub desk-examples : DeskExamples

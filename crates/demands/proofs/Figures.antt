@@ -16,11 +16,12 @@ use Rattle.indices.specs.Enclosed.{LossesEnclosed}
 use Rattle.indices.proofs.Enclosed.{saifi-encloses, saidi-encloses, caidi-encloses}
 use Rattle.soundness.specs.Sound.{Sound}
 use Rattle.soundness.proofs.Ranges.{loads-most}
-use Rattle.planning.specs.declared.three_figures.FiguresAnswer.the-variants.{Figures, Refused}
+use Rattle.evaluation.specs.declared.three_figures.FiguresAnswer.the-variants.{Figures, Refused}
 use Rattle.planning.specs.Answers.{figuresRefusal}
-use Rattle.planning.specs.Bounds.{componentsOf, lowerLoads, upperLoads}
-use Rattle.planning.specs.Figures.{studyFigures, figuresFault, figuresBy, figuresGiven}
-use Rattle.planning.proofs.LoadCalls.{lower-at, upper-at}
+use Rattle.evaluation.specs.Bounds.{componentsOf, lowerLoads, upperLoads}
+use Rattle.evaluation.specs.Figures.{studyFigures, figuresBy}
+use Rattle.planning.specs.Figures.{figuresFault, figuresGiven}
+use Rattle.evaluation.proofs.LossOrder.{lower-at, upper-at}
 use Rattle.demands.specs.Demand1.{FiguresRefused}
 use Rattle.demands.specs.Demand2.{exactLost, wholeOf, FiguresEnclose}
 use Rattle.demands.proofs.Bounds.{loads-within}

@@ -9,10 +9,11 @@ use lib.ListN.{length, getD}
 use borrow.Author.Tests.{eqb-true}
 use Rattle.lists.specs.Rows.{put, joined}
 use Rattle.lists.proofs.Fronts.{put-behind}
-use Rattle.planning.specs.declared.listing.Listing.the-variants.{Listed, Refused}
+use Rattle.evaluation.specs.declared.listing.Listing.the-variants.{Listed, Refused}
 use Rattle.planning.specs.Answers.{listRefusal}
-use Rattle.planning.specs.Listing.{pathList, listFault, listed, written, pathsListed, bufferListed}
-use Rattle.planning.proofs.Listed.{written-refused}
+use Rattle.evaluation.specs.Listing.{pathList, listed, written}
+use Rattle.planning.specs.Listing.{listFault, pathsListed, bufferListed}
+use Rattle.evaluation.proofs.Listed.{written-refused}
 use Rattle.demands.specs.Demand1.{ListRefused}
 
 answered : (breach : ℕ) (entries : List (List ℕ)) → listRefusal (listed breach entries) ≡ breach

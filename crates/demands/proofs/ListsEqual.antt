@@ -24,11 +24,12 @@ use Rattle.soundness.specs.Sound.{Sound}
 use Rattle.soundness.proofs.Checked.{no-unsound}
 use Rattle.fault_tree.specs.Classes.{classOf, classes}
 use Rattle.fault_tree.proofs.Tables.{classes-long, class-at}
-use Rattle.planning.specs.declared.listing.Listing.the-variants.{Listed}
+use Rattle.evaluation.specs.declared.listing.Listing.the-variants.{Listed}
 use Rattle.planning.specs.Answers.{listRefusal}
-use Rattle.planning.specs.Listing.{pathList, listFault, pathsListed, bufferListed}
-use Rattle.planning.proofs.Paged.{told}
-use Rattle.planning.proofs.Listed.{study-block, list-need, listed-done, written-done}
+use Rattle.evaluation.specs.Listing.{pathList}
+use Rattle.planning.specs.Listing.{listFault, pathsListed, bufferListed}
+use Rattle.evaluation.proofs.Paged.{told}
+use Rattle.evaluation.proofs.Listed.{study-block, list-need, listed-done, written-done}
 use Rattle.demands.specs.Demand3.{LoseAlike, entryBytes, BothListed, ListsEqual, ListsEqualIff}
 use Rattle.demands.proofs.Listing.{list-refused}
 

@@ -14,8 +14,8 @@ use Rattle.study.specs.declared.Study.{Study}
 use Rattle.study.specs.Joint.{stateCounts}
 use Rattle.fault_tree.specs.Classes.{classOf, classes}
 use Rattle.fault_tree.proofs.Tables.{class-at}
-use Rattle.planning.specs.Listing.{pathList}
-use Rattle.planning.proofs.Listed.{study-block}
+use Rattle.evaluation.specs.Listing.{pathList}
+use Rattle.evaluation.proofs.Listed.{study-block}
 use Rattle.demands.specs.Demand3.{OnePathEach, PathsAscend, BlankExactly}
 
 -- the class that the table of a study has for a joint state

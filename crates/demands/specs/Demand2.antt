@@ -21,9 +21,9 @@ use Rattle.indices.specs.Enclosed.{SaifiEncloses, SaidiEncloses, CaidiEncloses}
 use Rattle.soundness.specs.Sound.{Sound}
 use Rattle.fault_tree.specs.Truth.{gateTrue, gateTruths}
 use Rattle.fault_tree.specs.Classes.{classOf}
-use Rattle.planning.specs.Listing.{pathList}
-use Rattle.planning.specs.Bounds.{componentsOf, lowerBounds, upperBounds, lowerOf, upperOf, lowerClasses, upperClasses}
-use Rattle.planning.specs.Figures.{customersOf, studyFigures}
+use Rattle.evaluation.specs.Listing.{pathList}
+use Rattle.evaluation.specs.Bounds.{componentsOf, lowerBounds, upperBounds, lowerOf, upperOf, lowerClasses, upperClasses}
+use Rattle.evaluation.specs.Figures.{customersOf, studyFigures}
 
 -- gate i is true in joint state x
 abbrev pub isTrue : Study → List ℕ → ℕ → Bool

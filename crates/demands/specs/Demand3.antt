@@ -12,8 +12,9 @@ use Rattle.study.specs.declared.Study.{Study}
 use Rattle.study.specs.Joint.{stateCounts}
 use Rattle.soundness.specs.Sound.{Sound}
 use Rattle.fault_tree.specs.Classes.{classOf}
-use Rattle.planning.specs.Listing.{pathList, pathsListed, bufferListed}
-use Rattle.planning.specs.declared.listing.Listing.the-variants.{Listed}
+use Rattle.evaluation.specs.Listing.{pathList}
+use Rattle.planning.specs.Listing.{pathsListed, bufferListed}
+use Rattle.evaluation.specs.declared.listing.Listing.the-variants.{Listed}
 
 -- "loses": bit j of the joint state's class stands
 abbrev pub loses : Study → List ℕ → ℕ → Bool

@@ -23,11 +23,11 @@ use Rattle.opening.specs.Opening.{opened, refusedOpening}
 use Rattle.indices.specs.declared.figures.Caidi.{Caidi}
 use Rattle.indices.specs.declared.figures.Caidi.the-variants.{Bounds, NotStated}
 use Rattle.indices.specs.declared.figures.Enclosure.{Enclosure}
-use Rattle.planning.specs.declared.three_figures.FiguresAnswer.{FiguresAnswer}
-use Rattle.planning.specs.declared.three_figures.FiguresAnswer.the-variants.{Figures, Refused}
-use Rattle.planning.specs.Figures.{customersOf, studyFigures, figuresBy}
-use Rattle.planning.specs.Listing.{pathList}
-use Rattle.planning.specs.Bounds.{lowerBounds, upperBounds, lowerOf, upperOf}
+use Rattle.evaluation.specs.declared.three_figures.FiguresAnswer.{FiguresAnswer}
+use Rattle.evaluation.specs.declared.three_figures.FiguresAnswer.the-variants.{Figures, Refused}
+use Rattle.evaluation.specs.Figures.{customersOf, studyFigures, figuresBy}
+use Rattle.evaluation.specs.Listing.{pathList}
+use Rattle.evaluation.specs.Bounds.{lowerBounds, upperBounds, lowerOf, upperOf}
 use Rattle.paths.specs.Paths.{blankMark}
 
 -- ---- studies in few words

@@ -1,24 +1,14 @@
--- What the call for the figures answers, where a breach stands and where none does; and what a sound study with customers tells.
-use Prim.Native.Nat.{ℕ, _<_}
-use mathlib.Core.Path.{_≡_, refl, sym, ap, _∙_}
-use mathlib.Core.List.{List}
-use native.Mathlib.Nat.{pos-of-ne-zero}
-use lib.Dec.{ltb, eqb}
-use borrow.Author.Tests.{eq-eqb, ne-eqb, ltb-false, eqb-false}
+-- Which breach the call for the figures meets first.
+use Prim.Native.Nat.{ℕ}
+use mathlib.Core.Path.{_≡_, refl, sym}
+use borrow.Author.Tests.{eq-eqb, ne-eqb}
 use Rattle.rules.specs.Breach.{first, firstBreach}
-use Rattle.rules.specs.Limits.{mostCustomers, mostMinutes}
 use Rattle.rules.specs.Table.{unsoundFault, customersFault}
-use Rattle.rules.proofs.Kept.{refuse-kept, first-last}
+use Rattle.rules.proofs.Kept.{first-last}
 use Rattle.study.specs.declared.Study.{Study}
-use Rattle.study.specs.Places.{loadAt}
-use Rattle.indices.specs.declared.figures.Figures.{Figures as Triple}
-use Rattle.indices.specs.Figures.{figuresOf}
-use Rattle.indices.specs.Reading.{Sizes}
 use Rattle.soundness.specs.Check.{sound}
-use Rattle.soundness.specs.Sound.{Sound}
-use Rattle.planning.specs.declared.three_figures.FiguresAnswer.the-variants.{Figures, Refused}
-use Rattle.planning.specs.Bounds.{lowerLoads, upperLoads}
-use Rattle.planning.specs.Figures.{customersOf, studyFigures, figuresFault, figuresBy}
+use Rattle.evaluation.specs.Figures.{customersOf}
+use Rattle.planning.specs.Figures.{figuresFault}
 
 -- 16 comes first
 pub figures-unsound : (t : Study) (fault : ℕ) → fault ≡ unsoundFault (sound t) → (fault ≡ 0 → ⊥) → fault ≡ figuresFault t
@@ -29,27 +19,3 @@ figures-unsound t fault e some = rw (sym e, ne-eqb fault 0 some) refl
 pub figures-sound : (t : Study) → unsoundFault (sound t) ≡ 0 → figuresFault t ≡ customersFault (customersOf t)
 unfolding figuresFault firstBreach first
 figures-sound t none = rw (eq-eqb (unsoundFault (sound t)) 0 none) (first-last (customersFault (customersOf t)))
-
-pub figures-refused : (breach : ℕ) (triple : Triple) → (breach ≡ 0 → ⊥) → Refused breach ≡ figuresBy breach triple
-unfolding figuresBy
-figures-refused breach triple some = rw (ne-eqb breach 0 some) refl
-
--- as the code finds the figures
-pub figures-by : (t : Study) (lower upper : List ℕ) (triple : Triple) → lower ≡ lowerLoads t → upper ≡ upperLoads t
-    → triple ≡ figuresOf lower upper (t .load) (t .loads) → customersFault (customersOf t) ≡ 0
-    → Figures triple ≡ figuresBy (customersFault (customersOf t)) (studyFigures t)
-unfolding figuresBy
-figures-by t lower upper triple e f g none =
-    let same = g ∙ (λ i. figuresOf (e i) (f i) (t .load) (t .loads)) in
-    rw (eq-eqb (customersFault (customersOf t)) 0 none) (ap Figures same)
-
--- the loads of a sound study are within their limits
-pub study-sizes : (t : Study) → Sound t → Sizes (t .load) (t .loads)
-study-sizes t s =
-    record {
-      customers = λ j h. ltb-false mostCustomers (loadAt t j .customers) (refuse-kept 13 (ltb mostCustomers (loadAt t j .customers)) (s .load j h .customers));
-      minutes = λ j h. ltb-false mostMinutes (loadAt t j .minutes) (refuse-kept 13 (ltb mostMinutes (loadAt t j .minutes)) (s .load j h .minutes));
-    }
-
-pub some-customers : (sum : ℕ) → customersFault sum ≡ 0 → 0 < sum
-some-customers sum none = pos-of-ne-zero (eqb-false sum 0 (refuse-kept 18 (eqb sum 0) none))

@@ -1,20 +1,15 @@
 -- What the call for a load answers, where a breach stands and where none does.
-use Prim.Native.Nat.{ℕ, _<_}
-use mathlib.Core.Path.{_≡_, refl, ap, _∙_}
-use mathlib.Core.List.{List}
-use lib.ListN.{getD}
+use Prim.Native.Nat.{ℕ}
+use mathlib.Core.Path.{_≡_, refl}
 use borrow.Author.Tests.{eq-eqb, ne-eqb}
-use Rattle.lists.specs.Bits.{bit}
-use Rattle.lists.proofs.Tabulated.{getD-tabulate}
 use Rattle.rules.specs.Breach.{first, firstBreach}
-use Rattle.rules.specs.Limits.{mostLoads}
 use Rattle.rules.specs.Table.{unsoundFault, itemFault}
 use Rattle.rules.proofs.Kept.{list-kept, first-last}
 use Rattle.study.specs.declared.Study.{Study}
 use Rattle.soundness.specs.Check.{sound}
 use Rattle.indices.specs.declared.figures.Enclosure.{Enclosure}
 use Rattle.planning.specs.declared.loads.LoadBounded.the-variants.{Bounds, Refused}
-use Rattle.planning.specs.Bounds.{lowerOf, upperOf, lowerLoads, upperLoads, lossFault, lossOf}
+use Rattle.planning.specs.Bounds.{lossFault, lossOf}
 use Rattle.planning.proofs.Edited.{Present, present}
 
 -- as the code finds the breach
@@ -36,12 +31,3 @@ loss-refused breach pair some = rw (ne-eqb breach 0 some) refl
 pub loss-done : (breach : ℕ) (pair : Enclosure) → breach ≡ 0 → Bounds pair ≡ lossOf breach pair
 unfolding lossOf
 loss-done breach pair none = rw (eq-eqb breach 0 none) refl
-
--- the pair of a load among those of all
-pub lower-at : (t : Study) (l : List ℕ) (j : ℕ) → l ≡ lowerLoads t → j < mostLoads → getD l j 0 ≡ lowerOf t (λ (class : ℕ). bit class j)
-lower-at t l j e h =
-    ap (λ (x : List ℕ). getD x j 0) e ∙ getD-tabulate (λ (j : ℕ). lowerOf t (λ (class : ℕ). bit class j)) mostLoads j 0 h
-
-pub upper-at : (t : Study) (l : List ℕ) (j : ℕ) → l ≡ upperLoads t → j < mostLoads → getD l j 0 ≡ upperOf t (λ (class : ℕ). bit class j)
-upper-at t l j e h =
-    ap (λ (x : List ℕ). getD x j 0) e ∙ getD-tabulate (λ (j : ℕ). upperOf t (λ (class : ℕ). bit class j)) mostLoads j 0 h

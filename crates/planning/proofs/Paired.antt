@@ -1,39 +1,21 @@
--- What calls with a pair of slices answer and leave in them, where a breach stands and where none does; and what a sound study's chances keep.
-use Prim.Native.Nat.{ℕ, _*_, _≤_}
-use mathlib.Core.Path.{_≡_, refl, sym, ap, _∙_}
+-- What calls with a pair of slices answer and leave in them, where a breach stands and where none does.
+use Prim.Native.Nat.{ℕ, _≤_}
+use mathlib.Core.Path.{_≡_, refl, sym}
 use mathlib.Core.List.{List, [], _∷_}
-use native.Mathlib.Omega.{arith}
-use lib.Dec.{eqb}
 use lib.ListN.{length}
 use borrow.Author.Tests.{eq-eqb, ne-eqb}
-use Rattle.lists.specs.Bits.{bit}
 use Rattle.lists.specs.Rows.{put}
-use Rattle.lists.specs.Tabulate.{tabulate}
-use Rattle.units.specs.One.{one}
-use Rattle.units.specs.Rounding.{down, up}
 use Rattle.rules.specs.Breach.{first, firstBreach}
-use Rattle.rules.specs.Limits.{mostComponents, mostStates, mostJointStates, mostLoads}
 use Rattle.rules.specs.Table.{unsoundFault, roomFault}
 use Rattle.rules.proofs.Kept.{list-kept, first-last}
-use Rattle.probability.specs.Bounds.{lowerTotal, upperTotal}
-use Rattle.probability.specs.Chances.{chanceTable}
-use Rattle.probability.specs.Totals.{classPlaces, sumsMost, entriesOf, classTotals, loadTotals}
-use Rattle.probability.specs.Reading.{AtMostOne}
-use Rattle.probability.proofs.TableChance.{chances-most}
-use Rattle.probability.proofs.Most.{lower-classes, upper-classes, lower-loads, upper-loads}
-use Rattle.probability.proofs.Charted.{table-long}
-use Rattle.study.specs.Joint.{stateCounts}
 use Rattle.study.specs.declared.Outcome.the-variants.{Done, Refused as NotDone}
 use Rattle.study.specs.declared.Study.{Study}
 use Rattle.soundness.specs.Check.{sound}
 use Rattle.soundness.specs.Sound.{Sound}
 use Rattle.soundness.proofs.Checked.{no-unsound}
-use Rattle.soundness.proofs.Ranges.{counts-long, chances-sum}
 use Rattle.planning.specs.declared.bounds.PathsBounded.the-variants.{Bounded, Refused}
-use Rattle.planning.specs.Bounds.{lowerClasses, upperClasses, lowerLoads, upperLoads, pairRoom, pairFault, filled, bounded, done}
-use Rattle.planning.specs.Listing.{pathList}
-use Rattle.planning.specs.Page.{Paged}
-use Rattle.planning.proofs.Listed.{room-kept}
+use Rattle.planning.specs.Bounds.{pairRoom, pairFault, filled, bounded, done}
+use Rattle.evaluation.proofs.Listed.{room-kept}
 
 -- ---- by the breach
 
@@ -99,60 +81,6 @@ unfolding pairFault
 pair-taken t need lower upper none =
     let one-by-one = list-kept _ _ none in
     record { is-sound = no-unsound t (one-by-one .left); room = pair-room need lower upper (list-kept _ _ (one-by-one .right) .left) }
-
--- ---- the chances of a sound study
-
-module _ (t : Study) (s : Sound t) (table : List ℕ) (e : table ≡ chanceTable (t .component)) (places : length table ≡ mostComponents * mostStates) where
-  -- the struct has twelve component places
-  pub study-twelve : length (t .component) ≡ mostComponents
-  study-twelve = omega (arith, ap length e, table-long (t .component), places)
-
-  pub study-chances : AtMostOne table
-  study-chances = record { each = λ k. rw e (chances-most (t .component) (λ i h. chances-sum t s i (omega (arith, study-twelve))) k) }
-
-  pub study-components : length (stateCounts t) ≡ t .components
-  study-components = counts-long t s study-twelve
-
--- ---- the totals of a study whose list is on a page
-
-module _ (t : Study) (paths : ℕ) (page : List ℕ) (paged : Paged t paths page) (table : List ℕ) (e : table ≡ chanceTable (t .component))
-    (places : length table ≡ mostComponents * mostStates) where
-  components : length (stateCounts t) ≡ t .components
-  components = study-components t (paged .is-sound) table e places
-
-  chances : AtMostOne table
-  chances = study-chances t (paged .is-sound) table e places
-
-  few : length (pathList t) ≤ mostJointStates
-  few = omega (arith, paged .number, paged .list .few)
-
-  -- what is worked out from the page is worked out from the list
-  by-list : (f : ℕ → List (List ℕ) → List ℕ) → f (t .components) (entriesOf (t .components) paths page) ≡ f (length (stateCounts t)) (pathList t)
-  by-list f = ap (λ (n : ℕ). f n (entriesOf n paths page)) (sym components) ∙ ap (f (length (stateCounts t))) (paged .entries)
-
-  pub study-lower : classTotals down sumsMost table (t .components) (entriesOf (t .components) paths page) ≡ lowerClasses t
-  study-lower =
-      by-list (classTotals down sumsMost table)
-      ∙ lower-classes table chances (length (stateCounts t)) (pathList t) few
-      ∙ ap (λ (l : List ℕ). tabulate (λ (c : ℕ). lowerTotal l (length (stateCounts t)) (λ (class : ℕ). eqb class c) (pathList t)) classPlaces) e
-
-  pub study-upper : classTotals up one table (t .components) (entriesOf (t .components) paths page) ≡ upperClasses t
-  study-upper =
-      by-list (classTotals up one table)
-      ∙ upper-classes table (length (stateCounts t)) (pathList t)
-      ∙ ap (λ (l : List ℕ). tabulate (λ (c : ℕ). upperTotal l (length (stateCounts t)) (λ (class : ℕ). eqb class c) (pathList t)) classPlaces) e
-
-  pub study-lower-loads : loadTotals down sumsMost table (t .components) (entriesOf (t .components) paths page) ≡ lowerLoads t
-  study-lower-loads =
-      by-list (loadTotals down sumsMost table)
-      ∙ lower-loads table chances (length (stateCounts t)) (pathList t) few
-      ∙ ap (λ (l : List ℕ). tabulate (λ (j : ℕ). lowerTotal l (length (stateCounts t)) (λ (class : ℕ). bit class j) (pathList t)) mostLoads) e
-
-  pub study-upper-loads : loadTotals up one table (t .components) (entriesOf (t .components) paths page) ≡ upperLoads t
-  study-upper-loads =
-      by-list (loadTotals up one table)
-      ∙ upper-loads table (length (stateCounts t)) (pathList t)
-      ∙ ap (λ (l : List ℕ). tabulate (λ (j : ℕ). upperTotal l (length (stateCounts t)) (λ (class : ℕ). bit class j) (pathList t)) mostLoads) e
 
 -- ---- the answer of the call for classes
 

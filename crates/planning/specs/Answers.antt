@@ -2,10 +2,10 @@
 use Prim.Native.Nat.{ℕ}
 use Rattle.study.specs.declared.Outcome.{Outcome}
 use Rattle.study.specs.declared.Outcome.the-variants.{Done, Refused}
-use Rattle.planning.specs.declared.listing.Listing.{Listing}
-use Rattle.planning.specs.declared.listing.Listing.the-variants.{Listed, Refused as NotListed}
-use Rattle.planning.specs.declared.three_figures.FiguresAnswer.{FiguresAnswer}
-use Rattle.planning.specs.declared.three_figures.FiguresAnswer.the-variants.{Figures, Refused as NoFigures}
+use Rattle.evaluation.specs.declared.listing.Listing.{Listing}
+use Rattle.evaluation.specs.declared.listing.Listing.the-variants.{Listed, Refused as NotListed}
+use Rattle.evaluation.specs.declared.three_figures.FiguresAnswer.{FiguresAnswer}
+use Rattle.evaluation.specs.declared.three_figures.FiguresAnswer.the-variants.{Figures, Refused as NoFigures}
 
 abbrev pub refusalOf : Outcome → ℕ
 refusalOf Done = 0

@@ -3,4 +3,3 @@ pub mod Bounds
 pub mod Edits
 pub mod Figures
 pub mod Listing
-pub mod Page

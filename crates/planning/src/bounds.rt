@@ -1,41 +1,22 @@
 // Bounds for the paths of a study, into two lent slices.
-use crate::page::blank_page;
-use crate::page::list_page;
 use crate::pairs::pair_fault;
-use probability::chance_table;
+use evaluation::blank_page;
+use evaluation::list_page;
+use evaluation::write_paths;
 use rules::unsound_fault;
 use soundness::is_sound;
 use study::Study;
-use units::DOWN;
-use units::UP;
-ghost use Prim.Native.Nat.{_≤_};
 ghost use mathlib.Core.Path.{_≡_};
 ghost use lib.ListN.{length};
-ghost use Rattle.lists.specs.Rows.{put};
 ghost use Rattle.soundness.specs.Sound.{Sound};
-ghost use Rattle.planning.specs.Bounds.{lowerBounds, upperBounds, pairRoom, filled, bounded, pathsFault, pathsBounded};
-ghost use Rattle.planning.specs.Listing.{pathList};
-ghost use Rattle.planning.specs.Page.{Paged};
+ghost use Rattle.evaluation.specs.Bounds.{lowerBounds, upperBounds};
+ghost use Rattle.evaluation.specs.Listing.{pathList};
+ghost use Rattle.planning.specs.Bounds.{pairRoom, filled, bounded, pathsFault, pathsBounded};
 
 // What a call for the bounds of all paths answers: the number of paths, or the number of the refusal table by which it was refused.
 pub enum PathsBounded {
     Bounded(u32),
     Refused(u8),
-}
-
-// Writes the bounds of all paths of a study whose list is on a page.
-fn write_paths(t: Study, page: &[u8], paths: u32, lower: &mut [u64], upper: &mut [u64])
-    requires { ⌜ Paged t paths (now page) ⌝ }
-    requires { ⌜ paths ≤ length (now lower) ⌝ }
-    requires { ⌜ paths ≤ length (now upper) ⌝ }
-    ensures { λ r. ⌜ now (lower .exit) ≡ put (now (lower .entry)) 0 (lowerBounds t) ⌝ }
-    ensures { λ r. ⌜ now (upper .exit) ≡ put (now (upper .entry)) 0 (upperBounds t) ⌝ }
-{
-    let component = t.component;
-    let n = t.components as usize;
-    let chances = chance_table(component);
-    probability::path_bounds(DOWN, &chances, n, page, paths as usize, lower);
-    probability::path_bounds(UP, &chances, n, page, paths as usize, upper);
 }
 
 // Bounds for the paths of a sound study. Refused by 18.

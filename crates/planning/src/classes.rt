@@ -1,44 +1,24 @@
 // Bounds for the classes of a study, added up in two lent slices.
-use crate::page::blank_page;
-use crate::page::list_page;
 use crate::pairs::pair_fault;
-use probability::SUMS_MOST;
-use probability::chance_table;
-use probability::class_totals;
+use evaluation::blank_page;
+use evaluation::list_page;
+use evaluation::write_classes;
 use rules::first;
 use rules::unsound_fault;
 use soundness::is_sound;
 use study::Outcome;
 use study::Study;
-use units::DOWN;
-use units::ONE;
-use units::UP;
 ghost use Prim.Native.Nat.{_≤_};
 ghost use mathlib.Core.Path.{_≡_};
 ghost use lib.ListN.{length};
 ghost use Rattle.lists.specs.Rows.{put};
 ghost use Rattle.probability.specs.Totals.{classPlaces};
 ghost use Rattle.soundness.specs.Sound.{Sound};
-ghost use Rattle.planning.specs.Bounds.{lowerClasses, upperClasses, filled, classesFault, classesBounded};
-ghost use Rattle.planning.specs.Page.{Paged};
+ghost use Rattle.evaluation.specs.Bounds.{lowerClasses, upperClasses};
+ghost use Rattle.planning.specs.Bounds.{filled, classesFault, classesBounded};
 
 // The places that class bounds need: a class is a byte.
 const CLASS_PLACES: usize = 256;
-
-// Writes the bounds of all classes of a study whose list is on a page.
-fn write_classes(t: Study, page: &[u8], paths: u32, lower: &mut [u64], upper: &mut [u64])
-    requires { ⌜ Paged t paths (now page) ⌝ }
-    requires { ⌜ classPlaces ≤ length (now lower) ⌝ }
-    requires { ⌜ classPlaces ≤ length (now upper) ⌝ }
-    ensures { λ r. ⌜ now (lower .exit) ≡ put (now (lower .entry)) 0 (lowerClasses t) ⌝ }
-    ensures { λ r. ⌜ now (upper .exit) ≡ put (now (upper .entry)) 0 (upperClasses t) ⌝ }
-{
-    let component = t.component;
-    let n = t.components as usize;
-    let chances = chance_table(component);
-    class_totals(DOWN, SUMS_MOST, &chances, n, page, paths as usize, lower);
-    class_totals(UP, ONE as u64, &chances, n, page, paths as usize, upper);
-}
 
 // Bounds for the classes of a sound study, in slices that have the room.
 fn bound_classes(t: Study, lower: &mut [u64], upper: &mut [u64])

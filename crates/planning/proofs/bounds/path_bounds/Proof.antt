@@ -2,7 +2,7 @@
 use mathlib.Core.Path.{sym, _∙_}
 use lib.ListN.{length}
 use Rattle.soundness.proofs.Checked.{no-unsound}
-use Rattle.planning.specs.Listing.{pathList}
+use Rattle.evaluation.specs.Listing.{pathList}
 use Rattle.planning.specs.Bounds.{pathsFault, pathsBounded}
 use Rattle.planning.proofs.Paired.{pair-unsound, pair-sound, filled-kept, bounded-refused}
 use borrow.Author.Needs.{needs}

@@ -5,7 +5,8 @@ use native.Mathlib.Omega.{arith}
 use Rattle.soundness.proofs.Ranges.{loads-most}
 use Rattle.planning.specs.declared.loads.LoadBounded.the-variants.{Bounds}
 use Rattle.planning.specs.Bounds.{loadBounded}
-use Rattle.planning.proofs.LoadCalls.{loss-is, loss-taken, loss-refused, loss-done, lower-at, upper-at}
+use Rattle.evaluation.proofs.LossOrder.{lower-at, upper-at}
+use Rattle.planning.proofs.LoadCalls.{loss-is, loss-taken, loss-refused, loss-done}
 use borrow.Author.Needs.{needs}
 use Rattle.planning.proofs.loads.load_bounds.Statement.{statement}
 use Rattle.planning.proofs.loads.load_bounds.Tie as tie
@@ -79,7 +80,7 @@ returns-2 c =
     let item = loss-taken (start .args .study) (start .args .load) none in
     let inside : start .args .load < 8 = omega (arith, item .below, loads-most (start .args .study) (item .is-sound)) in
     let losses = c .before .before .losses-of .ensures in
-    (λ i. Bounds (record { lower = lower-at (start .args .study) _ _ (losses .0) inside i; upper = upper-at (start .args .study) _ _ (losses .1 .0) inside i })) ∙ loss-done _ _ none
+    (λ i. Bounds (record { lower = lower-at (start .args .study) _ _ (losses .lowers) inside i; upper = upper-at (start .args .study) _ _ (losses .uppers) inside i })) ∙ loss-done _ _ none
 
 pub load-bounds-spec : {M : Type 1} → statement M
 load-bounds-spec =

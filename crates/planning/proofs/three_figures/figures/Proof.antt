@@ -2,7 +2,8 @@
 use mathlib.Core.Path.{sym, _∙_}
 use Rattle.soundness.proofs.Checked.{no-unsound}
 use Rattle.planning.specs.Figures.{figuresGiven}
-use Rattle.planning.proofs.FigureCalls.{figures-unsound, figures-sound, figures-refused}
+use Rattle.evaluation.proofs.Figured.{figures-refused}
+use Rattle.planning.proofs.FigureCalls.{figures-unsound, figures-sound}
 use borrow.Author.Needs.{needs}
 use Rattle.planning.proofs.three_figures.figures.Statement.{statement}
 use Rattle.planning.proofs.three_figures.figures.Tie as tie
@@ -19,18 +20,23 @@ returns c =
     let unsound = rw (c .before .before .is-sound .ensures) at (c .before .unsound-fault .ensures) in
     rw (← figures-unsound _ _ unsound (c .if1 .taken)) (figures-refused _ _ (c .if1 .taken))
 
-sound-figures-requires : tie.Need-sound-figures-requires
-sound-figures-requires c κs =
+losses-of-requires : tie.Need-losses-of-requires
+losses-of-requires c κs =
     let unsound = rw (c .before .before .is-sound .ensures) at (c .before .unsound-fault .ensures) in
     no-unsound _ (sym unsound ∙ c .if1 .left)
+
+figures-from-requires : tie.Need-figures-from-requires
+figures-from-requires c κs =
+    let unsound = rw (c .before .before .before .is-sound .ensures) at (c .before .before .unsound-fault .ensures) in
+    (no-unsound _ (sym unsound ∙ c .before .if1 .left), c .losses-of .ensures)
 
 returns-2 : tie.Need-returns-2
 unfolding figuresGiven
 returns-2 c =
-    let unsound = rw (c .before .before .before .is-sound .ensures) at (c .before .before .unsound-fault .ensures) in
-    rw (figures-sound (c .before .before .before .before .args .study) (sym unsound ∙ c .before .if1 .left)) (c .sound-figures .ensures)
+    let unsound = rw (c .before .before .before .before .is-sound .ensures) at (c .before .before .before .unsound-fault .ensures) in
+    rw (figures-sound (c .before .before .before .before .before .args .study) (sym unsound ∙ c .before .before .if1 .left)) (c .figures-from .ensures)
 
 pub figures-spec : {M : Type 1} → statement M
 figures-spec =
     tie.close
-    (tie.spec is-sound-requires unsound-fault-requires returns sound-figures-requires returns-2)
+    (tie.spec is-sound-requires unsound-fault-requires returns losses-of-requires figures-from-requires returns-2)

@@ -1,9 +1,9 @@
--- `planning::page::list_page` meets its contract: a page has room for every list, so that the listing is not refused.
+-- `evaluation::page::list_page` meets its contract: a page has room for every list, so that the listing is not refused.
 use mathlib.Core.List.{[]}
-use Rattle.planning.proofs.Paged.{page-listed, page-taken}
+use Rattle.evaluation.proofs.Paged.{page-listed, page-taken}
 use borrow.Author.Needs.{needs}
-use Rattle.planning.proofs.page.list_page.Statement.{statement}
-use Rattle.planning.proofs.page.list_page.Tie as tie
+use Rattle.evaluation.proofs.page.list_page.Statement.{statement}
+use Rattle.evaluation.proofs.page.list_page.Tie as tie
 
 list-sound-requires : tie.Need-list-sound-requires
 list-sound-requires c κs = search needs

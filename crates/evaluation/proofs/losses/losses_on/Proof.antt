@@ -1,14 +1,14 @@
--- `planning::loads::losses_on` meets its contract: the entries on the page are the study's list, sums of lower bounds have no limit, and
+-- `evaluation::losses::losses_on` meets its contract: the entries on the page are the study's list, sums of lower bounds have no limit, and
 -- the bounds enclose exact chances.
 use mathlib.Core.Path.{_≡_, _∙_}
 use native.Mathlib.Omega.{arith}
 use lib.ListN.{length}
 use Rattle.soundness.proofs.Ranges.{chances-sum}
-use Rattle.planning.proofs.LossOrder.{losses-most, losses-ordered}
-use Rattle.planning.proofs.Paired.{study-twelve, study-chances, study-components, study-lower-loads, study-upper-loads}
+use Rattle.evaluation.proofs.LossOrder.{losses-most, losses-ordered}
+use Rattle.evaluation.proofs.Totals.{study-twelve, study-chances, study-components, study-lower-loads, study-upper-loads}
 use borrow.Author.Needs.{needs}
-use Rattle.planning.proofs.loads.losses_on.Statement.{statement}
-use Rattle.planning.proofs.loads.losses_on.Tie as tie
+use Rattle.evaluation.proofs.losses.losses_on.Statement.{statement}
+use Rattle.evaluation.proofs.losses.losses_on.Tie as tie
 
 cast-n : tie.Need-cast-n
 cast-n c = search needs
@@ -58,7 +58,12 @@ returns c =
     let twelve = study-twelve _ (paged .is-sound) _ (table .ensures) places in
     let lower = c .before .before .load-totals .ensures ∙ study-lower-loads _ _ _ paged _ (table .ensures) places in
     let upper = c .load-totals2 .ensures ∙ study-upper-loads _ _ _ paged _ (table .ensures) places in
-    (lower, (upper, (losses-most (start .args .t) _ upper, losses-ordered (start .args .t) (paged .is-sound) twelve _ _ lower upper)))
+    record {
+      lowers = lower;
+      uppers = upper;
+      most = losses-most (start .args .t) _ upper;
+      ordered = losses-ordered (start .args .t) (paged .is-sound) twelve _ _ lower upper;
+    }
 
 pub losses-on-spec : {M : Type 1} → statement M
 losses-on-spec =

@@ -1,12 +1,12 @@
--- `planning::bounds::write_paths` meets its contract: the entries on the page are the study's list.
+-- `evaluation::slices::write_paths` meets its contract: the entries on the page are the study's list.
 use mathlib.Core.Path.{_≡_}
 use native.Mathlib.Omega.{arith}
 use lib.ListN.{length}
 use Rattle.soundness.proofs.Ranges.{chances-sum}
-use Rattle.planning.proofs.Paired.{study-chances, study-components}
+use Rattle.evaluation.proofs.Totals.{study-chances, study-components}
 use borrow.Author.Needs.{needs}
-use Rattle.planning.proofs.bounds.write_paths.Statement.{statement}
-use Rattle.planning.proofs.bounds.write_paths.Tie as tie
+use Rattle.evaluation.proofs.slices.write_paths.Statement.{statement}
+use Rattle.evaluation.proofs.slices.write_paths.Tie as tie
 
 cast-n : tie.Need-cast-n
 cast-n c = search needs

@@ -1,4 +1,4 @@
--- `planning::listing::list_classes` meets its contract: the count of paths gives the exact need, before anything is written.
+-- `evaluation::listing::list_classes` meets its contract: the count of paths gives the exact need, before anything is written.
 use Prim.Native.Nat.{_≤_}
 use mathlib.Core.Path.{_≡_, sym, _∙_}
 use native.Mathlib.Omega.{arith}
@@ -6,10 +6,10 @@ use lib.ListN.{length}
 use Rattle.lists.specs.Rows.{joined}
 use Rattle.rules.specs.Table.{roomFault}
 use Rattle.paths.specs.Paths.{paths}
-use Rattle.planning.proofs.Listed.{list-need, need-most, room-kept, listed-refused, written-refused, listed-done, written-done}
+use Rattle.evaluation.proofs.Listed.{list-need, need-most, room-kept, listed-refused, written-refused, listed-done, written-done}
 use borrow.Author.Needs.{needs}
-use Rattle.planning.proofs.listing.list_classes.Statement.{statement}
-use Rattle.planning.proofs.listing.list_classes.Tie as tie
+use Rattle.evaluation.proofs.listing.list_classes.Statement.{statement}
+use Rattle.evaluation.proofs.listing.list_classes.Tie as tie
 
 count-paths-requires : tie.Need-count-paths-requires
 count-paths-requires c κs = search needs

@@ -1,12 +1,13 @@
 -- The upper bounds for the losses of a sound study's loads are at most one, and no lower bound is above its upper one. What carries the second: both
 -- enclose one exact chance.
-use Prim.Native.Nat.{ℕ, _≤_}
-use mathlib.Core.Path.{_≡_}
+use Prim.Native.Nat.{ℕ, _<_, _≤_}
+use mathlib.Core.Path.{_≡_, ap, _∙_}
 use mathlib.Core.List.{List}
 use native.Mathlib.Nat.{one-le-pow, min-le-left, le-trans, le-of-mul-le-mul-right}
 use native.Mathlib.Omega.{arith}
-use lib.ListN.{length}
+use lib.ListN.{length, getD}
 use Rattle.lists.specs.Bits.{bit}
+use Rattle.lists.proofs.Tabulated.{getD-tabulate}
 use Rattle.units.specs.One.{one}
 use Rattle.units.specs.Rounding.{up}
 use Rattle.rules.specs.Limits.{mostComponents, mostLoads}
@@ -17,11 +18,19 @@ use Rattle.study.specs.Joint.{stateCounts}
 use Rattle.indices.specs.Reading.{Losses, Ordered}
 use Rattle.soundness.specs.Sound.{Sound}
 use Rattle.fault_tree.specs.Classes.{classes}
-use Rattle.planning.specs.Bounds.{chancesOf, componentsOf, lowerOf, upperOf, lowerLoads, upperLoads}
-use Rattle.planning.specs.Listing.{pathList}
-use Rattle.planning.proofs.Chances.{study-chanced}
-use Rattle.planning.proofs.Listed.{study-block}
-use Rattle.planning.proofs.LoadCalls.{lower-at, upper-at}
+use Rattle.evaluation.specs.Bounds.{chancesOf, componentsOf, lowerOf, upperOf, lowerLoads, upperLoads}
+use Rattle.evaluation.specs.Listing.{pathList}
+use Rattle.evaluation.proofs.Chances.{study-chanced}
+use Rattle.evaluation.proofs.Listed.{study-block}
+
+-- the pair of a load among those of all
+pub lower-at : (t : Study) (l : List ℕ) (j : ℕ) → l ≡ lowerLoads t → j < mostLoads → getD l j 0 ≡ lowerOf t (λ (class : ℕ). bit class j)
+lower-at t l j e h =
+    ap (λ (x : List ℕ). getD x j 0) e ∙ getD-tabulate (λ (j : ℕ). lowerOf t (λ (class : ℕ). bit class j)) mostLoads j 0 h
+
+pub upper-at : (t : Study) (l : List ℕ) (j : ℕ) → l ≡ upperLoads t → j < mostLoads → getD l j 0 ≡ upperOf t (λ (class : ℕ). bit class j)
+upper-at t l j e h =
+    ap (λ (x : List ℕ). getD x j 0) e ∙ getD-tabulate (λ (j : ℕ). upperOf t (λ (class : ℕ). bit class j)) mostLoads j 0 h
 
 lower-below : (t : Study) → Sound t → length (t .component) ≡ mostComponents → (j : ℕ)
     → lowerOf t (λ (class : ℕ). bit class j) ≤ upperOf t (λ (class : ℕ). bit class j)

@@ -1,15 +1,15 @@
--- `planning::listing::list_sound` meets its contract: the front of the class table is a block.
+-- `evaluation::listing::list_sound` meets its contract: the front of the class table is a block.
 use mathlib.Core.Path.{_≡_, sym}
 use native.Mathlib.Omega.{arith}
 use lib.ListN.{length}
 use lib.Seq.{length-take-le}
 use Rattle.soundness.proofs.Ranges.{components-most, counts-few, count-most, joint-most}
 use Rattle.fault_tree.proofs.Tables.{classes-long, table-front}
-use Rattle.planning.specs.Listing.{pathList}
-use Rattle.planning.proofs.Listed.{study-block}
+use Rattle.evaluation.specs.Listing.{pathList}
+use Rattle.evaluation.proofs.Listed.{study-block}
 use borrow.Author.Needs.{needs}
-use Rattle.planning.proofs.listing.list_sound.Statement.{statement}
-use Rattle.planning.proofs.listing.list_sound.Tie as tie
+use Rattle.evaluation.proofs.listing.list_sound.Statement.{statement}
+use Rattle.evaluation.proofs.listing.list_sound.Tie as tie
 
 cast-n : tie.Need-cast-n
 cast-n c = search needs

@@ -8,7 +8,7 @@ use Rattle.probability.specs.Totals.{entriesOf}
 use Rattle.study.specs.declared.Study.{Study}
 use Rattle.study.specs.Joint.{stateCounts}
 use Rattle.soundness.specs.Sound.{Sound}
-use Rattle.planning.specs.Listing.{pathList}
+use Rattle.evaluation.specs.Listing.{pathList}
 
 -- room for 4,096 entries of 13 bytes
 abbrev pub pageBytes : ℕ

@@ -1,13 +1,13 @@
--- `planning::classes::write_classes` meets its contract: the entries on the page are the study's list, and sums of lower bounds have no limit.
+-- `evaluation::slices::write_classes` meets its contract: the entries on the page are the study's list, and sums of lower bounds have no limit.
 use mathlib.Core.Path.{_≡_, ap, _∙_}
 use native.Mathlib.Omega.{arith}
 use lib.ListN.{length}
 use Rattle.lists.specs.Rows.{put}
 use Rattle.soundness.proofs.Ranges.{chances-sum}
-use Rattle.planning.proofs.Paired.{study-chances, study-components, study-lower, study-upper}
+use Rattle.evaluation.proofs.Totals.{study-chances, study-components, study-lower, study-upper}
 use borrow.Author.Needs.{needs}
-use Rattle.planning.proofs.classes.write_classes.Statement.{statement}
-use Rattle.planning.proofs.classes.write_classes.Tie as tie
+use Rattle.evaluation.proofs.slices.write_classes.Statement.{statement}
+use Rattle.evaluation.proofs.slices.write_classes.Tie as tie
 
 cast-n : tie.Need-cast-n
 cast-n c = search needs

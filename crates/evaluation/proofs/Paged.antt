@@ -25,11 +25,11 @@ use Rattle.soundness.specs.Sound.{Sound}
 use Rattle.soundness.proofs.Ranges.{components-most, counts-few, joint-most}
 use Rattle.fault_tree.specs.Classes.{classes}
 use Rattle.event_tree.specs.declared.count.PathCount.{PathCount}
-use Rattle.planning.specs.declared.listing.Listing.{Listing}
-use Rattle.planning.specs.declared.listing.Listing.the-variants.{Listed, Refused}
-use Rattle.planning.specs.Listing.{pathList, listed, written}
-use Rattle.planning.specs.Page.{pageBytes, Paged}
-use Rattle.planning.proofs.Listed.{study-block, list-need, need-most, listed-done, written-done}
+use Rattle.evaluation.specs.declared.listing.Listing.{Listing}
+use Rattle.evaluation.specs.declared.listing.Listing.the-variants.{Listed, Refused}
+use Rattle.evaluation.specs.Listing.{pathList, listed, written}
+use Rattle.evaluation.specs.Page.{pageBytes, Paged}
+use Rattle.evaluation.proofs.Listed.{study-block, list-need, need-most, listed-done, written-done}
 
 -- rows of n + 1 bytes at the front of a page are its entries
 entries-put : (n : ℕ) (rows : List (List ℕ)) (d : List ℕ) → Every (λ (row : List ℕ). length row ≡ n + 1) [] rows

@@ -6,7 +6,7 @@ ghost use Prim.Native.Nat.{_≤_};
 ghost use mathlib.Core.Path.{_≡_};
 ghost use lib.ListN.{length};
 ghost use Rattle.soundness.specs.Sound.{Sound};
-ghost use Rattle.planning.specs.Page.{pageBytes, Paged};
+ghost use Rattle.evaluation.specs.Page.{pageBytes, Paged};
 
 // Room for the longest list: 4,096 entries of 13 bytes.
 pub const PAGE_BYTES: usize = 53248;

@@ -1,0 +1,5 @@
+pub mod Bounds
+pub mod Figures
+pub mod Listing
+pub mod Losses
+pub mod Page
