@@ -41,7 +41,7 @@ pub record Tabled (t : Study) (counts : List ℕ) (all k : ℕ) (x table : List 
   pub joint : JointState counts x
   pub number : numberOf counts x ≡ k % product counts
   pub whole : all ≡ product counts
-  pub writing : Writing (classes t) cleared k table
+  pub writing : Writing (classes t) cleared 0 k table k
 
 module _ {t : Study} {counts : List ℕ} {all : ℕ} where
   pub tabled-start : {x table : List ℕ} → Sound t → counts ≡ stateCounts t → JointState counts x → numberOf counts x ≡ 0

@@ -9,7 +9,7 @@ use Rattle.probability.proofs.totals.clear.Statement.{statement}
 use Rattle.probability.proofs.totals.clear.Tie as tie
 
 abbrev Inv-loop : tie.InvT-loop
-Inv-loop out₀ c₀ out c = Writing noTotals out₀ c out
+Inv-loop out₀ c₀ out c = Writing noTotals out₀ 0 c out c
 
 abbrev μ-loop : tie.MeasureT-loop
 μ-loop out₀ c₀ out c = 256 - c

@@ -9,7 +9,7 @@ use Rattle.probability.proofs.totals.path_bounds.Statement.{statement}
 use Rattle.probability.proofs.totals.path_bounds.Tie as tie
 
 abbrev Inv-loop : tie.InvT-loop
-Inv-loop rounding chances n list paths out₀ k₀ out k = Writing (bounds rounding chances n list paths) out₀ k out
+Inv-loop rounding chances n list paths out₀ k₀ out k = Writing (bounds rounding chances n list paths) out₀ 0 k out k
 
 abbrev μ-loop : tie.MeasureT-loop
 μ-loop rounding chances n list paths out₀ k₀ out k = paths - k

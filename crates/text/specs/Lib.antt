@@ -1,0 +1,4 @@
+pub mod Letters
+pub mod Lines
+pub mod Numbers
+pub mod Writing
