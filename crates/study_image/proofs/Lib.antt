@@ -1,3 +1,5 @@
+pub mod Back
+pub mod ImageBack
 pub mod Pieces
 pub mod Reading
 pub mod Rows

@@ -36,9 +36,9 @@ module _ {row d₀ : List ℕ} {at : ℕ} where
 -- ---- a row for each record: those of the records below i are written, and these fit their rows
 
 -- a piece, and another behind it
-put-behind : (d₀ d d′ : List ℕ) (at n : ℕ) (x y : List ℕ) → d ≡ put d₀ at x → n ≡ at + length x → at + length x + length y ≤ length d₀ → d′ ≡ put d n y
+put-next : (d₀ d d′ : List ℕ) (at n : ℕ) (x y : List ℕ) → d ≡ put d₀ at x → n ≡ at + length x → at + length x + length y ≤ length d₀ → d′ ≡ put d n y
     → d′ ≡ put d₀ at (x ++ y)
-put-behind d₀ d d′ at n x y e place room e′ =
+put-next d₀ d d′ at n x y e place room e′ =
     e′ ∙ due-more x y (due-start (omega (arith, room, length-append x y))) e place .same
 
 -- one row more
@@ -92,7 +92,7 @@ module _ {A : Type 0} {Fits : A → Type 0} {row : A → List ℕ} {a : A} {widt
           size = put-size d d′ (at + i * width) (row (getD l i a)) (omega (arith, wide, room)) e ∙ r .size;
           long = ap length next ∙ length-append (joined (map row (take i l))) (row (getD l i a)) ∙ omega (arith, r .long, wide);
           done =
-              put-behind d₀ d d′ at (at + i * width) (joined (map row (take i l))) (row (getD l i a)) (r .done) (omega (arith, r .long))
+              put-next d₀ d d′ at (at + i * width) (joined (map row (take i l))) (row (getD l i a)) (r .done) (omega (arith, r .long))
               (omega (arith, r .long, wide, room, r .size)) e
               ∙ ap (put d₀ at) (sym next);
           fits =

@@ -13,8 +13,10 @@ use Rattle.study.specs.declared.Gate.{Gate}
 use Rattle.study.specs.declared.Load.{Load}
 use Rattle.study.specs.declared.Study.{Study}
 use Rattle.study.specs.Zero.{zeroStudy}
-use Rattle.study_image.specs.Places.{p1At, p2At, p3At, componentBytes, testsAt, testedAt, masksAt, inputsAt, inputAt, gateBytes}
-use Rattle.study_image.specs.Places.{customersAt, minutesAt, loadBytes, componentsAt, gatesAt, loadsAt, imageBytes}
+use Rattle.study_image.specs.Places.{p1At, p2At, p3At, componentBytes}
+use Rattle.study_image.specs.Places.{testCountAt, testComponentsAt, testMasksAt, inputCountAt, inputsAt, gateBytes}
+use Rattle.study_image.specs.Places.{customersAt, minutesAt, loadBytes}
+use Rattle.study_image.specs.Places.{componentCountAt, gateCountAt, loadCountAt, componentsAt, gatesAt, loadsAt, imageBytes}
 
 -- ---- the image
 
@@ -22,12 +24,15 @@ use Rattle.study_image.specs.Places.{customersAt, minutesAt, loadBytes, 
 abbrev pub bytesOf : ℕ → List ℕ
 bytesOf n = n % 256 ∷ n / 256 % 256 ∷ n / 65536 % 256 ∷ n / 16777216 % 256 ∷ []
 
+-- a component: its state count, then its probabilities
 unfoldable pub componentRow : Component → List ℕ
 componentRow c = c .states ∷ (bytesOf (c .p1) ++ bytesOf (c .p2) ++ bytesOf (c .p3))
 
+-- a gate: its threshold, its tests as a row of components and a row of masks, and its gate inputs, each kind behind its number
 unfoldable pub gateRow : Gate → List ℕ
 gateRow g = g .threshold ∷ g .tests ∷ (g .component ++ (g .mask ++ (g .gates ∷ g .input)))
 
+-- a load: its loss gate, its customers, its minutes
 unfoldable pub loadRow : Load → List ℕ
 loadRow l = l .gate ∷ (bytesOf (l .customers) ++ bytesOf (l .minutes))
 
@@ -47,6 +52,7 @@ numberIn image at = number (getD image at 0) (getD image (at + 1) 0) (getD image
 abbrev pub bytesIn : List ℕ → ℕ → ℕ → List ℕ
 bytesIn image at n = take n (drop at image)
 
+-- the component, the gate and the load at a place
 unfoldable pub componentIn : List ℕ → ℕ → Component
 componentIn image at =
     record { states = getD image at 0; p1 = numberIn image (at + p1At); p2 = numberIn image (at + p2At); p3 = numberIn image (at + p3At) }
@@ -55,11 +61,11 @@ unfoldable pub gateIn : List ℕ → ℕ → Gate
 gateIn image at =
     record {
       threshold = getD image at 0;
-      tests = getD image (at + testsAt) 0;
-      component = bytesIn image (at + testedAt) mostTests;
-      mask = bytesIn image (at + masksAt) mostTests;
-      gates = getD image (at + inputsAt) 0;
-      input = bytesIn image (at + inputAt) mostGateInputs;
+      tests = getD image (at + testCountAt) 0;
+      component = bytesIn image (at + testComponentsAt) mostTests;
+      mask = bytesIn image (at + testMasksAt) mostTests;
+      gates = getD image (at + inputCountAt) 0;
+      input = bytesIn image (at + inputsAt) mostGateInputs;
     }
 
 unfoldable pub loadIn : List ℕ → ℕ → Load
@@ -76,9 +82,9 @@ unfolding componentIn gateIn loadIn tabulate zeroStudy
 studyIn image =
     cond (ltb (length image) imageBytes) zeroStudy
     (record {
-      components = getD image 0 0;
-      gates = getD image 1 0;
-      loads = getD image 2 0;
+      components = getD image componentCountAt 0;
+      gates = getD image gateCountAt 0;
+      loads = getD image loadCountAt 0;
       component = placesIn componentIn componentsAt componentBytes mostComponents image;
       gate = placesIn gateIn gatesAt gateBytes mostGates image;
       load = placesIn loadIn loadsAt loadBytes mostLoads image;

@@ -1,62 +1,74 @@
--- Where everything stands in the image of a study.
-use Prim.Native.Nat.{ℕ, _+_, _*_}
-use Rattle.rules.specs.Limits.{mostComponents, mostGates, mostLoads, mostTests, mostGateInputs}
+-- Where everything stands in the image of a study. The numbers are those of the format; the code adds them up from the places of a study.
+use Prim.Native.Nat.{ℕ}
+
+-- ---- the image: the numbers of components, of gates and of loads, then the places of each
+
+abbrev pub componentCountAt : ℕ
+componentCountAt = 0
+
+abbrev pub gateCountAt : ℕ
+gateCountAt = 1
+
+abbrev pub loadCountAt : ℕ
+loadCountAt = 2
+
+abbrev pub componentsAt : ℕ
+componentsAt = 3
+
+abbrev pub gatesAt : ℕ
+gatesAt = 159
+
+abbrev pub loadsAt : ℕ
+loadsAt = 2015
+
+abbrev pub imageBytes : ℕ
+imageBytes = 2087
 
 -- a number of four bytes
 abbrev pub numberBytes : ℕ
 numberBytes = 4
 
--- in a component place: its state count, then the probabilities of states 1 to 3
+-- ---- a component place: its state count, then the probabilities of states 1 to 3
+
 abbrev pub p1At : ℕ
 p1At = 1
 
 abbrev pub p2At : ℕ
-p2At = p1At + numberBytes
+p2At = 5
 
 abbrev pub p3At : ℕ
-p3At = p2At + numberBytes
+p3At = 9
 
 abbrev pub componentBytes : ℕ
-componentBytes = p3At + numberBytes
+componentBytes = 13
 
--- in a gate place: its threshold, its tests, the components and the masks of these, its gate inputs, and their numbers
-abbrev pub testsAt : ℕ
-testsAt = 1
+-- ---- a gate place: its threshold, the number of its tests, the component of each, the mask of each, the number of its gate inputs, and these
 
-abbrev pub testedAt : ℕ
-testedAt = 2
+abbrev pub testCountAt : ℕ
+testCountAt = 1
 
-abbrev pub masksAt : ℕ
-masksAt = testedAt + mostTests
+abbrev pub testComponentsAt : ℕ
+testComponentsAt = 2
+
+abbrev pub testMasksAt : ℕ
+testMasksAt = 14
+
+abbrev pub inputCountAt : ℕ
+inputCountAt = 26
 
 abbrev pub inputsAt : ℕ
-inputsAt = masksAt + mostTests
-
-abbrev pub inputAt : ℕ
-inputAt = inputsAt + 1
+inputsAt = 27
 
 abbrev pub gateBytes : ℕ
-gateBytes = inputAt + mostGateInputs
+gateBytes = 58
 
--- in a load place: its loss gate, its customers, its minutes
+-- ---- a load place: its loss gate, its customers, its minutes
+
 abbrev pub customersAt : ℕ
 customersAt = 1
 
 abbrev pub minutesAt : ℕ
-minutesAt = customersAt + numberBytes
+minutesAt = 5
 
 abbrev pub loadBytes : ℕ
-loadBytes = minutesAt + numberBytes
-
--- in the image: the numbers of components, of gates and of loads, then the places of each
-abbrev pub componentsAt : ℕ
-componentsAt = 3
-
-abbrev pub gatesAt : ℕ
-gatesAt = componentsAt + mostComponents * componentBytes
-
-abbrev pub loadsAt : ℕ
-loadsAt = gatesAt + mostGates * gateBytes
-
-abbrev pub imageBytes : ℕ
-imageBytes = loadsAt + mostLoads * loadBytes
+loadBytes = 9

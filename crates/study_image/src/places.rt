@@ -17,18 +17,18 @@ pub const P3_AT: usize = P2_AT + NUMBER_BYTES;
 
 pub const COMPONENT_BYTES: usize = P3_AT + NUMBER_BYTES;
 
-// In a gate place: its threshold, its tests, the components and the masks of these, its gate inputs, and their numbers.
-pub const TESTS_AT: usize = 1;
+// In a gate place: its threshold, the number of its tests, the component of each, the mask of each, the number of its gate inputs, and these.
+pub const TEST_COUNT_AT: usize = 1;
 
-pub const TESTED_AT: usize = 2;
+pub const TEST_COMPONENTS_AT: usize = 2;
 
-pub const MASKS_AT: usize = TESTED_AT + TEST_PLACES;
+pub const TEST_MASKS_AT: usize = TEST_COMPONENTS_AT + TEST_PLACES;
 
-pub const INPUTS_AT: usize = MASKS_AT + TEST_PLACES;
+pub const INPUT_COUNT_AT: usize = TEST_MASKS_AT + TEST_PLACES;
 
-pub const INPUT_AT: usize = INPUTS_AT + 1;
+pub const INPUTS_AT: usize = INPUT_COUNT_AT + 1;
 
-pub const GATE_BYTES: usize = INPUT_AT + INPUT_PLACES;
+pub const GATE_BYTES: usize = INPUTS_AT + INPUT_PLACES;
 
 // In a load place: its loss gate, its customers, its minutes.
 pub const CUSTOMERS_AT: usize = 1;
@@ -38,6 +38,12 @@ pub const MINUTES_AT: usize = CUSTOMERS_AT + NUMBER_BYTES;
 pub const LOAD_BYTES: usize = MINUTES_AT + NUMBER_BYTES;
 
 // In the image: the numbers of components, of gates and of loads, then the places of each.
+pub const COMPONENT_COUNT_AT: usize = 0;
+
+pub const GATE_COUNT_AT: usize = 1;
+
+pub const LOAD_COUNT_AT: usize = 2;
+
 pub const COMPONENTS_AT: usize = 3;
 
 pub const GATES_AT: usize = COMPONENTS_AT + COMPONENT_PLACES * COMPONENT_BYTES;

@@ -1,5 +1,5 @@
 -- `study_image::fields::read_inputs` meets its contract: the row is written over all of the places.
-use mathlib.Core.Path.{_≡_, _∙_, sym}
+use mathlib.Core.Path.{_≡_, _∙_}
 use native.Mathlib.Nat.{add-sub-cancel-left}
 use native.Mathlib.Omega.{arith}
 use lib.ListN.{length, drop, length-drop}
