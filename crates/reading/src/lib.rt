@@ -39,7 +39,7 @@ pub fn byte_at(bytes: &[u8], at: usize) -> ByteRead
 }
 
 // The number of four bytes, lowest byte first.
-fn number(b0: u8, b1: u8, b2: u8, b3: u8) -> u32
+pub fn number(b0: u8, b1: u8, b2: u8, b3: u8) -> u32
     ensures { λ r. ⌜ r ≡ Reader·number b0 b1 b2 b3 ⌝ }
 {
     b0 as u32 + 256 * b1 as u32 + 65536 * b2 as u32 + 16777216 * b3 as u32

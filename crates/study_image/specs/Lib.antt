@@ -1,0 +1,3 @@
+pub mod Fits
+pub mod Image
+pub mod Places
