@@ -7,7 +7,7 @@ impl Random {
         Random(seed)
     }
 
-    pub fn next(&mut self) -> u64 {
+    pub fn draw(&mut self) -> u64 {
         self.0 = self.0.wrapping_add(0x9E37_79B9_7F4A_7C15);
         let mut mixed = self.0;
         mixed = (mixed ^ (mixed >> 30)).wrapping_mul(0xBF58_476D_1CE4_E5B9);
@@ -17,7 +17,7 @@ impl Random {
 
     /// A number below n.
     pub fn below(&mut self, n: usize) -> usize {
-        (self.next() % n as u64) as usize
+        (self.draw() % n as u64) as usize
     }
 
     /// A number from one limit to the other, both included.
@@ -31,22 +31,22 @@ impl Random {
     }
 
     pub fn byte(&mut self) -> u8 {
-        self.next() as u8
+        self.draw() as u8
     }
 
     pub fn word(&mut self) -> u32 {
-        self.next() as u32
+        self.draw() as u32
     }
 
     pub fn bytes(&mut self, size: usize) -> Vec<u8> {
-        let eights = (0..size.div_ceil(8)).map(|_| self.next().to_le_bytes());
+        let eights = (0..size.div_ceil(8)).map(|_| self.draw().to_le_bytes());
         let mut bytes: Vec<u8> = eights.flatten().collect();
         bytes.truncate(size);
         bytes
     }
 
     pub fn words(&mut self, size: usize) -> Vec<u64> {
-        (0..size).map(|_| self.next()).collect()
+        (0..size).map(|_| self.draw()).collect()
     }
 
     pub fn pick<T: Copy>(&mut self, choices: &[T]) -> T {
