@@ -79,7 +79,7 @@ fn bad_number(random: &mut Random, role: Role) -> u32 {
     }
 }
 
-/// Overwrites a field whose role is wanted, where the study has one.
+/// Overwrites a field whose role is wanted, where the study has one, and now and then cuts the bytes right behind it.
 fn overwrite(random: &mut Random, draft: &mut Draft, wanted: impl Fn(Role) -> bool) {
     let places = draft.places(wanted);
     if places.is_empty() {
@@ -96,6 +96,9 @@ fn overwrite(random: &mut Random, draft: &mut Draft, wanted: impl Fn(Role) -> bo
     } else {
         let counts = [draft.bytes[0], draft.bytes[1], draft.bytes[2]];
         draft.bytes[at] = bad_byte(random, role, draft.bytes[at], counts);
+        if random.once_in(5) {
+            draft.cut(at + 1);
+        }
     }
 }
 

@@ -13,11 +13,10 @@ pub struct Shape {
 
 /// Mostly small studies: the second implementation goes over joint states one by one, again for each call.
 fn shape(random: &mut Random) -> Shape {
-    let (components, joint_states) = match random.below(2000) {
-        0 => (12, 4096),
-        1..=5 => (12, 1024),
-        6..=99 => (8, 256),
-        100..=699 => (6, 96),
+    let (components, joint_states) = match random.below(1000) {
+        0..=3 => (12, 1024),
+        4..=99 => (8, 256),
+        100..=399 => (6, 96),
         _ => (4, 36),
     };
     let gates = random.pick(&[1, 2, 3, 4, 6, 9, 14]);
@@ -53,7 +52,7 @@ fn chance(random: &mut Random, left: u32) -> u32 {
     let drawn = match random.below(8) {
         0 => 0,
         1 => left,
-        2 => random.below(1000) as u32,
+        2 => random.pick(&[1, 2, 999]),
         3 => 333_333_333,
         4 => random.below(ONE as usize / 10) as u32,
         _ => random.below(left as usize + 1) as u32,
@@ -200,8 +199,24 @@ pub fn with_states(random: &mut Random, shape: &Shape, counts: &[u8]) -> Draft {
     draft
 }
 
+/// State counts that make 4,096 joint states, which is as many as there may be.
+fn widest_counts(random: &mut Random) -> Vec<u8> {
+    let mut counts = Vec::new();
+    let mut left = 4096;
+    while left > 1 {
+        let states = if left == 2 { 2 } else { random.pick(&[2, 4]) };
+        left /= usize::from(states);
+        counts.push(states);
+    }
+    counts
+}
+
 pub fn sound(random: &mut Random) -> Draft {
     let shape = shape(random);
-    let counts = state_counts(random, &shape);
+    let counts = if random.once_in(800) {
+        widest_counts(random)
+    } else {
+        state_counts(random, &shape)
+    };
     with_states(random, &shape, &counts)
 }

@@ -77,15 +77,20 @@ fn compare_input(tally: &mut Tally, seed: u64) {
     let random = &mut random;
     let bytes = generate::input(random);
     let mut pair = Pair::new(&bytes, tally);
-    let image = pair.open(random);
+    let (opened, image) = pair.open(random);
     pair.report(random);
     compare_questions(&mut pair, random, &image);
     let edited = compare_edits(&mut pair, random, &image);
-    compare_questions(&mut pair, random, &edited);
-    let altered = generate::altered(random, &edited);
-    compare_questions(&mut pair, random, &altered);
-    compare_edits(&mut pair, random, &altered);
     pair.loads_lost(random.byte());
+    // What is unsound stays so; only a sound image has more to say once it is changed.
+    if opened {
+        compare_questions(&mut pair, random, &edited);
+        for _ in 0..2 {
+            let altered = generate::altered(random, &edited);
+            compare_questions(&mut pair, random, &altered);
+            compare_edits(&mut pair, random, &altered);
+        }
+    }
 }
 
 #[test]

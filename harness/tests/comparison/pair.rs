@@ -83,8 +83,8 @@ impl<'a> Pair<'a> {
         }
     }
 
-    /// The image of the opened study; where the opening is refused, zeros or what stood in the space.
-    pub fn open(&mut self, random: &mut Random) -> Vec<u8> {
+    /// Whether the study opens, and its image; where it does not, zeros or what stood in the space.
+    pub fn open(&mut self, random: &mut Random) -> (bool, Vec<u8>) {
         let bytes = self.bytes;
         let mut opened = (Err(0), vec![0; STUDY_BYTES]);
         for room in [room(random, STUDY_BYTES), STUDY_BYTES] {
@@ -99,9 +99,9 @@ impl<'a> Pair<'a> {
         let (answer, image) = opened;
         self.tally.sound += usize::from(answer.is_ok());
         if answer.is_err() && random.once_in(2) {
-            return vec![0; STUDY_BYTES];
+            return (false, vec![0; STUDY_BYTES]);
         }
-        image
+        (answer.is_ok(), image)
     }
 
     pub fn report(&mut self, random: &mut Random) {
