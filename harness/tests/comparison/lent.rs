@@ -1,10 +1,11 @@
 //! Lent space with a margin on both sides that no call may touch.
 use harness::generate::Random;
+use std::fmt;
 
 const MARGIN: usize = 24;
 
 /// Places that hold a pattern; those between the margins are lent.
-#[derive(Clone, Debug, PartialEq)]
+#[derive(Clone, PartialEq)]
 pub struct Lent<T> {
     places: Vec<T>,
     room: usize,
@@ -23,6 +24,17 @@ impl<T: Copy> Lent<T> {
     /// What stands in the lent places.
     pub fn held(&self) -> &[T] {
         &self.places[MARGIN..MARGIN + self.room]
+    }
+}
+
+/// The lent places in hexadecimal, between their margins.
+impl<T: Copy + fmt::LowerHex> fmt::Debug for Lent<T> {
+    fn fmt(&self, line: &mut fmt::Formatter) -> fmt::Result {
+        for (k, place) in self.places.iter().enumerate() {
+            let border = k == MARGIN || k == MARGIN + self.room;
+            write!(line, "{}{place:02x}", if border { " | " } else { " " })?;
+        }
+        Ok(())
     }
 }
 

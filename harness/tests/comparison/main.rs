@@ -1,13 +1,16 @@
 //! Compares every call of the proved library with the second implementation, on generated inputs: sound, damaged and altered studies.
+//! The words behind `cargo test --test comparison --` may be another number of inputs, and another first seed.
 mod lent;
 mod pair;
 mod tally;
 
 use harness::generate::{self, Random};
 use pair::Pair;
+use std::env;
 use tally::Tally;
 
 const INPUTS: u64 = 20_000;
+const FIRST_SEED: u64 = 0;
 
 /// Each refusal must be met this often, or the inputs say too little about it.
 const EACH_REFUSAL: usize = 50;
@@ -76,7 +79,7 @@ fn compare_input(tally: &mut Tally, seed: u64) {
     let mut random = Random::new(seed);
     let random = &mut random;
     let bytes = generate::input(random);
-    let mut pair = Pair::new(&bytes, tally);
+    let mut pair = Pair::new(seed, &bytes, tally);
     let (opened, image) = pair.open(random);
     pair.report(random);
     compare_questions(&mut pair, random, &image);
@@ -93,16 +96,23 @@ fn compare_input(tally: &mut Tally, seed: u64) {
     }
 }
 
-#[test]
-fn every_call_agrees_with_the_second_implementation() {
-    let mut tally = Tally::default();
-    for seed in 0..INPUTS {
-        compare_input(&mut tally, seed);
-    }
-    println!("{tally}");
+/// Whether the inputs met enough of what can happen.
+fn assert_enough(tally: &Tally) {
     assert!(tally.sound * 3 >= tally.inputs, "too few sound studies");
     for number in 1..=19 {
         let met = tally.refused[number];
         assert!(met >= EACH_REFUSAL, "refusal {number} was met {met} times");
     }
+}
+
+fn main() {
+    let mut numbers = env::args().filter_map(|word| word.parse().ok());
+    let inputs = numbers.next().unwrap_or(INPUTS);
+    let first_seed = numbers.next().unwrap_or(FIRST_SEED);
+    let mut tally = Tally::default();
+    for seed in first_seed..first_seed + inputs {
+        compare_input(&mut tally, seed);
+    }
+    println!("{tally}");
+    assert_enough(&tally);
 }

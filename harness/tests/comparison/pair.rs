@@ -47,14 +47,15 @@ struct Agreed<L> {
 }
 
 pub struct Pair<'a> {
+    seed: u64,
     bytes: &'a [u8],
     tally: &'a mut Tally,
 }
 
 impl<'a> Pair<'a> {
-    pub fn new(bytes: &'a [u8], tally: &'a mut Tally) -> Pair<'a> {
+    pub fn new(seed: u64, bytes: &'a [u8], tally: &'a mut Tally) -> Pair<'a> {
         tally.inputs += 1;
-        Pair { bytes, tally }
+        Pair { seed, bytes, tally }
     }
 
     /// Makes a call twice, on two copies of what is lent, and hands back the answer and the space.
@@ -69,11 +70,11 @@ impl<'a> Pair<'a> {
         let found = proved(&mut ours);
         let due = second(&mut theirs);
         if found != due || ours != theirs {
-            println!("study: {}", to_hexadecimal(self.bytes));
-            println!("call: {call}");
-            println!("before: {lent:?}");
-            println!("proved: {found:?} {ours:?}");
-            println!("second: {due:?} {theirs:?}");
+            println!("seed {}: {call}", self.seed);
+            println!("study:  {}", to_hexadecimal(self.bytes));
+            println!("lent:   {lent:?}");
+            println!("proved: {ours:?}");
+            println!("second: {theirs:?}");
             panic!("{call}: {found:?} where {due:?} is due, or what was lent differs");
         }
         self.tally.count(due);
