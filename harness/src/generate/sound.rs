@@ -186,12 +186,13 @@ pub fn with_states(random: &mut Random, shape: &Shape, counts: &[u8]) -> Draft {
     for own in 0..gates {
         gate(random, &mut draft, counts, own as u8);
     }
-    let nobody = random.once_in(8);
-    let limits = random.once_in(20);
-    for _ in 0..loads {
-        let (customers, minutes) = match (nobody, limits) {
-            (true, _) => (0, size(random, 20_000)),
-            (_, true) => (100_000, 20_000),
+    let people = random.below(40);
+    for j in 0..loads {
+        let (customers, minutes) = match people {
+            0..=4 => (0, size(random, 20_000)),
+            5 | 6 => (100_000, 20_000),
+            // One customer in all, so that the smallest loss counts.
+            7 | 8 => (u32::from(j == 0), size(random, 20_000)),
             _ => (size(random, 100_000), size(random, 20_000)),
         };
         load(random, &mut draft, gates, customers, minutes);

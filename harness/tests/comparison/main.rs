@@ -114,5 +114,7 @@ fn main() {
         compare_input(&mut tally, seed);
     }
     println!("{tally}");
-    assert_enough(&tally);
+    if inputs >= INPUTS {
+        assert_enough(&tally);
+    }
 }
