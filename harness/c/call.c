@@ -1,0 +1,28 @@
+/* Calls the library from C: opens a study of two components, prints its SAIFI, and what a study that ends too early is refused by. */
+#include "grid.h"
+
+#include <inttypes.h>
+#include <stdio.h>
+
+/* Two components that fail at 0.1 and 0.2; the load, 100 customers, is lost when either fails. */
+static const uint8_t bytes[] = {
+    2, 1, 1,                                     /* components, gates, loads */
+    2, 0x00, 0xE1, 0xF5, 0x05,                   /* component 0 */
+    2, 0x00, 0xC2, 0xEB, 0x0B,                   /* component 1 */
+    2, 2, 0, 2, 1, 2,                            /* gate 0 */
+    7, 0, 100, 0, 0, 0, 60, 0, 0, 0,             /* load 0 */
+};
+
+int main(void)
+{
+    uint8_t study[GRID_STUDY_BYTES];
+    uint64_t figures[GRID_FIGURE_PLACES];
+
+    if (grid_open(bytes, sizeof bytes, study, sizeof study) != 0)
+        return 1;
+    if (grid_figures(study, sizeof study, figures, GRID_FIGURE_PLACES) != 3)
+        return 1;
+    printf("SAIFI %" PRIu64 " %" PRIu64 "\n", figures[0], figures[1]);
+    printf("REFUSED %" PRId64 "\n", -grid_open(bytes, sizeof bytes - 1, study, sizeof study));
+    return 0;
+}

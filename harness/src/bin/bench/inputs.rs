@@ -1,0 +1,63 @@
+//! The studies that are timed.
+use harness::desk::opening::open;
+use harness::desk::study::joint_state_count;
+use harness::studies::from_hexadecimal;
+
+pub struct Input {
+    pub name: String,
+    pub bytes: Vec<u8>,
+}
+
+impl Input {
+    pub fn joint_states(&self) -> usize {
+        let study = open(&self.bytes).expect("a sound study");
+        joint_state_count(&study.components)
+    }
+}
+
+fn input(name: &str, text: &str) -> Input {
+    Input {
+        name: name.to_string(),
+        bytes: from_hexadecimal(text),
+    }
+}
+
+pub fn studies() -> Vec<Input> {
+    vec![
+        input(
+            "small (case A)",
+            include_str!("../../../../studies/case_a.hex"),
+        ),
+        input("typical", include_str!("../../../../studies/typical.hex")),
+        input("widest", include_str!("../../../../studies/widest.hex")),
+        input("heaviest", include_str!("../../../../studies/heaviest.hex")),
+    ]
+}
+
+/// A study of n two-state components; its loads are lost when one, a third, two thirds and all of them have failed.
+fn voting(n: u8) -> Input {
+    let mut bytes = vec![n, 4, 4];
+    for i in 0..n {
+        let failed = 1_000_000_000 / (u32::from(i) + 7);
+        bytes.push(2);
+        bytes.extend(failed.to_le_bytes());
+    }
+    for threshold in [1, n.div_ceil(3), (2 * n).div_ceil(3), n] {
+        bytes.extend([3, threshold, n]);
+        bytes.extend((0..n).flat_map(|component| [component, 2]));
+    }
+    for gate in 0..4u8 {
+        bytes.extend([7, gate]);
+        bytes.extend(250u32.to_le_bytes());
+        bytes.extend(60u32.to_le_bytes());
+    }
+    Input {
+        name: format!("{n} components"),
+        bytes,
+    }
+}
+
+/// The same shape from 2^4 to 2^12 joint states.
+pub fn growing() -> Vec<Input> {
+    (4..=12).map(voting).collect()
+}

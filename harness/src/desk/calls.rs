@@ -1,0 +1,123 @@
+//! The library's calls over lent bytes, in the same form: a count or a refusal, and nothing lent touched where refused.
+use super::bounds::{bounded_paths, class_bounds as by_class, load_bounds as of_load, Bounds};
+use super::figures::figures as figures_of;
+use super::image::{read, write, IMAGE_BYTES};
+use super::losses::Losses;
+use super::opening;
+use super::paths::paths;
+use super::refusals::*;
+use super::report::report as report_of;
+use super::study::*;
+
+type Answer = Result<usize, u8>;
+
+/// The study of an image, or 16.
+fn sound(image: &[u8]) -> Result<Study, u8> {
+    read(image).ok_or(UNSOUND)
+}
+
+/// The image anew: what stands behind it stays.
+fn put(study: &Study, image: &mut [u8]) {
+    image[..IMAGE_BYTES].copy_from_slice(&write(study));
+}
+
+pub fn open(bytes: &[u8], image: &mut [u8]) -> Answer {
+    let study = opening::open(bytes)?;
+    unless(image.len() >= IMAGE_BYTES, NO_ROOM)?;
+    put(&study, image);
+    Ok(0)
+}
+
+pub fn set_probabilities(image: &mut [u8], component: usize, p: [u32; 3]) -> Answer {
+    let mut study = sound(image)?;
+    let edited = study.components.get_mut(component).ok_or(NO_ITEM)?;
+    for state in 1..=3 {
+        let there = state < usize::from(edited.states);
+        unless(there || p[state - 1] == 0, NO_STATE)?;
+    }
+    unless(Component::failed_together(p) <= ONE, OVER_ONE)?;
+    edited.failed = p;
+    put(&study, image);
+    Ok(0)
+}
+
+pub fn set_customers(image: &mut [u8], load: usize, customers: u32) -> Answer {
+    let mut study = sound(image)?;
+    let edited = study.loads.get_mut(load).ok_or(NO_ITEM)?;
+    unless(customers <= MOST_CUSTOMERS, LOAD_SIZE)?;
+    edited.customers = customers;
+    put(&study, image);
+    Ok(0)
+}
+
+pub fn set_minutes(image: &mut [u8], load: usize, minutes: u32) -> Answer {
+    let mut study = sound(image)?;
+    let edited = study.loads.get_mut(load).ok_or(NO_ITEM)?;
+    unless(minutes <= MOST_MINUTES, LOAD_SIZE)?;
+    edited.minutes = minutes;
+    put(&study, image);
+    Ok(0)
+}
+
+pub fn list_paths(image: &[u8], buffer: &mut [u8]) -> Answer {
+    let list = paths(&Losses::of(&sound(image)?));
+    let entries: Vec<u8> = list.iter().flat_map(|path| path.entry()).collect();
+    unless(buffer.len() >= entries.len(), NO_ROOM)?;
+    buffer[..entries.len()].copy_from_slice(&entries);
+    Ok(list.len())
+}
+
+pub fn path_bounds(image: &[u8], lower: &mut [u64], upper: &mut [u64]) -> Answer {
+    let list = bounded_paths(&sound(image)?);
+    unless(lower.len().min(upper.len()) >= list.len(), NO_ROOM)?;
+    for (k, (_, bounds)) in list.iter().enumerate() {
+        lower[k] = bounds.lower;
+        upper[k] = bounds.upper;
+    }
+    Ok(list.len())
+}
+
+pub fn class_bounds(image: &[u8], lower: &mut [u64], upper: &mut [u64]) -> Answer {
+    let study = sound(image)?;
+    unless(lower.len().min(upper.len()) >= 256, NO_ROOM)?;
+    let occurring = by_class(&bounded_paths(&study));
+    for class in 0..=255u8 {
+        let none = Bounds { lower: 0, upper: 0 };
+        let bounds = occurring.get(&class).unwrap_or(&none);
+        lower[usize::from(class)] = bounds.lower;
+        upper[usize::from(class)] = bounds.upper;
+    }
+    Ok(0)
+}
+
+pub fn load_bounds(image: &[u8], load: usize, lower: &mut u64, upper: &mut u64) -> Answer {
+    let study = sound(image)?;
+    unless(load < study.loads.len(), NO_ITEM)?;
+    let bounds = of_load(&bounded_paths(&study), load);
+    *lower = bounds.lower;
+    *upper = bounds.upper;
+    Ok(0)
+}
+
+pub fn figures(image: &[u8], places: &mut [u64]) -> Answer {
+    let study = sound(image)?;
+    unless(places.len() >= 6, NO_ROOM)?;
+    let three = figures_of(&study, &bounded_paths(&study))?;
+    let stated = [Some(three.saifi), Some(three.saidi), three.caidi];
+    for (bounds, pair) in stated.iter().flatten().zip(places.chunks_mut(2)) {
+        pair[0] = bounds.lower;
+        pair[1] = bounds.upper;
+    }
+    Ok(stated.iter().flatten().count())
+}
+
+pub fn loads_lost(class: u8) -> Answer {
+    Ok((0..8).filter(|load| class & (1 << load) != 0).count())
+}
+
+pub fn report(bytes: &[u8], text: &mut [u8]) -> Answer {
+    let report = report_of(bytes);
+    unless(text.len() >= report.len(), NO_ROOM)?;
+    text[..report.len()].copy_from_slice(report.as_bytes());
+    Ok(report.len())
+}

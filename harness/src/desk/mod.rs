@@ -1,0 +1,12 @@
+//! The second implementation: every call once more, from the scope paper alone, in the plainest way that gives the answer.
+//! It goes over joint states one by one and is slow. Nothing here was taken from the proved code or from the port.
+pub mod bounds;
+pub mod calls;
+pub mod figures;
+pub mod image;
+pub mod losses;
+pub mod opening;
+pub mod paths;
+pub mod refusals;
+pub mod report;
+pub mod study;

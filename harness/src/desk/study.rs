@@ -1,0 +1,73 @@
+//! A study as its fields, and the limits of the format.
+
+/// Certainty, in units of a billionth.
+pub const ONE: u128 = 1_000_000_000;
+
+pub const MOST_COMPONENTS: usize = 12;
+pub const MOST_GATES: usize = 32;
+pub const MOST_LOADS: usize = 8;
+pub const MOST_TESTS: usize = 12;
+pub const MOST_GATE_INPUTS: usize = 31;
+pub const MOST_JOINT_STATES: usize = 4096;
+pub const MOST_CUSTOMERS: u32 = 100_000;
+pub const MOST_MINUTES: u32 = 20_000;
+
+#[derive(Clone, Debug, PartialEq)]
+pub struct Component {
+    pub states: u8,
+    /// The chances of states 1, 2 and 3; 0 for those that the component lacks.
+    pub failed: [u32; 3],
+}
+
+#[derive(Clone, Debug, PartialEq)]
+pub struct Test {
+    pub component: u8,
+    pub mask: u8,
+}
+
+#[derive(Clone, Debug, PartialEq)]
+pub struct Gate {
+    pub threshold: u8,
+    pub tests: Vec<Test>,
+    pub gates: Vec<u8>,
+}
+
+#[derive(Clone, Debug, PartialEq)]
+pub struct Load {
+    /// None: the load is never lost.
+    pub gate: Option<u8>,
+    pub customers: u32,
+    pub minutes: u32,
+}
+
+#[derive(Clone, Debug, PartialEq)]
+pub struct Study {
+    pub components: Vec<Component>,
+    pub gates: Vec<Gate>,
+    pub loads: Vec<Load>,
+}
+
+impl Component {
+    /// The chances of states 1 to 3 together, which may be above one before it is judged.
+    pub fn failed_together(failed: [u32; 3]) -> u128 {
+        failed.iter().map(|&p| u128::from(p)).sum()
+    }
+
+    /// The chance of a state, in units.
+    pub fn chance(&self, state: u8) -> u128 {
+        match state {
+            0 => ONE - Component::failed_together(self.failed),
+            _ => u128::from(self.failed[usize::from(state) - 1]),
+        }
+    }
+}
+
+/// Whether a mask asks for a state at all, and for none that is not there.
+pub fn mask_fits(mask: u8, states: u8) -> bool {
+    mask != 0 && (states..8).all(|state| mask & (1 << state) == 0)
+}
+
+/// How many joint states components have together.
+pub fn joint_state_count(components: &[Component]) -> usize {
+    components.iter().map(|c| usize::from(c.states)).product()
+}

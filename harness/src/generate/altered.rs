@@ -1,0 +1,140 @@
+//! Images of studies, altered behind the library's back. Some stay sound.
+use super::random::Random;
+
+/// Where records of each kind start, how long one is, and how many places there are.
+const KINDS: [(usize, usize, usize); 3] = [(3, 13, 12), (159, 58, 32), (2015, 9, 8)];
+const COMPONENT: usize = 0;
+const GATE: usize = 1;
+const LOAD: usize = 2;
+
+fn record(kind: usize, number: usize) -> usize {
+    let (from, size, _) = KINDS[kind];
+    from + number * size
+}
+
+/// Where a record in use starts, or the first place of its kind in an image without any.
+fn used(random: &mut Random, image: &[u8], kind: usize) -> usize {
+    let places = KINDS[kind].2;
+    let count = usize::from(image[kind]).clamp(1, places);
+    record(kind, random.below(count))
+}
+
+fn put_number(image: &mut [u8], at: usize, number: u32) {
+    image[at..at + 4].copy_from_slice(&number.to_le_bytes());
+}
+
+fn number_at(image: &[u8], at: usize) -> u32 {
+    let four = image[at..at + 4].try_into().expect("four bytes");
+    u32::from_le_bytes(four)
+}
+
+/// A byte that is near another, or far from it.
+fn near(random: &mut Random, old: u8) -> u8 {
+    match random.below(5) {
+        0 => old.wrapping_add(1),
+        1 => old.wrapping_sub(1),
+        2 => old ^ (1 << random.below(8)),
+        3 => 0,
+        _ => random.byte(),
+    }
+}
+
+/// A byte of the first record that is not in use, if there is one, or else of any.
+fn disturb_unused(random: &mut Random, image: &mut [u8]) {
+    let kind = random.below(3);
+    let (_, size, places) = KINDS[kind];
+    let count = usize::from(image[kind]);
+    let at = if count < places {
+        record(kind, count) + random.below(size)
+    } else {
+        random.below(image.len())
+    };
+    image[at] = near(random, image[at]);
+}
+
+/// A state count out of range as the only breach: no chance and no mask speaks of a lacking state.
+fn odd_state_count(random: &mut Random, image: &mut [u8]) {
+    let number = random.below(usize::from(image[COMPONENT]).clamp(1, 12));
+    let at = record(COMPONENT, number);
+    image[at + 1..at + 13].fill(0);
+    image[at] = random.pick(&[0, 1, 1, 5, 8, 255]);
+    for gate in 0..32 {
+        let tests = record(GATE, gate) + 2;
+        for j in 0..12 {
+            let (component, mask) = (tests + j, tests + 12 + j);
+            if image[mask] != 0 && usize::from(image[component]) == number {
+                image[mask] = 1;
+            }
+        }
+    }
+}
+
+/// More components, until there are too many joint states.
+fn widen(random: &mut Random, image: &mut [u8]) {
+    let mut joint_states: usize = 1;
+    for i in 0..12 {
+        let at = record(COMPONENT, i);
+        if i >= usize::from(image[COMPONENT]) {
+            image[at] = random.between(2, 4) as u8;
+            image[COMPONENT] += 1;
+        }
+        joint_states = joint_states.saturating_mul(usize::from(image[at]));
+        if joint_states > 4096 {
+            break;
+        }
+    }
+}
+
+/// A number at its limit, or one beyond.
+fn at_limit(random: &mut Random, image: &mut [u8]) {
+    match random.below(5) {
+        0 => {
+            let at = used(random, image, COMPONENT);
+            let others = u64::from(number_at(image, at + 5)) + u64::from(number_at(image, at + 9));
+            let rest = 1_000_000_000u64.saturating_sub(others) as u32;
+            put_number(image, at + 1, rest + random.below(2) as u32);
+        }
+        1 => {
+            let at = used(random, image, GATE);
+            let inputs = image[at + 1].saturating_add(image[at + 26]);
+            image[at] = random.pick(&[0, inputs, inputs.saturating_add(1)]);
+        }
+        2 => {
+            let gates = image[GATE];
+            let at = used(random, image, LOAD);
+            image[at] = random.pick(&[gates.saturating_sub(1), gates, 32, 254, 255]);
+        }
+        3 => {
+            let at = used(random, image, LOAD);
+            put_number(image, at + 1, 100_000 + random.below(2) as u32);
+        }
+        _ => {
+            let at = used(random, image, LOAD);
+            put_number(image, at + 5, 20_000 + random.below(2) as u32);
+        }
+    }
+}
+
+pub fn altered(random: &mut Random, image: &[u8]) -> Vec<u8> {
+    let mut other = image.to_vec();
+    match random.below(12) {
+        0 => {
+            let at = random.below(3);
+            other[at] = near(random, other[at]);
+        }
+        1 => disturb_unused(random, &mut other),
+        2 => {
+            let at = random.below(other.len());
+            other[at] = near(random, other[at]);
+        }
+        3 => odd_state_count(random, &mut other),
+        4 => widen(random, &mut other),
+        5 | 6 => at_limit(random, &mut other),
+        _ => {
+            let kind = random.below(3);
+            let at = used(random, &other, kind) + random.below(KINDS[kind].1);
+            other[at] = near(random, other[at]);
+        }
+    }
+    other
+}

@@ -1,0 +1,223 @@
+//! Sound studies, from plain ones to the limits of the format.
+use super::draft::{Draft, Role};
+use super::random::Random;
+
+const ONE: u32 = 1_000_000_000;
+
+/// How large a study may become.
+pub struct Shape {
+    pub components: usize,
+    pub joint_states: usize,
+    pub gates: usize,
+}
+
+/// Mostly small studies: the second implementation goes over joint states one by one, again for each call.
+fn shape(random: &mut Random) -> Shape {
+    let (components, joint_states) = match random.below(1000) {
+        0..=3 => (12, 1024),
+        4..=99 => (8, 256),
+        100..=399 => (6, 96),
+        _ => (4, 36),
+    };
+    let gates = random.pick(&[1, 2, 3, 4, 6, 9, 14]);
+    Shape {
+        components,
+        joint_states,
+        gates: if random.once_in(40) { 32 } else { gates },
+    }
+}
+
+/// State counts, as many as the shape has room for; some studies stay below it.
+pub fn state_counts(random: &mut Random, shape: &Shape) -> Vec<u8> {
+    let wanted = random.between(1, shape.components);
+    let only_two = random.once_in(2);
+    let mut counts = Vec::new();
+    let mut joint_states = 1;
+    while counts.len() < wanted {
+        let states = if only_two { 2 } else { random.between(2, 4) };
+        joint_states *= states;
+        if joint_states > shape.joint_states {
+            break;
+        }
+        counts.push(states as u8);
+    }
+    if counts.is_empty() {
+        counts.push(2);
+    }
+    counts
+}
+
+/// A chance of at most so much: often none, all that is left, or a number that leaves remainders.
+fn chance(random: &mut Random, left: u32) -> u32 {
+    let drawn = match random.below(8) {
+        0 => 0,
+        1 => left,
+        2 => random.pick(&[1, 2, 999]),
+        3 => 333_333_333,
+        4 => random.below(ONE as usize / 10) as u32,
+        _ => random.below(left as usize + 1) as u32,
+    };
+    drawn.min(left)
+}
+
+/// Whether a field is written: always if it must be, and now and then with its absent value.
+fn given(random: &mut Random, value: u32, absent: u32) -> bool {
+    value != absent || random.once_in(3)
+}
+
+fn component(random: &mut Random, draft: &mut Draft, states: u8) {
+    let mut left = ONE;
+    let mut map = u8::from(given(random, u32::from(states), 2));
+    let mut chances = Vec::new();
+    for state in 1..states {
+        let p = chance(random, left);
+        left -= p;
+        if given(random, p, 0) {
+            map |= 1 << state;
+            chances.push(p);
+        }
+    }
+    draft.byte(Role::ComponentMap { states }, map);
+    if map & 1 == 1 {
+        draft.byte(Role::StateCount, states);
+    }
+    for p in chances {
+        draft.number(Role::Probability, p);
+    }
+}
+
+/// A mask: mostly of failures alone, sometimes of any states, full ones included.
+fn mask(random: &mut Random, states: u8) -> u8 {
+    let full = (1u8 << states) - 1;
+    let any = random.between(1, usize::from(full)) as u8;
+    match random.below(4) {
+        0 => any,
+        1 => full - 1,
+        _ => 1 << random.between(1, usize::from(states) - 1),
+    }
+}
+
+/// How many inputs of a kind a gate takes, of `most` at most.
+fn how_many(random: &mut Random, most: usize) -> usize {
+    match random.below(20) {
+        0 => most,
+        1..=3 => random.between(0, most),
+        _ => random.between(0, most.min(3)),
+    }
+}
+
+fn gate(random: &mut Random, draft: &mut Draft, counts: &[u8], own: u8) {
+    let inputs = match own {
+        0 => 0,
+        _ => how_many(random, 31),
+    };
+    let tests = how_many(random, 12).max(usize::from(inputs == 0));
+    let all = tests + inputs;
+    let threshold = match random.below(3) {
+        0 => 1,
+        1 => all,
+        _ => random.between(1, all),
+    };
+    let with_threshold = given(random, threshold as u32, 1);
+    let map = u8::from(with_threshold) | u8::from(tests > 0) << 1 | u8::from(inputs > 0) << 2;
+    draft.byte(Role::GateMap, map);
+    if with_threshold {
+        draft.byte(Role::Threshold { inputs: all as u8 }, threshold as u8);
+    }
+    if tests > 0 {
+        draft.byte(Role::TestCount, tests as u8);
+        for _ in 0..tests {
+            let component = random.below(counts.len());
+            let states = counts[component];
+            draft.byte(Role::TestComponent, component as u8);
+            draft.byte(Role::TestMask { states }, mask(random, states));
+        }
+    }
+    if inputs > 0 {
+        draft.byte(Role::InputCount, inputs as u8);
+        for _ in 0..inputs {
+            draft.byte(Role::Input { own }, random.below(usize::from(own)) as u8);
+        }
+    }
+}
+
+/// A number of customers or minutes.
+fn size(random: &mut Random, most: usize) -> u32 {
+    let drawn = match random.below(6) {
+        0 => 0,
+        1 => most,
+        2 => random.between(0, 10),
+        3 => random.between(0, most),
+        _ => random.between(1, 500),
+    };
+    drawn as u32
+}
+
+fn load(random: &mut Random, draft: &mut Draft, gates: usize, customers: u32, minutes: u32) {
+    // Higher gates have more below them.
+    let gate = random.below(gates).max(random.below(gates));
+    let with_gate = !random.once_in(8);
+    let with_customers = given(random, customers, 0);
+    let with_minutes = given(random, minutes, 0);
+    let map = u8::from(with_gate) | u8::from(with_customers) << 1 | u8::from(with_minutes) << 2;
+    draft.byte(Role::LoadMap, map);
+    if with_gate {
+        draft.byte(Role::LossGate, gate as u8);
+    }
+    if with_customers {
+        draft.number(Role::Customers, customers);
+    }
+    if with_minutes {
+        draft.number(Role::Minutes, minutes);
+    }
+}
+
+/// A study whose components have these state counts.
+pub fn with_states(random: &mut Random, shape: &Shape, counts: &[u8]) -> Draft {
+    let gates = random.between(1, shape.gates);
+    let loads = random.between(1, 8);
+    let mut draft = Draft::default();
+    draft.byte(Role::ComponentCount, counts.len() as u8);
+    draft.byte(Role::GateCount, gates as u8);
+    draft.byte(Role::LoadCount, loads as u8);
+    for &states in counts {
+        component(random, &mut draft, states);
+    }
+    for own in 0..gates {
+        gate(random, &mut draft, counts, own as u8);
+    }
+    let people = random.below(40);
+    for j in 0..loads {
+        let (customers, minutes) = match people {
+            0..=4 => (0, size(random, 20_000)),
+            5 | 6 => (100_000, 20_000),
+            // One customer in all, so that the smallest loss counts.
+            7 | 8 => (u32::from(j == 0), size(random, 20_000)),
+            _ => (size(random, 100_000), size(random, 20_000)),
+        };
+        load(random, &mut draft, gates, customers, minutes);
+    }
+    draft
+}
+
+/// State counts that make 4,096 joint states, which is as many as there may be.
+fn widest_counts(random: &mut Random) -> Vec<u8> {
+    let mut counts = Vec::new();
+    let mut left = 4096;
+    while left > 1 {
+        let states = if left == 2 { 2 } else { random.pick(&[2, 4]) };
+        left /= usize::from(states);
+        counts.push(states);
+    }
+    counts
+}
+
+pub fn sound(random: &mut Random) -> Draft {
+    let shape = shape(random);
+    let counts = if random.once_in(800) {
+        widest_counts(random)
+    } else {
+        state_counts(random, &shape)
+    };
+    with_states(random, &shape, &counts)
+}

@@ -1,0 +1,135 @@
+//! The calls of the proved library, made safe. The only unsafe code stands here.
+
+/// The bytes of a study's image.
+pub const STUDY_BYTES: usize = 2087;
+
+/// A result, or the number of the refusal table by which the call was refused.
+pub type Answer<T> = Result<T, u8>;
+
+extern "C" {
+    fn grid_open(bytes: *const u8, size: usize, study: *mut u8, room: usize) -> i64;
+    fn grid_set_probabilities(
+        study: *mut u8,
+        size: usize,
+        component: usize,
+        p1: u32,
+        p2: u32,
+        p3: u32,
+    ) -> i64;
+    fn grid_set_customers(study: *mut u8, size: usize, load: usize, customers: u32) -> i64;
+    fn grid_set_minutes(study: *mut u8, size: usize, load: usize, minutes: u32) -> i64;
+    fn grid_list_paths(study: *const u8, size: usize, buffer: *mut u8, room: usize) -> i64;
+    fn grid_path_bounds(
+        study: *const u8,
+        size: usize,
+        lower: *mut u64,
+        lower_room: usize,
+        upper: *mut u64,
+        upper_room: usize,
+    ) -> i64;
+    fn grid_class_bounds(
+        study: *const u8,
+        size: usize,
+        lower: *mut u64,
+        lower_room: usize,
+        upper: *mut u64,
+        upper_room: usize,
+    ) -> i64;
+    fn grid_load_bounds(
+        study: *const u8,
+        size: usize,
+        load: usize,
+        lower: *mut u64,
+        upper: *mut u64,
+    ) -> i64;
+    fn grid_figures(study: *const u8, size: usize, figures: *mut u64, room: usize) -> i64;
+    fn grid_loads_lost(class: u8) -> i64;
+    fn grid_report(bytes: *const u8, size: usize, text: *mut u8, room: usize) -> i64;
+}
+
+/// The library answers a count or 0, and a refusal as its number below 0.
+fn answer(number: i64) -> Answer<usize> {
+    match usize::try_from(number) {
+        Ok(count) => Ok(count),
+        Err(_) => Err(u8::try_from(-number).expect("a refusal has a number of the table")),
+    }
+}
+
+// Each pointer below stands beside the length of the slice that it is taken from, and a slice lent to be written is borrowed alone.
+
+pub fn open(bytes: &[u8], study: &mut [u8]) -> Answer<usize> {
+    answer(unsafe { grid_open(bytes.as_ptr(), bytes.len(), study.as_mut_ptr(), study.len()) })
+}
+
+pub fn set_probabilities(study: &mut [u8], component: usize, p: [u32; 3]) -> Answer<usize> {
+    let (place, size) = (study.as_mut_ptr(), study.len());
+    answer(unsafe { grid_set_probabilities(place, size, component, p[0], p[1], p[2]) })
+}
+
+pub fn set_customers(study: &mut [u8], load: usize, customers: u32) -> Answer<usize> {
+    answer(unsafe { grid_set_customers(study.as_mut_ptr(), study.len(), load, customers) })
+}
+
+pub fn set_minutes(study: &mut [u8], load: usize, minutes: u32) -> Answer<usize> {
+    answer(unsafe { grid_set_minutes(study.as_mut_ptr(), study.len(), load, minutes) })
+}
+
+pub fn list_paths(study: &[u8], buffer: &mut [u8]) -> Answer<usize> {
+    answer(unsafe {
+        grid_list_paths(
+            study.as_ptr(),
+            study.len(),
+            buffer.as_mut_ptr(),
+            buffer.len(),
+        )
+    })
+}
+
+pub fn path_bounds(study: &[u8], lower: &mut [u64], upper: &mut [u64]) -> Answer<usize> {
+    answer(unsafe {
+        grid_path_bounds(
+            study.as_ptr(),
+            study.len(),
+            lower.as_mut_ptr(),
+            lower.len(),
+            upper.as_mut_ptr(),
+            upper.len(),
+        )
+    })
+}
+
+pub fn class_bounds(study: &[u8], lower: &mut [u64], upper: &mut [u64]) -> Answer<usize> {
+    answer(unsafe {
+        grid_class_bounds(
+            study.as_ptr(),
+            study.len(),
+            lower.as_mut_ptr(),
+            lower.len(),
+            upper.as_mut_ptr(),
+            upper.len(),
+        )
+    })
+}
+
+pub fn load_bounds(study: &[u8], load: usize, lower: &mut u64, upper: &mut u64) -> Answer<usize> {
+    answer(unsafe { grid_load_bounds(study.as_ptr(), study.len(), load, lower, upper) })
+}
+
+pub fn figures(study: &[u8], figures: &mut [u64]) -> Answer<usize> {
+    answer(unsafe {
+        grid_figures(
+            study.as_ptr(),
+            study.len(),
+            figures.as_mut_ptr(),
+            figures.len(),
+        )
+    })
+}
+
+pub fn loads_lost(class: u8) -> Answer<usize> {
+    answer(unsafe { grid_loads_lost(class) })
+}
+
+pub fn report(bytes: &[u8], text: &mut [u8]) -> Answer<usize> {
+    answer(unsafe { grid_report(bytes.as_ptr(), bytes.len(), text.as_mut_ptr(), text.len()) })
+}

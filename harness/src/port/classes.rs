@@ -1,0 +1,60 @@
+//! The class table: the class of each joint state, by its number.
+use super::study::*;
+
+fn test_true(mask: u8, state: u8) -> bool {
+    mask >> state & 1 == 1
+}
+
+fn gate_true(gate: &Gate, joint: &[u8], truths: &[bool; GATE_PLACES]) -> bool {
+    let tests = usize::from(gate.tests);
+    let true_tests = gate.component[..tests]
+        .iter()
+        .zip(&gate.mask[..tests])
+        .filter(|&(&component, &mask)| test_true(mask, joint[usize::from(component)]))
+        .count();
+    let true_gates = gate.input[..usize::from(gate.gates)]
+        .iter()
+        .filter(|&&input| truths[usize::from(input)])
+        .count();
+    true_tests + true_gates >= usize::from(gate.threshold)
+}
+
+/// The truths of the gates, in order: a gate has only lower ones as inputs.
+fn gate_truths(gates: &[Gate], joint: &[u8]) -> [bool; GATE_PLACES] {
+    let mut truths = [false; GATE_PLACES];
+    for (i, gate) in gates.iter().enumerate() {
+        truths[i] = gate_true(gate, joint, &truths);
+    }
+    truths
+}
+
+fn class_by(truths: &[bool; GATE_PLACES], loads: &[Load]) -> u8 {
+    let mut class = 0;
+    for (j, load) in loads.iter().enumerate() {
+        let lost = load.gate != NEVER && truths[usize::from(load.gate)];
+        class |= u8::from(lost) << j;
+    }
+    class
+}
+
+/// Moves a joint state on to the next; behind the last comes the first again.
+fn next_joint_state(counts: &[u8], joint: &mut [u8]) {
+    for (state, &count) in joint.iter_mut().zip(counts).rev() {
+        if *state + 1 < count {
+            *state += 1;
+            return;
+        }
+        *state = 0;
+    }
+}
+
+pub fn class_table(study: &Study, counts: &[u8], joint_states: usize) -> [u8; MOST_JOINT_STATES] {
+    let mut table = [0; MOST_JOINT_STATES];
+    let mut places = [0; COMPONENT_PLACES];
+    let joint = &mut places[..counts.len()];
+    for class in &mut table[..joint_states] {
+        *class = class_by(&gate_truths(study.gates(), joint), study.loads());
+        next_joint_state(counts, joint);
+    }
+    table
+}

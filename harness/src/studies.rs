@@ -1,0 +1,54 @@
+//! Studies written as hexadecimal text: blanks do not count, and a `#` starts a comment.
+use std::fs;
+use std::path::{Path, PathBuf};
+
+/// A study of the folder `studies`, and the report that stands beside it.
+pub struct Written {
+    pub name: String,
+    pub bytes: Vec<u8>,
+    pub report: String,
+}
+
+/// The bytes of a commented hexadecimal text.
+pub fn from_hexadecimal(text: &str) -> Vec<u8> {
+    let lines = text
+        .lines()
+        .map(|line| line.split('#').next().unwrap_or(""));
+    let digits: Vec<u32> = lines
+        .flat_map(str::chars)
+        .filter(|c| !c.is_whitespace())
+        .map(|c| c.to_digit(16).expect("a hexadecimal digit"))
+        .collect();
+    assert!(digits.len().is_multiple_of(2), "half a byte is missing");
+    digits
+        .chunks(2)
+        .map(|pair| (pair[0] * 16 + pair[1]) as u8)
+        .collect()
+}
+
+/// The same text without comments, on one line.
+pub fn to_hexadecimal(bytes: &[u8]) -> String {
+    let each: Vec<String> = bytes.iter().map(|byte| format!("{byte:02X}")).collect();
+    each.join(" ")
+}
+
+fn written(path: PathBuf) -> Written {
+    let text = fs::read_to_string(&path).expect("a study");
+    let report = fs::read_to_string(path.with_extension("report")).expect("its report");
+    Written {
+        name: path.display().to_string(),
+        bytes: from_hexadecimal(&text),
+        report,
+    }
+}
+
+/// All studies of the folder.
+pub fn all() -> Vec<Written> {
+    let folder = Path::new(env!("CARGO_MANIFEST_DIR")).join("../studies");
+    let files = fs::read_dir(folder).expect("the folder of studies");
+    files
+        .map(|file| file.expect("a file").path())
+        .filter(|path| path.extension().is_some_and(|end| end == "hex"))
+        .map(written)
+        .collect()
+}

@@ -1,0 +1,120 @@
+//! Compares every call of the proved library with the second implementation, on generated inputs: sound, damaged and altered studies.
+//! The words behind `cargo test --test comparison --` may be another number of inputs, and another first seed.
+mod lent;
+mod pair;
+mod tally;
+
+use harness::generate::{self, Random};
+use pair::Pair;
+use std::env;
+use tally::Tally;
+
+const INPUTS: u64 = 20_000;
+const FIRST_SEED: u64 = 0;
+
+/// Each refusal must be met this often, or the inputs say too little about it.
+const EACH_REFUSAL: usize = 50;
+
+/// Items that studies have, and others that they lack.
+fn item(random: &mut Random, image: &[u8], count_at: usize) -> usize {
+    let count = usize::from(image[count_at]);
+    match random.below(4) {
+        0 => random.pick(&[count, count + 1, 12, 255, 256, 1 << 32, usize::MAX]),
+        _ => random.below(count.max(1)),
+    }
+}
+
+fn probability(random: &mut Random) -> u32 {
+    match random.below(6) {
+        0..=2 => 0,
+        3 => random.pick(&[1, 333_333_333, 999_999_999, 1_000_000_000, 1_000_000_001]),
+        4 => random.below(400_000_000) as u32,
+        _ => random.word(),
+    }
+}
+
+fn size(random: &mut Random, most: u32) -> u32 {
+    match random.below(4) {
+        0 => random.pick(&[0, 1, most, most + 1, u32::MAX]),
+        1 => random.word(),
+        _ => random.below(most as usize + 1) as u32,
+    }
+}
+
+/// One to three edits in a row, each on what the one before left.
+fn compare_edits(pair: &mut Pair, random: &mut Random, image: &[u8]) -> Vec<u8> {
+    let mut current = image.to_vec();
+    for _ in 0..random.between(1, 3) {
+        let component = item(random, &current, 0);
+        let load = item(random, &current, 2);
+        current = match random.below(3) {
+            0 => {
+                let p = [(); 3].map(|_| probability(random));
+                pair.set_probabilities(random, &current, component, p)
+            }
+            1 => {
+                let customers = size(random, 100_000);
+                pair.set_customers(random, &current, load, customers)
+            }
+            _ => {
+                let minutes = size(random, 20_000);
+                pair.set_minutes(random, &current, load, minutes)
+            }
+        };
+    }
+    current
+}
+
+/// Every call that asks an image for something.
+fn compare_questions(pair: &mut Pair, random: &mut Random, image: &[u8]) {
+    pair.list_paths(random, image);
+    pair.path_bounds(random, image);
+    pair.class_bounds(random, image);
+    let load = item(random, image, 2);
+    pair.load_bounds(random, image, load);
+    pair.figures(random, image);
+}
+
+fn compare_input(tally: &mut Tally, seed: u64) {
+    let mut random = Random::new(seed);
+    let random = &mut random;
+    let bytes = generate::input(random);
+    let mut pair = Pair::new(seed, &bytes, tally);
+    let (opened, image) = pair.open(random);
+    pair.report(random);
+    compare_questions(&mut pair, random, &image);
+    let edited = compare_edits(&mut pair, random, &image);
+    pair.loads_lost(random.byte());
+    // What is unsound stays so; only a sound image has more to say once it is changed.
+    if opened {
+        compare_questions(&mut pair, random, &edited);
+        for _ in 0..2 {
+            let altered = generate::altered(random, &edited);
+            compare_questions(&mut pair, random, &altered);
+            compare_edits(&mut pair, random, &altered);
+        }
+    }
+}
+
+/// Whether the inputs met enough of what can happen.
+fn assert_enough(tally: &Tally) {
+    assert!(tally.sound * 3 >= tally.inputs, "too few sound studies");
+    for number in 1..=19 {
+        let met = tally.refused[number];
+        assert!(met >= EACH_REFUSAL, "refusal {number} was met {met} times");
+    }
+}
+
+fn main() {
+    let mut numbers = env::args().filter_map(|word| word.parse().ok());
+    let inputs = numbers.next().unwrap_or(INPUTS);
+    let first_seed = numbers.next().unwrap_or(FIRST_SEED);
+    let mut tally = Tally::default();
+    for seed in first_seed..first_seed + inputs {
+        compare_input(&mut tally, seed);
+    }
+    println!("{tally}");
+    if inputs >= INPUTS {
+        assert_enough(&tally);
+    }
+}

@@ -1,0 +1,264 @@
+//! One input under both implementations: each call is made twice on equal space, and everything must be alike afterwards.
+use crate::lent::{room, Lent};
+use crate::tally::Tally;
+use harness::desk::calls as desk;
+use harness::desk::{image, losses::Losses, paths, report};
+use harness::generate::Random;
+use harness::library::{self, STUDY_BYTES};
+use harness::studies::to_hexadecimal;
+use std::fmt::Debug;
+
+type Answer = Result<usize, u8>;
+
+/// The bytes that hold an image: mostly as many as it needs, some with more behind, and some too few for it.
+fn shown(random: &mut Random, image: &[u8]) -> Lent<u8> {
+    let size = match random.below(16) {
+        0 => random.pick(&[0, 3, STUDY_BYTES - 1]),
+        1 => STUDY_BYTES + random.between(1, 40),
+        _ => STUDY_BYTES,
+    };
+    Lent::image(random, image, size)
+}
+
+/// How many paths an image has, and how wide their entries are; none where it is unsound.
+fn list_size(shown: &[u8]) -> (usize, usize) {
+    match image::read(shown) {
+        None => (0, 0),
+        Some(study) => {
+            let list = paths::paths(&Losses::of(&study));
+            (list.len(), study.components.len() + 1)
+        }
+    }
+}
+
+/// Two slices for bounds: half of the pairs have the room that is needed.
+fn two_slices(random: &mut Random, need: usize) -> (Lent<u64>, Lent<u64>) {
+    let rooms = match random.below(2) {
+        0 => [need, need],
+        _ => [(); 2].map(|_| room(random, need)),
+    };
+    (Lent::words(random, rooms[0]), Lent::words(random, rooms[1]))
+}
+
+/// What both made of a call.
+struct Agreed<L> {
+    answer: Answer,
+    lent: L,
+}
+
+pub struct Pair<'a> {
+    seed: u64,
+    bytes: &'a [u8],
+    tally: &'a mut Tally,
+}
+
+impl<'a> Pair<'a> {
+    pub fn new(seed: u64, bytes: &'a [u8], tally: &'a mut Tally) -> Pair<'a> {
+        tally.inputs += 1;
+        Pair { seed, bytes, tally }
+    }
+
+    /// Makes a call twice, on two copies of what is lent, and hands back the answer and the space.
+    fn compare<L: Clone + PartialEq + Debug>(
+        &mut self,
+        call: &str,
+        lent: L,
+        proved: impl Fn(&mut L) -> Answer,
+        second: impl Fn(&mut L) -> Answer,
+    ) -> Agreed<L> {
+        let (mut ours, mut theirs) = (lent.clone(), lent.clone());
+        let found = proved(&mut ours);
+        let due = second(&mut theirs);
+        if found != due || ours != theirs {
+            println!("seed {}: {call}", self.seed);
+            println!("study:  {}", to_hexadecimal(self.bytes));
+            println!("lent:   {lent:?}");
+            println!("proved: {ours:?}");
+            println!("second: {theirs:?}");
+            panic!("{call}: {found:?} where {due:?} is due, or what was lent differs");
+        }
+        self.tally.count(due);
+        Agreed {
+            answer: due,
+            lent: theirs,
+        }
+    }
+
+    /// Whether the study opens, and its image; where it does not, zeros or what stood in the space.
+    pub fn open(&mut self, random: &mut Random) -> (bool, Vec<u8>) {
+        let bytes = self.bytes;
+        let mut opened = (Err(0), vec![0; STUDY_BYTES]);
+        for room in [room(random, STUDY_BYTES), STUDY_BYTES] {
+            let both = self.compare(
+                &format!("open into {room} bytes"),
+                Lent::bytes(random, room),
+                |lent| library::open(bytes, lent.room()),
+                |lent| desk::open(bytes, lent.room()),
+            );
+            opened = (both.answer, both.lent.held().to_vec());
+        }
+        let (answer, image) = opened;
+        self.tally.sound += usize::from(answer.is_ok());
+        if answer.is_err() && random.once_in(2) {
+            return (false, vec![0; STUDY_BYTES]);
+        }
+        (answer.is_ok(), image)
+    }
+
+    pub fn report(&mut self, random: &mut Random) {
+        let bytes = self.bytes;
+        let need = report::report(bytes).len();
+        for room in [room(random, need), need] {
+            self.compare(
+                &format!("report into {room} bytes"),
+                Lent::bytes(random, room),
+                |lent| library::report(bytes, lent.room()),
+                |lent| desk::report(bytes, lent.room()),
+            );
+        }
+    }
+
+    /// An edit, and the image that it leaves.
+    fn edit(
+        &mut self,
+        random: &mut Random,
+        image: &[u8],
+        call: &str,
+        proved: impl Fn(&mut [u8]) -> Answer,
+        second: impl Fn(&mut [u8]) -> Answer,
+    ) -> Vec<u8> {
+        let both = self.compare(
+            call,
+            shown(random, image),
+            |lent| proved(lent.room()),
+            |lent| second(lent.room()),
+        );
+        match both.lent.held().get(..STUDY_BYTES) {
+            Some(left) => left.to_vec(),
+            None => image.to_vec(),
+        }
+    }
+
+    pub fn set_probabilities(
+        &mut self,
+        random: &mut Random,
+        image: &[u8],
+        component: usize,
+        p: [u32; 3],
+    ) -> Vec<u8> {
+        self.edit(
+            random,
+            image,
+            &format!("set probabilities of {component} to {p:?}"),
+            |image| library::set_probabilities(image, component, p),
+            |image| desk::set_probabilities(image, component, p),
+        )
+    }
+
+    pub fn set_customers(
+        &mut self,
+        random: &mut Random,
+        image: &[u8],
+        load: usize,
+        customers: u32,
+    ) -> Vec<u8> {
+        self.edit(
+            random,
+            image,
+            &format!("set customers of {load} to {customers}"),
+            |image| library::set_customers(image, load, customers),
+            |image| desk::set_customers(image, load, customers),
+        )
+    }
+
+    pub fn set_minutes(
+        &mut self,
+        random: &mut Random,
+        image: &[u8],
+        load: usize,
+        minutes: u32,
+    ) -> Vec<u8> {
+        self.edit(
+            random,
+            image,
+            &format!("set minutes of {load} to {minutes}"),
+            |image| library::set_minutes(image, load, minutes),
+            |image| desk::set_minutes(image, load, minutes),
+        )
+    }
+
+    pub fn list_paths(&mut self, random: &mut Random, image: &[u8]) {
+        let image = shown(random, image);
+        let (paths, width) = list_size(image.held());
+        let need = paths * width;
+        for room in [room(random, need), need] {
+            self.compare(
+                &format!("list paths into {room} bytes"),
+                (image.clone(), Lent::bytes(random, room)),
+                |(image, lent)| library::list_paths(image.held(), lent.room()),
+                |(image, lent)| desk::list_paths(image.held(), lent.room()),
+            );
+        }
+    }
+
+    pub fn path_bounds(&mut self, random: &mut Random, image: &[u8]) {
+        let image = shown(random, image);
+        let (paths, _) = list_size(image.held());
+        let (lower, upper) = two_slices(random, paths);
+        self.compare(
+            "bound paths",
+            (image, lower, upper),
+            |(image, lower, upper)| library::path_bounds(image.held(), lower.room(), upper.room()),
+            |(image, lower, upper)| desk::path_bounds(image.held(), lower.room(), upper.room()),
+        );
+    }
+
+    pub fn class_bounds(&mut self, random: &mut Random, image: &[u8]) {
+        let image = shown(random, image);
+        let (lower, upper) = two_slices(random, 256);
+        self.compare(
+            "bound classes",
+            (image, lower, upper),
+            |(image, lower, upper)| library::class_bounds(image.held(), lower.room(), upper.room()),
+            |(image, lower, upper)| desk::class_bounds(image.held(), lower.room(), upper.room()),
+        );
+    }
+
+    pub fn load_bounds(&mut self, random: &mut Random, image: &[u8], load: usize) {
+        let image = shown(random, image);
+        let (lower, upper) = (Lent::words(random, 1), Lent::words(random, 1));
+        self.compare(
+            &format!("bound load {load}"),
+            (image, lower, upper),
+            |(image, lower, upper)| {
+                let (lower, upper) = (&mut lower.room()[0], &mut upper.room()[0]);
+                library::load_bounds(image.held(), load, lower, upper)
+            },
+            |(image, lower, upper)| {
+                let (lower, upper) = (&mut lower.room()[0], &mut upper.room()[0]);
+                desk::load_bounds(image.held(), load, lower, upper)
+            },
+        );
+    }
+
+    pub fn figures(&mut self, random: &mut Random, image: &[u8]) {
+        let image = shown(random, image);
+        for room in [room(random, 6), 6] {
+            self.compare(
+                &format!("figures into {room} places"),
+                (image.clone(), Lent::words(random, room)),
+                |(image, lent)| library::figures(image.held(), lent.room()),
+                |(image, lent)| desk::figures(image.held(), lent.room()),
+            );
+        }
+    }
+
+    pub fn loads_lost(&mut self, class: u8) {
+        self.compare(
+            &format!("loads lost in class {class}"),
+            (),
+            |()| library::loads_lost(class),
+            |()| desk::loads_lost(class),
+        );
+    }
+}

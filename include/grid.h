@@ -1,0 +1,71 @@
+/* The calls of the planning package for C. Link target/staticlib/libexports.a.
+ *
+ * A slice is a pointer and its length in elements. A call answers a count or 0, or a refusal as its number below 0; the numbers are those of
+ * the refusal table. Where a call is refused, nothing lent is touched. No call keeps a pointer, and lent slices must not overlap.
+ */
+#ifndef GRID_H
+#define GRID_H
+
+#include <stddef.h>
+#include <stdint.h>
+
+/* The bytes of a study's image; a slice with fewer is refused by 16, and bytes behind them are never touched. */
+#define GRID_STUDY_BYTES 2087
+
+/* Room for any list of paths: 4,096 entries of 13 bytes. */
+#define GRID_LIST_BYTES 53248
+
+/* Room for any report. */
+#define GRID_REPORT_BYTES 180224
+
+/* The places that class bounds need in each slice. */
+#define GRID_CLASS_PLACES 256
+
+/* The places that the figures need. */
+#define GRID_FIGURE_PLACES 6
+
+#ifdef __cplusplus
+extern "C" {
+#endif
+
+/* Opens the bytes of a study and writes its image at the front of `study`. Answers 0. Refused by 1 to 15, then 18. */
+int64_t grid_open(const uint8_t *bytes, size_t bytes_len, uint8_t *study, size_t study_len);
+
+/* Sets the probabilities of states 1 to 3 of a component. Answers 0. Refused by 16, 17, 5, 6. */
+int64_t grid_set_probabilities(uint8_t *study, size_t study_len, size_t component, uint32_t p1, uint32_t p2, uint32_t p3);
+
+/* Sets the customers of a load. Answers 0. Refused by 16, 17, 14. */
+int64_t grid_set_customers(uint8_t *study, size_t study_len, size_t load, uint32_t customers);
+
+/* Sets the restore time of a load in minutes. Answers 0. Refused by 16, 17, 14. */
+int64_t grid_set_minutes(uint8_t *study, size_t study_len, size_t load, uint32_t minutes);
+
+/* Lists the paths at the front of `buffer`: for each a byte per component, its state or 255 for blank, then the class.
+ * Answers the number of paths. Refused by 16, 18. */
+int64_t grid_list_paths(const uint8_t *study, size_t study_len, uint8_t *buffer, size_t buffer_len);
+
+/* Writes the bounds of each path, in units of a billionth, at the front of both slices. Answers the number of paths. Refused by 16, 18. */
+int64_t grid_path_bounds(const uint8_t *study, size_t study_len, uint64_t *lower, size_t lower_len, uint64_t *upper, size_t upper_len);
+
+/* Writes the bounds of each class at places 0 to 255 of both slices, 0 for a class that does not occur. Answers 0. Refused by 16, 18. */
+int64_t grid_class_bounds(const uint8_t *study, size_t study_len, uint64_t *lower, size_t lower_len, uint64_t *upper, size_t upper_len);
+
+/* Writes the bounds for the loss of a load. Answers 0. Refused by 16, 17. */
+int64_t grid_load_bounds(const uint8_t *study, size_t study_len, size_t load, uint64_t *lower, uint64_t *upper);
+
+/* Writes the lower and the upper bound of SAIFI (units), SAIDI (billionths of a minute) and CAIDI (minutes) at places 0 to 5.
+ * Answers 3, or 2 where CAIDI is not stated and places 4 and 5 keep what they held. Refused by 16, 18, 19. */
+int64_t grid_figures(const uint8_t *study, size_t study_len, uint64_t *figures, size_t figures_len);
+
+/* How many loads are lost in a class: the ones of its byte. */
+int64_t grid_loads_lost(uint8_t class_);
+
+/* Writes the report of the bytes of a study; a study that does not open has a report of one line. Answers its number of bytes.
+ * Refused by 18 alone. */
+int64_t grid_report(const uint8_t *bytes, size_t bytes_len, uint8_t *text, size_t text_len);
+
+#ifdef __cplusplus
+}
+#endif
+
+#endif
