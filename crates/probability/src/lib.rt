@@ -4,8 +4,11 @@ mod chances;
 mod path;
 mod totals;
 
+pub use chances::CHANCE_PLACES;
 pub use chances::chance_table;
+pub use path::path_bound;
 pub use totals::SUMS_MOST;
 pub use totals::class_totals;
+pub use totals::entry_at;
 pub use totals::load_totals;
 pub use totals::path_bounds;

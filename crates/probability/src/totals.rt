@@ -20,7 +20,7 @@ const CLASS_PLACES: usize = 256;
 pub const SUMS_MOST: u64 = 4096000000000;
 
 // The k-th entry of a list whose entries have n components.
-fn entry_at(list: &[u8], n: usize, k: usize) -> &[u8]
+pub fn entry_at(list: &[u8], n: usize, k: usize) -> &[u8]
     requires { ⌜ k * (n + 1) + (n + 1) ≤ length (now list) ⌝ }
     ensures { λ r. ⌜ now r ≡ take (n + 1) (drop (k * (n + 1)) (now (list .entry))) ⌝ }
 {

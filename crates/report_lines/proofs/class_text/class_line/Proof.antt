@@ -1,0 +1,32 @@
+-- `report_lines::class_text::class_line` meets its contract, for a class that occurs and for one that does not.
+use mathlib.Core.Path.{sym}
+use native.Mathlib.Omega.{arith}
+use borrow.Author.Tests.{eq-eqb, ne-eqb}
+use Rattle.text.proofs.Pieces.{wrote-none}
+use Rattle.report_lines.specs.Classes.{classLine}
+use borrow.Author.Needs.{needs}
+use Rattle.report_lines.proofs.class_text.class_line.Statement.{statement}
+use Rattle.report_lines.proofs.class_text.class_line.Tie as tie
+use Rattle.text.proofs.item_line.Reads as item-line-reads
+
+returns : tie.Need-returns
+unfolding classLine
+returns c = rw (eq-eqb _ 0 (c .if1 .taken)) (wrote-none _ _ (omega (arith, c .before .before .pre .fits)))
+
+slice-aggregate-item-line : tie.Need-slice-aggregate-item-line
+slice-aggregate-item-line c = search needs
+
+item-line-requires : tie.Need-item-line-requires
+unfolding classLine
+item-line-requires c κs = rw (ne-eqb _ 0 (c .before .before .if1 .left)) at (c .before .before .before .before .pre)
+
+same-length : tie.Need-same-length
+same-length c = search needs
+
+returns-2 : tie.Need-returns-2
+unfolding classLine
+returns-2 c = rw (ne-eqb _ 0 (c .before .before .before .before .before .if1 .left)) (c .before .before .item-line .ensures)
+
+pub class-line-spec : {M : Type 1} → statement M
+class-line-spec =
+    tie.close (tie.spec returns slice-aggregate-item-line item-line-requires same-length returns-2)

@@ -1,0 +1,90 @@
+-- `report_lines::class_text::class_lines` meets its contract. The lines of the classes below c are written (`Tabled`).
+use Prim.Native.Nat.{ℕ, _-_, _<_}
+use mathlib.Core.Path.{_≡_}
+use mathlib.Core.List.{List, []}
+use native.Mathlib.Omega.{arith}
+use lib.ListN.{length, getD}
+use Rattle.lists.specs.Tabulate.{tabulate}
+use Rattle.lists.proofs.Tabulated.{length-tabulate, getD-tabulate}
+use Rattle.text.proofs.Pieces.{Tabled, tabled-start, tabled-room, tabled-more, tabled-size, tabled-done}
+use Rattle.probability.specs.Totals.{classPlaces}
+use Rattle.report_lines.specs.Classes.{classLine, classLines}
+use borrow.Author.Needs.{needs}
+use Rattle.report_lines.proofs.class_text.class_lines.Statement.{statement}
+use Rattle.report_lines.proofs.class_text.class_lines.Tie as tie
+use Rattle.report_lines.proofs.class_text.class_line.Reads as class-line-reads
+
+-- the line of class c, from tables by class
+abbrev line : List ℕ → List ℕ → List ℕ → ℕ → List ℕ
+line paths lower upper c = classLine (getD paths c 0) c (getD lower c 0) (getD upper c 0)
+
+abbrev Inv-loop : tie.InvT-loop
+Inv-loop out₀ at paths lower upper place₀ c₀ out place c = Tabled (line paths lower upper) classPlaces out₀ at c out place
+
+abbrev μ-loop : tie.MeasureT-loop
+μ-loop out₀ at paths lower upper place₀ c₀ out place c = classPlaces - c
+
+loop-holds : tie.Need-loop-holds Inv-loop μ-loop
+unfolding classLines
+loop-holds c = tabled-start _ _ (c .before .before .before .before .pre .1 .1 .1)
+
+mul-class-line : tie.Need-mul-class-line Inv-loop μ-loop
+mul-class-line c = record { fits = omega (arith, c .before .loop-test .taken) }
+
+shared-slice-read-class-line : tie.Need-shared-slice-read-class-line Inv-loop μ-loop
+shared-slice-read-class-line c = omega (arith, c .before .before .loop-test .taken, c .before .before .before .before .before .before .before .before .pre .0)
+
+mul-class-line-2 : tie.Need-mul-class-line-2 Inv-loop μ-loop
+mul-class-line-2 c = record { fits = omega (arith, c .before .before .loop-test .taken) }
+
+shared-slice-read-class-line-2 : tie.Need-shared-slice-read-class-line-2 Inv-loop μ-loop
+shared-slice-read-class-line-2 c = omega (arith, c .before .before .before .loop-test .taken, c .before .before .before .before .before .before .before .before .before .pre .1 .0)
+
+mul-class-line-3 : tie.Need-mul-class-line-3 Inv-loop μ-loop
+mul-class-line-3 c = record { fits = omega (arith, c .before .before .before .loop-test .taken) }
+
+shared-slice-read-class-line-3 : tie.Need-shared-slice-read-class-line-3 Inv-loop μ-loop
+shared-slice-read-class-line-3 c = omega (arith, c .before .before .before .before .loop-test .taken, c .before .before .before .before .before .before .before .before .before .before .pre .1 .1 .0)
+
+class-line-requires : tie.Need-class-line-requires Inv-loop μ-loop
+class-line-requires c κs =
+    let taken = c .before .before .before .before .loop-test .taken in
+    tabled-room (c .before .before .before .before .before .loop .inv) taken
+
+add-c : tie.Need-add-c Inv-loop μ-loop
+add-c c = search needs
+
+loop-less : tie.Need-loop-less Inv-loop μ-loop
+loop-less c = omega (arith, c .before .before .before .before .before .before .before .loop-test .taken)
+
+loop-again : tie.Need-loop-again Inv-loop μ-loop
+loop-again c =
+    let taken = c .before .before .before .before .before .before .before .loop-test .taken in
+    tabled-more (c .before .before .before .before .before .before .before .before .loop .inv) taken (c .before .before .class-line .ensures)
+
+same-length : tie.Need-same-length Inv-loop μ-loop
+same-length c = tabled-size (c .before .loop .inv)
+
+returns : tie.Need-returns Inv-loop μ-loop
+unfolding classLines
+returns c = tabled-done (c .before .loop .inv) (c .loop-test .left)
+
+pub class-lines-spec : {M : Type 1} → statement M
+class-lines-spec =
+    tie.close
+    (tie.spec
+    Inv-loop
+    μ-loop
+    loop-holds
+    mul-class-line
+    shared-slice-read-class-line
+    mul-class-line-2
+    shared-slice-read-class-line-2
+    mul-class-line-3
+    shared-slice-read-class-line-3
+    class-line-requires
+    add-c
+    loop-less
+    loop-again
+    same-length
+    returns)

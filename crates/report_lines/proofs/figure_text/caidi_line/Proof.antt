@@ -1,0 +1,57 @@
+-- `report_lines::figure_text::caidi_line` meets its contract, stated or not.
+use mathlib.Core.Path.{sym}
+use Rattle.report_lines.specs.Figures.{caidiLine}
+use borrow.Author.Needs.{needs}
+use Rattle.report_lines.proofs.figure_text.caidi_line.Statement.{statement}
+use Rattle.report_lines.proofs.figure_text.caidi_line.Tie as tie
+use Rattle.text.proofs.copy.Reads as copy-reads
+use Rattle.text.proofs.bounds_line.Reads as bounds-line-reads
+
+enum-known-caidi : tie.Need-enum-known-caidi
+enum-known-caidi c = search needs
+
+slice-aggregate-bounds-line : tie.Need-slice-aggregate-bounds-line
+slice-aggregate-bounds-line c = search needs
+
+bounds-line-requires : tie.Need-bounds-line-requires
+unfolding caidiLine
+bounds-line-requires c κs = rw (c .before .before .before .caidi .given .1) at (c .before .before .before .before .before .before .pre)
+
+enum-told : tie.Need-enum-told
+enum-told c = search needs
+
+slice-aggregate-copy : tie.Need-slice-aggregate-copy
+slice-aggregate-copy c = search needs
+
+copy-requires : tie.Need-copy-requires
+unfolding caidiLine
+copy-requires c κs = rw (c .before .before .enum-told .given .1) at (c .before .before .before .before .before .pre)
+
+same-length : tie.Need-same-length
+same-length c = search needs
+
+returns : tie.Need-returns
+unfolding caidiLine
+returns c = rw (c .before .before .before .before .before .before .caidi .given .1) (c .before .before .bounds-line .ensures)
+
+same-length-2 : tie.Need-same-length-2
+same-length-2 c = search needs
+
+returns-2 : tie.Need-returns-2
+unfolding caidiLine
+returns-2 c = rw (c .before .before .before .before .before .enum-told .given .1) (c .before .before .copy .ensures)
+
+pub caidi-line-spec : {M : Type 1} → statement M
+caidi-line-spec =
+    tie.close
+    (tie.spec
+    enum-known-caidi
+    slice-aggregate-bounds-line
+    bounds-line-requires
+    enum-told
+    slice-aggregate-copy
+    copy-requires
+    same-length
+    returns
+    same-length-2
+    returns-2)

@@ -1,0 +1,67 @@
+-- `report_lines::path_text::path_lines` meets its contract. The lines of the paths below k are written (`Tabled`).
+use Prim.Native.Nat.{_-_}
+use mathlib.Core.Path.{sym}
+use native.Mathlib.Omega.{arith}
+use Rattle.text.proofs.Pieces.{Tabled, tabled-start, tabled-room, tabled-more, tabled-size, tabled-done}
+use Rattle.probability.proofs.Lists.{entry-inside, entry-long}
+use Rattle.report_lines.proofs.Listed.{lineAt, lines-at}
+use borrow.Author.Needs.{needs}
+use Rattle.report_lines.proofs.path_text.path_lines.Statement.{statement}
+use Rattle.report_lines.proofs.path_text.path_lines.Tie as tie
+use Rattle.probability.proofs.entry_at.Reads as entry-at-reads
+use Rattle.report_lines.proofs.path_text.path_line.Reads as path-line-reads
+
+abbrev Inv-loop : tie.InvT-loop
+Inv-loop out₀ at chances n list paths place₀ k₀ out place k = Tabled (lineAt chances n list) paths out₀ at k out place
+
+abbrev μ-loop : tie.MeasureT-loop
+μ-loop out₀ at chances n list paths place₀ k₀ out place k = paths - k
+
+loop-holds : tie.Need-loop-holds Inv-loop μ-loop
+loop-holds c =
+    let start = c .before .before .before in
+    tabled-start _ _ (rw (lines-at (start .args .chances .now) (start .args .n) (start .args .list .now) (start .args .paths)) at (start .pre .1 .1))
+
+entry-at-requires : tie.Need-entry-at-requires Inv-loop μ-loop
+entry-at-requires c κs = entry-inside (c .before .before .before .before .before .before .pre .1 .0) (c .before .loop-test .taken)
+
+path-line-requires : tie.Need-path-line-requires Inv-loop μ-loop
+path-line-requires c κs =
+    let pre = c .before .before .before .before .before .before .before .pre in
+    let taken = c .before .before .loop-test .taken in
+    let entry = c .entry-at .ensures in
+    (pre .0, (pre .1 .0 .components, (entry-long (pre .1 .0) _ taken entry, rw entry (tabled-room (c .before .before .before .loop .inv) taken))))
+
+add-k : tie.Need-add-k Inv-loop μ-loop
+add-k c = search needs
+
+loop-less : tie.Need-loop-less Inv-loop μ-loop
+loop-less c = omega (arith, c .before .before .before .before .before .loop-test .taken)
+
+loop-again : tie.Need-loop-again Inv-loop μ-loop
+loop-again c =
+    let taken = c .before .before .before .before .before .loop-test .taken in
+    tabled-more (c .before .before .before .before .before .before .loop .inv) taken (rw (c .before .before .before .entry-at .ensures) at (c .before .before .path-line .ensures))
+
+same-length : tie.Need-same-length Inv-loop μ-loop
+same-length c = tabled-size (c .before .loop .inv)
+
+returns : tie.Need-returns Inv-loop μ-loop
+returns c =
+    let start = c .before .before .before .before .before in
+    rw (lines-at (start .args .chances .now) (start .args .n) (start .args .list .now) (start .args .paths)) (tabled-done (c .before .loop .inv) (c .loop-test .left))
+
+pub path-lines-spec : {M : Type 1} → statement M
+path-lines-spec =
+    tie.close
+    (tie.spec
+    Inv-loop
+    μ-loop
+    loop-holds
+    entry-at-requires
+    path-line-requires
+    add-k
+    loop-less
+    loop-again
+    same-length
+    returns)

@@ -1,0 +1,28 @@
+-- The lines of the three figures, or the one that stands in their place.
+use Prim.Native.Nat.{ℕ}
+use mathlib.Core.List.{List, [], _∷_}
+use Rattle.lists.specs.Rows.{joined}
+use Rattle.text.specs.Letters.{letters}
+use Rattle.text.specs.Lines.{numberLine, boundsLine}
+use Rattle.indices.specs.declared.figures.Caidi.{Caidi}
+use Rattle.indices.specs.declared.figures.Caidi.the-variants.{Bounds, NotStated}
+use Rattle.indices.specs.declared.figures.Figures.{Figures as Triple}
+use Rattle.evaluation.specs.declared.three_figures.FiguresAnswer.{FiguresAnswer}
+use Rattle.evaluation.specs.declared.three_figures.FiguresAnswer.the-variants.{Figures, Refused}
+
+unfoldable pub caidiLine : Caidi → List ℕ
+caidiLine (Bounds b) = boundsLine (letters "CAIDI") (b .lower) (b .upper)
+caidiLine NotStated = letters "CAIDI none\n"
+
+unfoldable pub tripleLines : Triple → List ℕ
+tripleLines f =
+    joined
+    (boundsLine (letters "SAIFI") (f .saifi .lower) (f .saifi .upper)
+    ∷ boundsLine (letters "SAIDI") (f .saidi .lower) (f .saidi .upper)
+    ∷ caidiLine (f .caidi)
+    ∷ [])
+
+-- refusal 19 stands in the place of all three
+unfoldable pub figureLines : FiguresAnswer → List ℕ
+figureLines (Figures f) = tripleLines f
+figureLines (Refused n) = numberLine (letters "INDICES") n

@@ -1,0 +1,4 @@
+pub mod Classes
+pub mod Figures
+pub mod Loads
+pub mod Paths

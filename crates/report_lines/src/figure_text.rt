@@ -1,0 +1,45 @@
+// The lines of the three figures.
+use evaluation::FiguresAnswer;
+use indices::Caidi;
+use indices::Figures;
+use text::bounds_line;
+use text::copy;
+use text::number_line;
+ghost use mathlib.Core.Path.{_≡_};
+ghost use Rattle.text.specs.Writing.{Room, Wrote};
+ghost use Rattle.report_lines.specs.Figures.{caidiLine, tripleLines, figureLines};
+
+// Writes the line of CAIDI.
+fn caidi_line(out: &mut [u8], at: usize, caidi: Caidi) -> usize
+    requires { ⌜ Room (now out) at (caidiLine caidi) ⌝ }
+    ensures { λ r. ⌜ Wrote (now (out .entry)) at (caidiLine caidi) (now (out .exit)) r ⌝ }
+{
+    match caidi {
+        Caidi::Bounds(b) => bounds_line(out, at, b"CAIDI", b.lower, b.upper),
+        Caidi::NotStated => copy(out, at, b"CAIDI none\n"),
+    }
+}
+
+// Writes the lines of the three figures.
+fn triple_lines(out: &mut [u8], at: usize, f: Figures) -> usize
+    requires { ⌜ Room (now out) at (tripleLines f) ⌝ }
+    ensures { λ r. ⌜ Wrote (now (out .entry)) at (tripleLines f) (now (out .exit)) r ⌝ }
+{
+    let saifi = f.saifi;
+    let saidi = f.saidi;
+    let caidi = f.caidi;
+    let second = bounds_line(out, at, b"SAIFI", saifi.lower, saifi.upper);
+    let third = bounds_line(out, second, b"SAIDI", saidi.lower, saidi.upper);
+    caidi_line(out, third, caidi)
+}
+
+// Writes the lines of the figures, or the one that stands in their place.
+pub fn figure_lines(out: &mut [u8], at: usize, answer: FiguresAnswer) -> usize
+    requires { ⌜ Room (now out) at (figureLines answer) ⌝ }
+    ensures { λ r. ⌜ Wrote (now (out .entry)) at (figureLines answer) (now (out .exit)) r ⌝ }
+{
+    match answer {
+        FiguresAnswer::Figures(f) => triple_lines(out, at, f),
+        FiguresAnswer::Refused(n) => number_line(out, at, b"INDICES", n as u64),
+    }
+}

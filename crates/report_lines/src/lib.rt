@@ -1,0 +1,14 @@
+// The lines of a report, from lists, tables and figures that are worked out already. Each function writes into a lent buffer from a place on and answers
+// the place behind what it wrote; who calls it has the room.
+mod class_text;
+mod figure_text;
+mod load_text;
+mod marks;
+mod path_text;
+
+pub use class_text::CLASS_PLACES;
+pub use class_text::all_bearing;
+pub use class_text::class_lines;
+pub use figure_text::figure_lines;
+pub use load_text::load_lines;
+pub use path_text::path_lines;

@@ -1,0 +1,67 @@
+-- The whole report of a study's bytes.
+use Prim.Native.Nat.{ℕ}
+use mathlib.Core.Bool.{cond}
+use mathlib.Core.List.{List, [], _∷_}
+use lib.Dec.{eqb}
+use lib.ListN.{length}
+use Rattle.lists.specs.Rows.{put, joined}
+use Rattle.text.specs.Letters.{letters}
+use Rattle.text.specs.Lines.{field, numberLine}
+use Rattle.words.specs.Words.{refusalWord}
+use Rattle.rules.specs.Table.{roomFault}
+use Rattle.study.specs.declared.Outcome.{Outcome}
+use Rattle.study.specs.declared.Outcome.the-variants.{Done, Refused}
+use Rattle.study.specs.declared.Study.{Study}
+use Rattle.study.specs.declared.StudyAnswer.{StudyAnswer}
+use Rattle.opening.specs.Opening.{opened}
+use Rattle.evaluation.specs.Bounds.{chancesOf, componentsOf, lowerClasses, upperClasses, lowerLoads, upperLoads}
+use Rattle.evaluation.specs.Listing.{pathList}
+use Rattle.planning.specs.Figures.{figuresGiven}
+use Rattle.report_lines.specs.Paths.{pathLines}
+use Rattle.report_lines.specs.Classes.{allBearing, classLines}
+use Rattle.report_lines.specs.Loads.{loadLines}
+use Rattle.report_lines.specs.Figures.{figureLines}
+use Rattle.report_text.specs.declared.report.Report.{Report}
+use Rattle.report_text.specs.declared.report.Report.the-variants.{Written, Refused as NotWritten}
+
+-- room for any report
+abbrev pub sheetBytes : ℕ
+sheetBytes = 180224
+
+unfoldable pub studyPaths : Study → List ℕ
+studyPaths t = pathLines (chancesOf t) (componentsOf t) (pathList t)
+
+unfoldable pub studyClasses : Study → List ℕ
+studyClasses t = classLines (allBearing (componentsOf t) (pathList t)) (lowerClasses t) (upperClasses t)
+
+-- an opened study: the number of paths, then its paths, classes, loads and figures
+unfoldable pub studyText : Study → List ℕ
+studyText t =
+    joined
+    (numberLine (letters "PATHS") (length (pathList t))
+    ∷ studyPaths t
+    ∷ studyClasses t
+    ∷ loadLines (lowerLoads t) (upperLoads t) (t .loads)
+    ∷ figureLines (figuresGiven t)
+    ∷ [])
+
+-- a refused one: the number and its word
+unfoldable pub refusedText : ℕ → List ℕ
+refusedText n = joined (letters "REFUSED" ∷ field n ∷ letters " " ∷ refusalWord n ∷ letters "\n" ∷ [])
+
+unfoldable pub textBy : Outcome → Study → List ℕ
+textBy Done t = studyText t
+textBy (Refused n) t = refusedText n
+
+unfoldable pub reportText : List ℕ → List ℕ
+reportText bytes = textBy (opened bytes .outcome) (opened bytes .study)
+
+-- ---- in a lent buffer
+
+-- the answer: the number of bytes, or 18 where the buffer is too short for them
+unfoldable pub reported : List ℕ → List ℕ → Report
+reported text buffer = cond (eqb (roomFault (length text) (length buffer)) 0) (Written (length text)) (NotWritten (roomFault (length text) (length buffer)))
+
+-- the text fills the buffer's front, and nothing behind it changes; a buffer that is too short stays as it was
+unfoldable pub written : List ℕ → List ℕ → List ℕ
+written text buffer = cond (eqb (roomFault (length text) (length buffer)) 0) (put buffer 0 text) buffer
