@@ -1,5 +1,5 @@
 -- Laws of lists one behind the other.
-use Prim.Native.Nat.{ℕ, suc, _*_}
+use Prim.Native.Nat.{ℕ, suc, _*_, _≤_}
 use mathlib.Core.Path.{_≡_, refl, sym, ap, _∙_}
 use mathlib.Core.List.{List, [], _∷_}
 use native.Mathlib.Nat.{zero-mul}
@@ -16,6 +16,15 @@ joined-long width [] each = sym (zero-mul width)
 joined-long width (row ∷ rows) each =
     let first : length row ≡ width = each 0 (omega arith) in
     let rest = joined-long width rows (λ k h. each (suc k) (omega arith)) in
+    omega (arith, length-append row (joined rows), first, rest)
+
+-- rows that all have at most a length
+pub joined-short : (width : ℕ) (rows : List (List ℕ)) → Every (λ (row : List ℕ). length row ≤ width) [] rows → length (joined rows) ≤ length rows * width
+unfolding joined
+joined-short width [] each = omega arith
+joined-short width (row ∷ rows) each =
+    let first : length row ≤ width = each 0 (omega arith) in
+    let rest = joined-short width rows (λ k h. each (suc k) (omega arith)) in
     omega (arith, length-append row (joined rows), first, rest)
 
 -- rows of one length, as many of them, and the same one behind the other, are the same rows

@@ -29,7 +29,7 @@ scale-most rounding a p less most chance =
     omega (arith, product)
 
 module _ (rounding : ℕ) (less : rounding ≤ up) (chances : List ℕ) (chance : AtMostOne chances) (n : ℕ) where
-  path-most : (i : ℕ) (entry : List ℕ) → pathBound rounding chances i entry ≤ one
+  pub path-most : (i : ℕ) (entry : List ℕ) → pathBound rounding chances i entry ≤ one
   unfolding pathBound factored
   path-most zero entry = omega arith
   path-most (suc i) entry = go (eqb (getD entry i blankMark) blankMark) (path-most i entry)
@@ -39,7 +39,7 @@ module _ (rounding : ℕ) (less : rounding ≤ up) (chances : List ℕ) (chance 
       go true most = most
       go false most = scale-most rounding (pathBound rounding chances i entry) (chanceAt chances i (getD entry i blankMark)) less most (chance .each _)
 
-  total-most : (keep : ℕ → Bool) (entries : List (List ℕ)) → total rounding chances n keep entries ≤ length entries * one
+  pub total-most : (keep : ℕ → Bool) (entries : List (List ℕ)) → total rounding chances n keep entries ≤ length entries * one
   unfolding total sumOver
   total-most keep [] = omega arith
   total-most keep (entry ∷ entries) =

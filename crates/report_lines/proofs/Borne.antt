@@ -1,7 +1,6 @@
 -- What carries the count of paths by class: the paths below k are counted, each at its class.
 use Prim.Native.Nat.{ℕ, _+_, _*_, _<_, _≤_}
 use mathlib.Core.Path.{_≡_, refl, sym, ap, _∙_}
-use mathlib.Core.Bool.{Bool, true, false}
 use mathlib.Core.List.{List, [], _∷_}
 use native.Mathlib.Nat.{add-zero}
 use native.Mathlib.Omega.{arith}
@@ -11,16 +10,12 @@ use lib.Seq.{take-all}
 use borrow.Author.Tests.{eq-eqb, ne-eqb}
 use Rattle.lists.specs.Counting.{truth, sumOver}
 use Rattle.lists.proofs.Adding.{add-next}
-use Rattle.lists.proofs.Tabulated.{length-tabulate, getD-tabulate, tabulated, tabulate-set}
+use Rattle.lists.proofs.Sums.{truth-most}
+use Rattle.lists.proofs.Tabulated.{getD-tabulate, tabulated, tabulate-set}
 use Rattle.paths.specs.Words.{classBorne}
-use Rattle.probability.specs.Reading.{PathList}
 use Rattle.probability.specs.Totals.{classPlaces, entriesOf}
 use Rattle.probability.proofs.Lists.{entries-long, entry-is}
 use Rattle.report_lines.specs.Classes.{bearing, noneBearing, allBearing}
-
-truth-most : (b : Bool) → truth b ≤ 1
-truth-most true = omega arith
-truth-most false = omega arith
 
 -- no more paths than there are
 bearing-most : (n : ℕ) (entries : List (List ℕ)) (c : ℕ) → bearing n entries c ≤ length entries

@@ -1,3 +1,4 @@
 pub mod Borne
 pub mod Listed
 pub mod Marked
+pub mod Widths

@@ -5,7 +5,6 @@ use indices::Figures;
 use text::bounds_line;
 use text::copy;
 use text::number_line;
-ghost use mathlib.Core.Path.{_≡_};
 ghost use Rattle.text.specs.Writing.{Room, Wrote};
 ghost use Rattle.report_lines.specs.Figures.{caidiLine, tripleLines, figureLines};
 

@@ -2,7 +2,6 @@
 use rules::LOAD_PLACES;
 use text::item_line;
 ghost use Prim.Native.Nat.{_≤_, _<_};
-ghost use mathlib.Core.Path.{_≡_};
 ghost use Rattle.rules.specs.Limits.{mostLoads};
 ghost use Rattle.text.specs.Writing.{Room, Wrote};
 ghost use Rattle.report_lines.specs.Loads.{loadLine, loadLines};

@@ -3,8 +3,6 @@ use Prim.Native.Nat.{ℕ, zero, suc, _+_, _/_, _%_}
 use mathlib.Core.Bool.{Bool, true, false}
 use mathlib.Core.List.{List, [], _∷_, _++_}
 use lib.Dec.{ltb}
-use Rattle.lists.specs.Rows.{joined}
-use Rattle.text.specs.Letters.{letters}
 
 -- the byte of a digit
 abbrev pub digit : ℕ → ℕ

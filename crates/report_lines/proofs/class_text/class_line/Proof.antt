@@ -1,5 +1,4 @@
 -- `report_lines::class_text::class_line` meets its contract, for a class that occurs and for one that does not.
-use mathlib.Core.Path.{sym}
 use native.Mathlib.Omega.{arith}
 use borrow.Author.Tests.{eq-eqb, ne-eqb}
 use Rattle.text.proofs.Pieces.{wrote-none}

@@ -1,11 +1,8 @@
 -- `report_lines::class_text::class_lines` meets its contract. The lines of the classes below c are written (`Tabled`).
-use Prim.Native.Nat.{ℕ, _-_, _<_}
-use mathlib.Core.Path.{_≡_}
-use mathlib.Core.List.{List, []}
+use Prim.Native.Nat.{ℕ, _-_}
+use mathlib.Core.List.{List}
 use native.Mathlib.Omega.{arith}
-use lib.ListN.{length, getD}
-use Rattle.lists.specs.Tabulate.{tabulate}
-use Rattle.lists.proofs.Tabulated.{length-tabulate, getD-tabulate}
+use lib.ListN.{getD}
 use Rattle.text.proofs.Pieces.{Tabled, tabled-start, tabled-room, tabled-more, tabled-size, tabled-done}
 use Rattle.probability.specs.Totals.{classPlaces}
 use Rattle.report_lines.specs.Classes.{classLine, classLines}

@@ -1,5 +1,4 @@
 -- `report_lines::figure_text::caidi_line` meets its contract, stated or not.
-use mathlib.Core.Path.{sym}
 use Rattle.report_lines.specs.Figures.{caidiLine}
 use borrow.Author.Needs.{needs}
 use Rattle.report_lines.proofs.figure_text.caidi_line.Statement.{statement}

@@ -1,7 +1,6 @@
 -- `report_lines::load_text::load_lines` meets its contract. The lines of the loads below j are written (`Tabled`).
 use Prim.Native.Nat.{_-_}
 use native.Mathlib.Omega.{arith}
-use Rattle.lists.specs.Tabulate.{tabulate}
 use Rattle.text.proofs.Pieces.{Tabled, tabled-start, tabled-room, tabled-more, tabled-size, tabled-done}
 use Rattle.report_lines.specs.Loads.{loadLine, loadLines}
 use borrow.Author.Needs.{needs}

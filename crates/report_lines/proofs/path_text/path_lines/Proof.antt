@@ -1,6 +1,5 @@
 -- `report_lines::path_text::path_lines` meets its contract. The lines of the paths below k are written (`Tabled`).
 use Prim.Native.Nat.{_-_}
-use mathlib.Core.Path.{sym}
 use native.Mathlib.Omega.{arith}
 use Rattle.text.proofs.Pieces.{Tabled, tabled-start, tabled-room, tabled-more, tabled-size, tabled-done}
 use Rattle.probability.proofs.Lists.{entry-inside, entry-long}

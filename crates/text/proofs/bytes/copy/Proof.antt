@@ -1,10 +1,8 @@
 -- `text::bytes::copy` meets its contract. The bytes below k are written (`Writing`).
 use Prim.Native.Nat.{_-_}
-use mathlib.Core.Path.{_≡_, refl}
-use native.Mathlib.Omega.{arith}
+use mathlib.Core.Path.{refl}
 use lib.ListN.{length}
 use Rattle.lists.proofs.Writing.{Writing, writing-start, writing-more, writing-room, writing-done, writing-end}
-use Rattle.lists.proofs.Puts.{put-size}
 use borrow.Author.Needs.{needs}
 use Rattle.text.proofs.bytes.copy.Statement.{statement}
 use Rattle.text.proofs.bytes.copy.Tie as tie

@@ -1,12 +1,8 @@
 -- `text::numbers::decimal` meets its contract. The number falls at each call; a number of more than one digit is two pieces (`Pieces`), what stands before
 -- the last digit and that digit.
-use Prim.Native.Nat.{_≤_}
 use mathlib.Core.Path.{sym}
-use mathlib.Core.List.{List}
 use native.Mathlib.Omega.{arith}
-use Rattle.lists.proofs.Puts.{put-size}
-use Rattle.text.specs.Writing.{Room, Wrote}
-use Rattle.text.proofs.Decimals.{decimal-one, tens, decimal-tens}
+use Rattle.text.proofs.Decimals.{decimal-one, decimal-tens}
 use Rattle.text.proofs.Pieces.{pieces-start, pieces-room, pieces-more, pieces-done}
 use borrow.Author.Needs.{needs}
 use Prim.Native.Nat.{ℕ, _<_}

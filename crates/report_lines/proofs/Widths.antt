@@ -1,0 +1,101 @@
+-- How long the lines of a report are at most.
+use Prim.Native.Nat.{ℕ, _+_, _*_, _^_, _<_, _≤_}
+use mathlib.Core.Bool.{Bool, true, false, cond}
+use mathlib.Core.List.{List, []}
+use native.Mathlib.Omega.{arith}
+use lib.Dec.{eqb}
+use lib.ListN.{length, getD, take, drop}
+use lib.Seq.{getD-take, getD-drop}
+use Rattle.lists.specs.Counting.{sumOver}
+use Rattle.text.specs.Letters.{letters}
+use Rattle.text.specs.Lines.{itemLine}
+use Rattle.text.proofs.Short.{joined-length, field-short, ending-short, bounds-short, item-short, lines-short}
+use Rattle.units.specs.One.{one}
+use Rattle.units.specs.Rounding.{down, up}
+use Rattle.rules.specs.Limits.{mostComponents, mostLoads}
+use Rattle.paths.specs.Words.{classBorne}
+use Rattle.probability.specs.Bounds.{pathBound}
+use Rattle.probability.specs.Reading.{AtMostOne}
+use Rattle.probability.specs.Totals.{classPlaces, entriesOf}
+use Rattle.probability.proofs.Most.{path-most}
+use Rattle.indices.specs.declared.figures.Caidi.{Caidi}
+use Rattle.indices.specs.declared.figures.Caidi.the-variants.{Bounds, NotStated}
+use Rattle.indices.specs.declared.figures.Enclosure.{Enclosure}
+use Rattle.indices.specs.declared.figures.Figures.{Figures as Triple}
+use Rattle.report_lines.specs.Classes.{classLine, classLines}
+use Rattle.report_lines.specs.Figures.{caidiLine, tripleLines}
+use Rattle.report_lines.specs.Loads.{loadLine, loadLines}
+use Rattle.report_lines.specs.Paths.{entryLine, pathLine, pathLines}
+use Rattle.report_lines.proofs.Listed.{lineAt, lines-at}
+use Rattle.report_lines.proofs.Marked.{marks-long}
+
+-- ---- paths
+
+entry-short : (n : ℕ) (entry : List ℕ) (lower upper : ℕ) → n ≤ mostComponents → classBorne n entry < 256 → lower ≤ one → upper ≤ one
+    → length (entryLine n entry lower upper) ≤ 41
+unfolding entryLine sumOver
+entry-short n entry lower upper few class low high =
+    rw (joined-length _)
+    (omega (arith, marks-long n entry, field-short 3 (omega arith) (classBorne n entry) (omega (arith, class)), ending-short 10 (omega arith) lower upper (omega (arith, low)) (omega (arith, high))))
+
+-- the class of an entry among bytes is a byte
+class-byte : (n : ℕ) (list : List ℕ) (k : ℕ) → ((i : ℕ) → getD list i 0 < 256) → classBorne n (take (n + 1) (drop (k * (n + 1)) list)) < 256
+class-byte n list k bytes =
+    rw (getD-take (n + 1) (drop (k * (n + 1)) list) n 0 (omega arith), getD-drop (k * (n + 1)) list n 0) (bytes (k * (n + 1) + n))
+
+pub path-lines-short : (chances : List ℕ) (n : ℕ) (list : List ℕ) (paths : ℕ) → AtMostOne chances → n ≤ mostComponents → ((i : ℕ) → getD list i 0 < 256)
+    → length (pathLines chances n (entriesOf n paths list)) ≤ paths * 41
+unfolding pathLine
+path-lines-short chances n list paths chance few bytes = rw (lines-at chances n list paths) (lines-short (lineAt chances n list) paths 41 line)
+  where
+    line : (k : ℕ) → k < paths → length (lineAt chances n list k) ≤ 41
+    line k h =
+        let entry = take (n + 1) (drop (k * (n + 1)) list) in
+        entry-short n entry (pathBound down chances n entry) (pathBound up chances n entry) few (class-byte n list k bytes)
+        (path-most down (omega arith) chances chance n n entry)
+        (path-most up (omega arith) chances chance n n entry)
+
+-- ---- classes and loads
+
+class-short : (paths c lower upper : ℕ) → c < classPlaces → lower < 10 ^ 13 → upper < 10 ^ 13 → length (classLine paths c lower upper) ≤ 34
+unfolding classLine
+class-short paths c lower upper inside low high = go (eqb paths 0)
+  where
+    go : (b : Bool) → length (cond b [] (itemLine (letters "K") c lower upper)) ≤ 34
+    go true = omega arith
+    go false = item-short 13 (omega arith) 3 (letters "K") c lower upper (field-short 3 (omega arith) c (omega (arith, inside))) low high
+
+pub class-lines-short : (paths lower upper : List ℕ) → ((c : ℕ) → c < classPlaces → getD lower c 0 < 10 ^ 13) → ((c : ℕ) → c < classPlaces → getD upper c 0 < 10 ^ 13)
+    → length (classLines paths lower upper) ≤ classPlaces * 34
+unfolding classLines
+class-lines-short paths lower upper low high =
+    lines-short (λ (c : ℕ). classLine (getD paths c 0) c (getD lower c 0) (getD upper c 0)) classPlaces 34
+    (λ c h. class-short (getD paths c 0) c (getD lower c 0) (getD upper c 0) h (low c h) (high c h))
+
+pub load-lines-short : (lower upper : List ℕ) (loads : ℕ) → loads ≤ mostLoads → ((j : ℕ) → j < loads → getD lower j 0 ≤ one) → ((j : ℕ) → j < loads → getD upper j 0 ≤ one)
+    → length (loadLines lower upper loads) ≤ loads * 26
+unfolding loadLines loadLine
+load-lines-short lower upper loads few low high =
+    lines-short (loadLine lower upper) loads 26
+    (λ j h. item-short 10 (omega arith) 1 (letters "L") j (getD lower j 0) (getD upper j 0) (field-short 1 (omega arith) j (omega (arith, h, few))) (omega (arith, low j h)) (omega (arith, high j h)))
+
+-- ---- figures
+
+abbrev pub Printable : Enclosure → Type 0
+Printable b = (b .lower < 10 ^ 20) × (b .upper < 10 ^ 20)
+
+abbrev pub CaidiPrintable : Caidi → Type 0
+CaidiPrintable (Bounds b) = Printable b
+CaidiPrintable NotStated = Unit
+
+caidi-short : (caidi : Caidi) → CaidiPrintable caidi → length (caidiLine caidi) ≤ 48
+unfolding caidiLine
+caidi-short (Bounds b) h = bounds-short 20 (omega arith) (letters "CAIDI") (b .lower) (b .upper) (h .0) (h .1)
+caidi-short NotStated h = omega arith
+
+pub triple-short : (f : Triple) → Printable (f .saifi) → Printable (f .saidi) → CaidiPrintable (f .caidi) → length (tripleLines f) ≤ 144
+unfolding tripleLines sumOver
+triple-short f saifi saidi caidi =
+    let first = bounds-short 20 (omega arith) (letters "SAIFI") (f .saifi .lower) (f .saifi .upper) (saifi .0) (saifi .1) in
+    let second = bounds-short 20 (omega arith) (letters "SAIDI") (f .saidi .lower) (f .saidi .upper) (saidi .0) (saidi .1) in
+    rw (joined-length _) (omega (arith, first, second, caidi-short (f .caidi) caidi))
