@@ -77,6 +77,12 @@ paged t d page s room e =
       entries = rw e (entries-put (length (stateCounts t)) (pathList t) d (entries-long (stateCounts t) (classes t) block));
     }
 
+-- what is worked out from the page is worked out from the list
+pub paged-list : (t : Study) (paths : ℕ) (page : List ℕ) → Paged t paths page → length (stateCounts t) ≡ t .components → (f : ℕ → List (List ℕ) → List ℕ)
+    → f (t .components) (entriesOf (t .components) paths page) ≡ f (length (stateCounts t)) (pathList t)
+paged-list t paths page paged components f =
+    ap (λ (n : ℕ). f n (entriesOf n paths page)) (sym components) ∙ ap (f (length (stateCounts t))) (paged .entries)
+
 -- ---- what a listing on a page answers
 
 -- whether an answer is a list, and the number of paths that it tells

@@ -1,6 +1,6 @@
 -- What a sound study's chances keep, and that totals worked out from a page that holds its list are the study's own.
 use Prim.Native.Nat.{ℕ, _*_, _≤_}
-use mathlib.Core.Path.{_≡_, sym, ap, _∙_}
+use mathlib.Core.Path.{_≡_, ap, _∙_}
 use mathlib.Core.List.{List}
 use native.Mathlib.Omega.{arith}
 use lib.Dec.{eqb}
@@ -24,6 +24,7 @@ use Rattle.soundness.proofs.Ranges.{counts-long, chances-sum}
 use Rattle.evaluation.specs.Bounds.{lowerClasses, upperClasses, lowerLoads, upperLoads}
 use Rattle.evaluation.specs.Listing.{pathList}
 use Rattle.evaluation.specs.Page.{Paged}
+use Rattle.evaluation.proofs.Paged.{paged-list}
 
 -- ---- the chances of a sound study
 
@@ -51,9 +52,8 @@ module _ (t : Study) (paths : ℕ) (page : List ℕ) (paged : Paged t paths page
   few : length (pathList t) ≤ mostJointStates
   few = omega (arith, paged .number, paged .list .few)
 
-  -- what is worked out from the page is worked out from the list
   by-list : (f : ℕ → List (List ℕ) → List ℕ) → f (t .components) (entriesOf (t .components) paths page) ≡ f (length (stateCounts t)) (pathList t)
-  by-list f = ap (λ (n : ℕ). f n (entriesOf n paths page)) (sym components) ∙ ap (f (length (stateCounts t))) (paged .entries)
+  by-list f = paged-list t paths page paged components f
 
   pub study-lower : classTotals down sumsMost table (t .components) (entriesOf (t .components) paths page) ≡ lowerClasses t
   study-lower =

@@ -12,7 +12,6 @@ use Rattle.rules.specs.Table.{roomFault}
 use Rattle.study.specs.declared.Outcome.{Outcome}
 use Rattle.study.specs.declared.Outcome.the-variants.{Done, Refused}
 use Rattle.study.specs.declared.Study.{Study}
-use Rattle.study.specs.declared.StudyAnswer.{StudyAnswer}
 use Rattle.opening.specs.Opening.{opened}
 use Rattle.evaluation.specs.Bounds.{chancesOf, componentsOf, lowerClasses, upperClasses, lowerLoads, upperLoads}
 use Rattle.evaluation.specs.Listing.{pathList}
@@ -21,8 +20,8 @@ use Rattle.report_lines.specs.Paths.{pathLines}
 use Rattle.report_lines.specs.Classes.{allBearing, classLines}
 use Rattle.report_lines.specs.Loads.{loadLines}
 use Rattle.report_lines.specs.Figures.{figureLines}
-use Rattle.report_text.specs.declared.report.Report.{Report}
-use Rattle.report_text.specs.declared.report.Report.the-variants.{Written, Refused as NotWritten}
+use Rattle.report_text.specs.declared.reporting.ReportAnswer.{ReportAnswer}
+use Rattle.report_text.specs.declared.reporting.ReportAnswer.the-variants.{Written, Refused as NotWritten}
 
 -- room for any report
 abbrev pub sheetBytes : ℕ
@@ -34,16 +33,14 @@ studyPaths t = pathLines (chancesOf t) (componentsOf t) (pathList t)
 unfoldable pub studyClasses : Study → List ℕ
 studyClasses t = classLines (allBearing (componentsOf t) (pathList t)) (lowerClasses t) (upperClasses t)
 
+-- the lines of the loads, then those of the figures: both tell of losses
+unfoldable pub studyLosses : Study → List ℕ
+studyLosses t = joined (loadLines (lowerLoads t) (upperLoads t) (t .loads) ∷ figureLines (figuresGiven t) ∷ [])
+
 -- an opened study: the number of paths, then its paths, classes, loads and figures
 unfoldable pub studyText : Study → List ℕ
 studyText t =
-    joined
-    (numberLine (letters "PATHS") (length (pathList t))
-    ∷ studyPaths t
-    ∷ studyClasses t
-    ∷ loadLines (lowerLoads t) (upperLoads t) (t .loads)
-    ∷ figureLines (figuresGiven t)
-    ∷ [])
+    joined (numberLine (letters "PATHS") (length (pathList t)) ∷ studyPaths t ∷ studyClasses t ∷ studyLosses t ∷ [])
 
 -- a refused one: the number and its word
 unfoldable pub refusedText : ℕ → List ℕ
@@ -59,7 +56,7 @@ reportText bytes = textBy (opened bytes .outcome) (opened bytes .study)
 -- ---- in a lent buffer
 
 -- the answer: the number of bytes, or 18 where the buffer is too short for them
-unfoldable pub reported : List ℕ → List ℕ → Report
+unfoldable pub reported : List ℕ → List ℕ → ReportAnswer
 reported text buffer = cond (eqb (roomFault (length text) (length buffer)) 0) (Written (length text)) (NotWritten (roomFault (length text) (length buffer)))
 
 -- the text fills the buffer's front, and nothing behind it changes; a buffer that is too short stays as it was

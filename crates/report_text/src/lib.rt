@@ -1,8 +1,8 @@
 // The report of a study as text in a lent buffer.
-mod report;
+mod reporting;
 mod sheet;
 mod study_text;
 
-pub use report::Report;
-pub use report::report;
+pub use reporting::ReportAnswer;
+pub use reporting::report;
 pub use sheet::SHEET_BYTES;

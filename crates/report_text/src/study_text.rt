@@ -11,12 +11,13 @@ use report_lines::load_lines;
 use report_lines::path_lines;
 use study::Study;
 use text::number_line;
+ghost use Prim.Native.Nat.{_≤_};
 ghost use mathlib.Core.Path.{_≡_};
 ghost use lib.ListN.{length};
 ghost use Rattle.text.specs.Writing.{Room, Wrote};
 ghost use Rattle.probability.specs.Totals.{classPlaces};
 ghost use Rattle.evaluation.specs.Page.{Paged};
-ghost use Rattle.report_text.specs.Report.{studyPaths, studyClasses, studyText};
+ghost use Rattle.report_text.specs.Report.{sheetBytes, studyPaths, studyClasses, studyLosses, studyText};
 
 // Writes the lines of the paths.
 fn study_paths(t: Study, page: &[u8], paths: u32, out: &mut [u8], at: usize) -> usize
@@ -51,18 +52,28 @@ fn study_classes(t: Study, page: &[u8], paths: u32, out: &mut [u8], at: usize) -
     class_lines(out, at, &bearing, &lower, &upper)
 }
 
+// Writes the lines of the loads and of the figures.
+fn study_losses(t: Study, page: &[u8], paths: u32, out: &mut [u8], at: usize) -> usize
+    requires { ⌜ Paged t paths (now page) ⌝ }
+    requires { ⌜ Room (now out) at (studyLosses t) ⌝ }
+    ensures { λ r. ⌜ Wrote (now (out .entry)) at (studyLosses t) (now (out .exit)) r ⌝ }
+{
+    let losses = losses_on(t, page, paths);
+    let answer = figures_from(t, losses);
+    let lower = losses.lower;
+    let upper = losses.upper;
+    let next = load_lines(out, at, lower, upper, t.loads);
+    figure_lines(out, next, answer)
+}
+
 // Writes the text of a study whose list is on a page at the front of a sheet.
 pub fn study_text(t: Study, page: &[u8], paths: u32, out: &mut [u8]) -> usize
     requires { ⌜ Paged t paths (now page) ⌝ }
-    requires { ⌜ Room (now out) 0 (studyText t) ⌝ }
+    requires { ⌜ sheetBytes ≤ length (now out) ⌝ }
     ensures { λ r. ⌜ Wrote (now (out .entry)) 0 (studyText t) (now (out .exit)) r ⌝ }
 {
     let first = number_line(out, 0, b"PATHS", paths as u64);
     let second = study_paths(t, page, paths, out, first);
-    let third = study_classes(t, page, paths, out, second);
-    let losses = losses_on(t, page, paths);
-    let lower = losses.lower;
-    let upper = losses.upper;
-    let last = load_lines(out, third, lower, upper, t.loads);
-    figure_lines(out, last, figures_from(t, losses))
+    let last = study_classes(t, page, paths, out, second);
+    study_losses(t, page, paths, out, last)
 }

@@ -1,10 +1,10 @@
 -- `study_image::write_image` meets its contract: the three counts and the rows of the three kinds are the pieces.
-use Prim.Native.Nat.{ℕ}
-use mathlib.Core.Path.{_≡_, sym, _∙_}
-use mathlib.Core.List.{List, map}
+use mathlib.Core.Path.{_∙_}
+use mathlib.Core.List.{map}
 use native.Mathlib.Omega.{arith}
-use lib.ListN.{length, length-set, length-map}
+use lib.ListN.{length-set}
 use Rattle.lists.specs.Rows.{joined}
+use Rattle.lists.proofs.Maps.{mapped}
 use Rattle.study_image.specs.Image.{componentRow, gateRow, imageOf}
 use Rattle.study_image.specs.Fits.{StudyFits}
 use Rattle.study_image.proofs.Pieces.{first-piece, byte-piece, row-piece}
@@ -12,10 +12,6 @@ use Rattle.study_image.proofs.Widths.{components-long, gates-long, imag
 use borrow.Author.Needs.{needs}
 use Rattle.study_image.proofs.write_image.Statement.{statement}
 use Rattle.study_image.proofs.write_image.Tie as tie
-
--- the length of an array in a field of a struct is told over what stands in memory for its elements
-mapped : {A B : Type 0} (f : A → B) (l : List A) (n : ℕ) → length (map f l) ≡ n → length l ≡ n
-mapped f l n e = sym (length-map l f) ∙ e
 
 slice-write-image : tie.Need-slice-write-image
 slice-write-image c = search needs

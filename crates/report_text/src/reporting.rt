@@ -17,7 +17,7 @@ ghost use Rattle.soundness.specs.Sound.{Sound};
 ghost use Rattle.report_text.specs.Report.{sheetBytes, studyText, refusedText, reportText, reported, written};
 
 // What a call for a report answers: how many bytes it has, or the number of the refusal table by which it was refused.
-pub enum Report {
+pub enum ReportAnswer {
     Written(u32),
     Refused(u8),
 }
@@ -35,7 +35,7 @@ fn sound_text(t: Study, sheet: &mut [u8]) -> usize
 
 // Writes the line of a refused study on a sheet.
 fn refused_text(refusal: u8, sheet: &mut [u8]) -> usize
-    requires { ⌜ sheetBytes ≤ length (now sheet) ⌝ }
+    requires { ⌜ Room (now sheet) 0 (refusedText refusal) ⌝ }
     ensures { λ r. ⌜ Wrote (now (sheet .entry)) 0 (refusedText refusal) (now (sheet .exit)) r ⌝ }
 {
     let first = copy(sheet, 0, b"REFUSED");
@@ -59,7 +59,7 @@ fn report_text(bytes: &[u8], sheet: &mut [u8]) -> usize
 }
 
 // Writes the report of a study's bytes at the front of a lent buffer, and answers how many bytes it has. Refused by 18.
-pub fn report(bytes: &[u8], out: &mut [u8]) -> Report
+pub fn report(bytes: &[u8], out: &mut [u8]) -> ReportAnswer
     ensures { λ r. ⌜ r ≡ reported (reportText (now (bytes .entry))) (now (out .entry)) ⌝ }
     ensures { λ r. ⌜ now (out .exit) ≡ written (reportText (now (bytes .entry))) (now (out .entry)) ⌝ }
 {
@@ -67,8 +67,8 @@ pub fn report(bytes: &[u8], out: &mut [u8]) -> Report
     let size = report_text(bytes, &mut sheet);
     let fault = room_fault(size, out.len());
     if fault != 0 {
-        return Report::Refused(fault);
+        return ReportAnswer::Refused(fault);
     }
     copy(out, 0, &sheet[..size]);
-    Report::Written(size as u32)
+    ReportAnswer::Written(size as u32)
 }

@@ -1,0 +1,4 @@
+pub mod Fits
+pub mod Printed
+pub mod Reported
+pub mod Studied
