@@ -1,0 +1,27 @@
+-- Answers as 64-bit numbers with a sign: counts and refusals fit, and a number handed on is kept.
+use Prim.Native.Nat.{ℕ, zero, suc, _<_, _^_}
+use mathlib.Core.Path.{_≡_, sym, subst, ap, _∙_}
+use native.Mathlib.Omega.{arith}
+use lib.IntN.{ℤ, pos, negℤ, _-ℤ_, +ℤ-idl}
+use lib.Signed.{mag}
+use mir.Syntax.{w64}
+use mir.Val.{hbits, SFits, toZ, ofZ}
+use mir.ValLaws.{toZ-pos, toZ-ofZ}
+
+less-fits : (n : ℕ) → n < 256 → SFits w64 (negℤ (pos n))
+less-fits zero h = record { sfits = omega arith }
+less-fits (suc n) h = record { sfits = omega arith }
+
+module _ (n : ℕ) (small : n < 256) where
+  read-less : pos 0 -ℤ toZ w64 n ≡ negℤ (pos n)
+  read-less = ap (λ (z : ℤ). pos 0 -ℤ z) (toZ-pos w64 n (omega arith)) ∙ +ℤ-idl (negℤ (pos n))
+
+  pub minus-fits : SFits w64 (pos 0 -ℤ toZ w64 n)
+  minus-fits = subst (SFits w64) (sym read-less) (less-fits n small)
+
+  pub minus-is : toZ w64 (ofZ w64 (pos 0 -ℤ toZ w64 n)) ≡ negℤ (pos n)
+  minus-is = toZ-ofZ w64 _ minus-fits ∙ read-less
+
+-- what a call answered is answered on
+pub handed : (r z : ℤ) → mag r < 2 ^ hbits w64 → r ≡ z → toZ w64 (ofZ w64 r) ≡ z
+handed r z fits e = toZ-ofZ w64 r (record { sfits = fits }) ∙ e
