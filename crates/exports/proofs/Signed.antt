@@ -1,12 +1,15 @@
 -- Answers as 64-bit numbers with a sign: counts and refusals fit, and a number handed on is kept.
 use Prim.Native.Nat.{ℕ, zero, suc, _<_, _^_}
 use mathlib.Core.Path.{_≡_, sym, subst, ap, _∙_}
+use mathlib.Core.List.{List}
 use native.Mathlib.Omega.{arith}
 use lib.IntN.{ℤ, pos, negℤ, _-ℤ_, +ℤ-idl}
 use lib.Signed.{mag}
 use mir.Syntax.{w64}
 use mir.Val.{hbits, SFits, toZ, ofZ}
 use mir.ValLaws.{toZ-pos, toZ-ofZ}
+use Rattle.study.specs.declared.Study.{Study}
+use Rattle.exports.specs.Images.{Keeps}
 
 less-fits : (n : ℕ) → n < 256 → SFits w64 (negℤ (pos n))
 less-fits zero h = record { sfits = omega arith }
@@ -25,3 +28,8 @@ module _ (n : ℕ) (small : n < 256) where
 -- what a call answered is answered on
 pub handed : (r z : ℤ) → mag r < 2 ^ hbits w64 → r ≡ z → toZ w64 (ofZ w64 r) ≡ z
 handed r z fits e = toZ-ofZ w64 r (record { sfits = fits }) ∙ e
+
+-- so is what a call answered that kept a study
+pub handed-on : {breach : ℕ} {t : Study} {was slice : List ℕ} {r : ℤ} → mag r < 2 ^ hbits w64 → Keeps breach t was slice r
+    → Keeps breach t was slice (toZ w64 (ofZ w64 r))
+handed-on fits kept = record { answered = handed _ _ fits (kept .answered); written = kept .written; held = kept .held }

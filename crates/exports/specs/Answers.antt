@@ -5,6 +5,8 @@ use Rattle.evaluation.specs.declared.listing.Listing.{Listing}
 use Rattle.evaluation.specs.declared.listing.Listing.the-variants.{Listed, Refused as NotListed}
 use Rattle.planning.specs.declared.bounds.PathsBounded.{PathsBounded}
 use Rattle.planning.specs.declared.bounds.PathsBounded.the-variants.{Bounded, Refused as NotBounded}
+use Rattle.planning.specs.declared.loads.LoadBounded.{LoadBounded}
+use Rattle.planning.specs.declared.loads.LoadBounded.the-variants.{Bounds, Refused as NoBounds}
 
 -- a refusal by its number, 0 being none
 abbrev pub below : ℕ → ℤ
@@ -17,3 +19,7 @@ listAnswered (NotListed number) = below number
 abbrev pub pathsAnswered : PathsBounded → ℤ
 pathsAnswered (Bounded paths) = pos paths
 pathsAnswered (NotBounded number) = below number
+
+abbrev pub lossAnswered : LoadBounded → ℤ
+lossAnswered (Bounds pair) = pos 0
+lossAnswered (NoBounds number) = below number
