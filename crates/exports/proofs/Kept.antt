@@ -1,4 +1,5 @@
--- Which breach stands in the way of keeping a study in a slice, and what none of them tells.
+-- Which breach stands in the way of keeping a study in a slice, and what none tells. An edit has no breach for the room: a slice shorter than an
+-- image holds no sound study.
 use Prim.Native.Nat.{ℕ, _≤_}
 use mathlib.Core.Path.{_≡_, refl, sym, subst, _∙_}
 use mathlib.Core.Bool.{Bool, true, false}
@@ -83,6 +84,6 @@ module _ (slice rest : List ℕ) (new : Study) where
       let same = edited-refusal (firstBreach (unsoundFault (sound (studyIn slice)) ∷ rest)) (studyIn slice) new in
       rw first-last (spare _ _ (λ none. sound-room slice (list-kept _ rest (sym same ∙ none) .left)))
 
-  -- it is kept without a word of room
+  -- that it is kept does not turn on the room
   pub edit-keeps : {after : List ℕ} {answer : ℤ} → Opens edit slice after answer → Edits edit slice after answer
   edit-keeps {after} {answer} kept = subst (λ (breach : ℕ). Keeps breach (edit .study) slice after answer) edit-fault kept

@@ -3,33 +3,38 @@ use Prim.Native.Nat.{ℕ, zero, suc, _<_, _^_}
 use mathlib.Core.Path.{_≡_, sym, subst, ap, _∙_}
 use mathlib.Core.List.{List}
 use native.Mathlib.Omega.{arith}
-use lib.IntN.{ℤ, pos, negℤ, _-ℤ_, +ℤ-idl}
+use lib.IntN.{ℤ, pos, _-ℤ_, +ℤ-idl}
 use lib.Signed.{mag}
 use mir.Syntax.{w64}
 use mir.Val.{hbits, SFits, toZ, ofZ}
 use mir.ValLaws.{toZ-pos, toZ-ofZ}
 use Rattle.study.specs.declared.Study.{Study}
+use Rattle.exports.specs.Answers.{below}
 use Rattle.exports.specs.Images.{Keeps}
 
-less-fits : (n : ℕ) → n < 256 → SFits w64 (negℤ (pos n))
-less-fits zero h = record { sfits = omega arith }
-less-fits (suc n) h = record { sfits = omega arith }
+-- ---- a refusal: its number, a byte, below 0
+
+below-fits : (n : ℕ) → n < 256 → SFits w64 (below n)
+below-fits zero h = record { sfits = omega arith }
+below-fits (suc n) h = record { sfits = omega arith }
 
 module _ (n : ℕ) (small : n < 256) where
-  read-less : pos 0 -ℤ toZ w64 n ≡ negℤ (pos n)
-  read-less = ap (λ (z : ℤ). pos 0 -ℤ z) (toZ-pos w64 n (omega arith)) ∙ +ℤ-idl (negℤ (pos n))
+  -- what the machine reads before it writes
+  less : pos 0 -ℤ toZ w64 n ≡ below n
+  less = ap (λ (z : ℤ). pos 0 -ℤ z) (toZ-pos w64 n (omega arith)) ∙ +ℤ-idl (below n)
 
   pub minus-fits : SFits w64 (pos 0 -ℤ toZ w64 n)
-  minus-fits = subst (SFits w64) (sym read-less) (less-fits n small)
+  minus-fits = subst (SFits w64) (sym less) (below-fits n small)
 
-  pub minus-is : toZ w64 (ofZ w64 (pos 0 -ℤ toZ w64 n)) ≡ negℤ (pos n)
-  minus-is = toZ-ofZ w64 _ minus-fits ∙ read-less
+  pub minus-is : toZ w64 (ofZ w64 (pos 0 -ℤ toZ w64 n)) ≡ below n
+  minus-is = toZ-ofZ w64 _ minus-fits ∙ less
 
--- what a call answered is answered on
+-- ---- what a call answered is answered on
+
 pub handed : (r z : ℤ) → mag r < 2 ^ hbits w64 → r ≡ z → toZ w64 (ofZ w64 r) ≡ z
 handed r z fits e = toZ-ofZ w64 r (record { sfits = fits }) ∙ e
 
--- so is what a call answered that kept a study
+-- by a call that keeps a study
 pub handed-on : {breach : ℕ} {t : Study} {was slice : List ℕ} {r : ℤ} → mag r < 2 ^ hbits w64 → Keeps breach t was slice r
     → Keeps breach t was slice (toZ w64 (ofZ w64 r))
 handed-on fits kept = record { answered = handed _ _ fits (kept .answered); written = kept .written; held = kept .held }

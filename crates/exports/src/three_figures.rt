@@ -75,7 +75,8 @@ fn hand_on(answer: FiguresAnswer, places: &mut [u64]) -> i64
     }
 }
 
-// The breach of a study, then of places too few for its figures.
+// The breach of a study, then of places too few for its figures. 18 stands between the two refusals of the call for them, so that 16 is looked
+// at here too.
 fn places_fault(t: Study, places: usize) -> u8
     ensures { λ r. ⌜ r ≡ placesFault t places ⌝ }
 {
