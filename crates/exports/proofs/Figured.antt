@@ -1,0 +1,49 @@
+-- Which breach the call for the figures meets first, and how many places the figures take.
+use Prim.Native.Nat.{ℕ, _≤_}
+use mathlib.Core.Path.{_≡_, refl, sym, _∙_}
+use mathlib.Core.List.{[], _∷_}
+use native.Mathlib.Omega.{arith}
+use lib.ListN.{length}
+use Rattle.rules.specs.Breach.{first, firstBreach}
+use Rattle.rules.specs.Table.{unsoundFault, roomFault}
+use Rattle.rules.proofs.Kept.{Neither, first-last, first-some, first-next, list-kept}
+use Rattle.study.specs.declared.Study.{Study}
+use Rattle.soundness.specs.Check.{sound}
+use Rattle.indices.specs.declared.figures.Caidi.{Caidi}
+use Rattle.indices.specs.declared.figures.Caidi.the-variants.{Bounds, NotStated}
+use Rattle.evaluation.specs.declared.three_figures.FiguresAnswer.the-variants.{Refused}
+use Rattle.evaluation.proofs.Figured.{figures-refused}
+use Rattle.evaluation.proofs.Listed.{room-kept}
+use Rattle.planning.specs.Figures.{figuresGiven}
+use Rattle.planning.proofs.FigureCalls.{figures-sound}
+use Rattle.exports.specs.Figures.{figurePlaces, placesFault, threeFault, threeFigures, caidiRow}
+
+-- CAIDI takes two places or none
+pub caidi-short : (caidi : Caidi) → length (caidiRow caidi) ≤ 2
+caidi-short (Bounds pair) = omega arith
+caidi-short NotStated = omega arith
+
+-- as the code finds it
+pub places-is : (t : Study) (places fault unsound room : ℕ) → fault ≡ first unsound room → unsound ≡ unsoundFault (sound t)
+    → room ≡ roomFault figurePlaces places → fault ≡ placesFault t places
+unfolding placesFault firstBreach
+places-is t places fault unsound room e is-unsound is-room = rw (first-last, ← is-unsound, ← is-room) e
+
+module _ (t : Study) (places fault : ℕ) (is-fault : fault ≡ placesFault t places) where
+  -- 16 and 18 come before 19
+  pub three-refused : (fault ≡ 0 → ⊥) → Refused fault ≡ threeFigures t places
+  unfolding threeFigures threeFault firstBreach
+  three-refused some = rw (← is-fault, first-some fault _ some) (figures-refused _ _ some)
+
+  module _ (none : fault ≡ 0) where
+    both-kept : Neither (unsoundFault (sound t)) (firstBreach (roomFault figurePlaces places ∷ []))
+    unfolding placesFault
+    both-kept = list-kept _ _ (sym is-fault ∙ none)
+
+    pub places-room : figurePlaces ≤ places
+    places-room = room-kept figurePlaces places (list-kept _ _ (both-kept .right) .left)
+
+    -- without either, the call's own answer stands
+    pub three-given : figuresGiven t ≡ threeFigures t places
+    unfolding threeFigures threeFault firstBreach figuresGiven
+    three-given = rw (first-next _ _ (sym is-fault ∙ none), first-last, figures-sound t (both-kept .left)) refl

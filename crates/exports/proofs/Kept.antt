@@ -1,0 +1,89 @@
+-- Which breach stands in the way of keeping a study in a slice, and what none tells. An edit has no breach for the room: a slice shorter than an
+-- image holds no sound study.
+use Prim.Native.Nat.{ℕ, _≤_}
+use mathlib.Core.Path.{_≡_, refl, sym, subst, _∙_}
+use mathlib.Core.Bool.{Bool, true, false}
+use mathlib.Core.List.{List, _∷_}
+use native.Mathlib.Omega.{arith}
+use lib.Dec.{eqb, ltb}
+use lib.IntN.{ℤ}
+use lib.ListN.{length}
+use borrow.Author.Tests.{eqb-true, eqb-false}
+use Rattle.rules.specs.Breach.{refuse, first, firstBreach, outside}
+use Rattle.rules.specs.Table.{unsoundFault, roomFault}
+use Rattle.rules.proofs.Kept.{first-last, first-some, first-next, list-kept}
+use Rattle.study.specs.declared.Study.{Study}
+use Rattle.study.specs.declared.StudyAnswer.{StudyAnswer}
+use Rattle.study.specs.Zero.{zeroStudy}
+use Rattle.soundness.specs.Check.{frontFault, sound}
+use Rattle.study_image.specs.Places.{imageBytes}
+use Rattle.study_image.specs.Image.{studyIn}
+use Rattle.evaluation.proofs.Listed.{room-kept}
+use Rattle.planning.specs.Answers.{refusalOf}
+use Rattle.planning.specs.Edits.{edited}
+use Rattle.exports.specs.Images.{openFault, Keeps, Opens, Edits}
+
+-- ---- opening
+
+-- as the code finds it
+pub open-is : (answer : StudyAnswer) (slice : List ℕ) (fault refusal room : ℕ) → fault ≡ first refusal room → refusal ≡ refusalOf (answer .outcome)
+    → room ≡ roomFault imageBytes (length slice) → fault ≡ openFault answer slice
+unfolding openFault firstBreach
+open-is answer slice fault refusal room e is-refusal is-room = rw (first-last, ← is-refusal, ← is-room) e
+
+-- without a breach, an image fits the slice
+pub open-room : (answer : StudyAnswer) (slice : List ℕ) → openFault answer slice ≡ 0 → imageBytes ≤ length slice
+unfolding openFault
+open-room answer slice none = room-kept imageBytes (length slice) (list-kept _ _ (list-kept _ _ none .right) .left)
+
+-- ---- edits
+
+refuse-none : (n : ℕ) → refuse n false ≡ 0
+unfolding refuse
+refuse-none n = refl
+
+-- a slice shorter than an image holds a study of zeros, which has no components
+short-unsound : (slice : List ℕ) → ltb (length slice) imageBytes ≡ true → unsoundFault (sound (studyIn slice)) ≡ 16
+unfolding studyIn sound frontFault firstBreach first refuse outside zeroStudy
+short-unsound slice short = rw short
+
+-- so a sound study has the room to be kept again
+sound-room : (slice : List ℕ) → unsoundFault (sound (studyIn slice)) ≡ 0 → roomFault imageBytes (length slice) ≡ 0
+sound-room slice none = go (ltb (length slice) imageBytes) refl
+  where
+    go : (short : Bool) → ltb (length slice) imageBytes ≡ short → refuse 18 short ≡ 0
+    go true e = absurd (omega (arith, short-unsound slice e, none))
+    go false e = refuse-none 18
+
+edited-refusal : (breach : ℕ) (old new : Study) → refusalOf (edited breach old new .outcome) ≡ breach
+unfolding edited
+edited-refusal breach old new = go (eqb breach 0) refl
+  where
+    go : (t : Bool) → eqb breach 0 ≡ t → refusalOf (edited breach old new .outcome) ≡ breach
+    go true e = rw e (sym (eqb-true breach 0 e))
+    go false e = rw e
+
+-- a second breach that stands only behind a first one decides nothing
+spare : (a b : ℕ) → (a ≡ 0 → b ≡ 0) → first a b ≡ a
+spare a b behind = go (eqb a 0) refl
+  where
+    go : (t : Bool) → eqb a 0 ≡ t → first a b ≡ a
+    go true e =
+        let none = eqb-true a 0 e in
+        first-next a b none ∙ behind none ∙ sym none
+    go false e = first-some a b (eqb-false a 0 e)
+
+module _ (slice rest : List ℕ) (new : Study) where
+  -- what an edit of the study in a slice answers
+  abbrev edit : StudyAnswer
+  edit = edited (firstBreach (unsoundFault (sound (studyIn slice)) ∷ rest)) (studyIn slice) new
+
+  edit-fault : openFault edit slice ≡ refusalOf (edit .outcome)
+  unfolding openFault firstBreach
+  edit-fault =
+      let same = edited-refusal (firstBreach (unsoundFault (sound (studyIn slice)) ∷ rest)) (studyIn slice) new in
+      rw first-last (spare _ _ (λ none. sound-room slice (list-kept _ rest (sym same ∙ none) .left)))
+
+  -- that it is kept does not turn on the room
+  pub edit-keeps : {after : List ℕ} {answer : ℤ} → Opens edit slice after answer → Edits edit slice after answer
+  edit-keeps {after} {answer} kept = subst (λ (breach : ℕ). Keeps breach (edit .study) slice after answer) edit-fault kept

@@ -1,0 +1,3 @@
+pub mod Figured
+pub mod Kept
+pub mod Signed

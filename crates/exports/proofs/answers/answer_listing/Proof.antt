@@ -1,0 +1,36 @@
+-- `exports::answers::answer_listing` meets its contract: each kind of answer by its own clause.
+use mathlib.Core.Path.{sym, ap, _∙_}
+use Rattle.exports.specs.Answers.{listAnswered}
+use Rattle.exports.proofs.Signed.{handed}
+use borrow.Author.Needs.{needs}
+use Rattle.exports.proofs.answers.answer_listing.Statement.{statement}
+use Rattle.exports.proofs.answers.answer_listing.Tie as tie
+
+enum-known-listing : tie.Need-enum-known-listing
+enum-known-listing c = search needs
+
+counted-requires : tie.Need-counted-requires
+counted-requires c κs = search needs
+
+enum-known-listing-2 : tie.Need-enum-known-listing-2
+enum-known-listing-2 c = search needs
+
+refused-requires : tie.Need-refused-requires
+refused-requires c κs = search needs
+
+returns : tie.Need-returns
+returns c = handed _ _ (c .counted .ok) (c .counted .ensures ∙ sym (ap listAnswered (c .before .before .listing .given .1)))
+
+returns-2 : tie.Need-returns-2
+returns-2 c = handed _ _ (c .refused .ok) (c .refused .ensures ∙ sym (ap listAnswered (c .before .before .listing2 .given .1)))
+
+pub answer-listing-spec : {M : Type 1} → statement M
+answer-listing-spec =
+    tie.close
+    (tie.spec
+    enum-known-listing
+    counted-requires
+    enum-known-listing-2
+    refused-requires
+    returns
+    returns-2)

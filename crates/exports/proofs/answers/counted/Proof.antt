@@ -1,0 +1,16 @@
+-- `exports::answers::counted` meets its contract: 32 bits fit the 63 of a count.
+use native.Mathlib.Omega.{arith}
+use mir.Syntax.{w64}
+use mir.ValLaws.{toZ-pos}
+use borrow.Author.Needs.{needs}
+use Rattle.exports.proofs.answers.counted.Statement.{statement}
+use Rattle.exports.proofs.answers.counted.Tie as tie
+
+cast-result : tie.Need-cast-result
+cast-result c = search needs
+
+returns : tie.Need-returns
+returns c = toZ-pos w64 (c .args .number) (omega (arith, c .fits .number .fits))
+
+pub counted-spec : {M : Type 1} → statement M
+counted-spec = tie.close (tie.spec cast-result returns)

@@ -1,0 +1,17 @@
+-- `exports::answers::refused` meets its contract: a byte fits, and so does the number below 0.
+use Rattle.exports.proofs.Signed.{minus-fits, minus-is}
+use borrow.Author.Needs.{needs}
+use Rattle.exports.proofs.answers.refused.Statement.{statement}
+use Rattle.exports.proofs.answers.refused.Tie as tie
+
+cast-result : tie.Need-cast-result
+cast-result c = search needs
+
+sub-result : tie.Need-sub-result
+sub-result c = minus-fits (c .args .number) (c .fits .number .fits)
+
+returns : tie.Need-returns
+returns c = minus-is (c .args .number) (c .fits .number .fits)
+
+pub refused-spec : {M : Type 1} → statement M
+refused-spec = tie.close (tie.spec cast-result sub-result returns)

@@ -1,0 +1,22 @@
+-- `exports::images::grid_open` meets its contract: the opened study is kept.
+use Rattle.exports.proofs.Signed.{handed-on}
+use borrow.Author.Needs.{needs}
+use Rattle.exports.proofs.images.grid_open.Statement.{statement}
+use Rattle.exports.proofs.images.grid_open.Tie as tie
+
+open-requires : tie.Need-open-requires
+open-requires c κs = search needs
+
+keep-requires : tie.Need-keep-requires
+keep-requires c κs = search needs
+
+same-length : tie.Need-same-length
+same-length c = search needs
+
+returns : tie.Need-returns
+returns c =
+    let kept = rw (c .before .before .before .before .«open» .ensures) at (c .before .before .keep .ensures) in
+    handed-on (c .before .before .keep .ok) kept
+
+pub grid-open-spec : {M : Type 1} → statement M
+grid-open-spec = tie.close (tie.spec open-requires keep-requires same-length returns)

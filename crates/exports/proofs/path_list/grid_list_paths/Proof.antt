@@ -1,0 +1,29 @@
+-- `exports::path_list::grid_list_paths` meets its contract: the call's own, for the study that the image holds.
+use mathlib.Core.Path.{ap, _∙_}
+use Rattle.exports.specs.Answers.{listAnswered}
+use Rattle.exports.proofs.Signed.{handed}
+use borrow.Author.Needs.{needs}
+use Rattle.exports.proofs.path_list.grid_list_paths.Statement.{statement}
+use Rattle.exports.proofs.path_list.grid_list_paths.Tie as tie
+
+read-image-requires : tie.Need-read-image-requires
+read-image-requires c κs = search needs
+
+list-paths-requires : tie.Need-list-paths-requires
+list-paths-requires c κs = search needs
+
+answer-listing-requires : tie.Need-answer-listing-requires
+answer-listing-requires c κs = search needs
+
+same-length : tie.Need-same-length
+same-length c = search needs
+
+returns : tie.Need-returns
+returns c =
+    let listed = rw (c .before .before .before .before .before .read-image .ensures) at (c .before .before .before .list-paths .ensures) in
+    (handed _ _ (c .answer-listing .ok) (c .answer-listing .ensures ∙ ap listAnswered (listed .0)), listed .1)
+
+pub grid-list-paths-spec : {M : Type 1} → statement M
+grid-list-paths-spec =
+    tie.close
+    (tie.spec read-image-requires list-paths-requires answer-listing-requires same-length returns)

@@ -1,0 +1,38 @@
+-- `exports::path_list::grid_path_bounds` meets its contract: the call's own, for the study that the image holds.
+use mathlib.Core.Path.{ap, _∙_}
+use Rattle.exports.specs.Answers.{pathsAnswered}
+use Rattle.exports.proofs.Signed.{handed}
+use borrow.Author.Needs.{needs}
+use Rattle.exports.proofs.path_list.grid_path_bounds.Statement.{statement}
+use Rattle.exports.proofs.path_list.grid_path_bounds.Tie as tie
+
+read-image-requires : tie.Need-read-image-requires
+read-image-requires c κs = search needs
+
+path-bounds-requires : tie.Need-path-bounds-requires
+path-bounds-requires c κs = search needs
+
+answer-paths-requires : tie.Need-answer-paths-requires
+answer-paths-requires c κs = search needs
+
+same-length : tie.Need-same-length
+same-length c = search needs
+
+same-length-2 : tie.Need-same-length-2
+same-length-2 c = search needs
+
+returns : tie.Need-returns
+returns c =
+    let bounded = rw (c .before .before .before .before .before .before .before .before .read-image .ensures) at (c .before .before .before .before .before .path-bounds .ensures) in
+    (handed _ _ (c .answer-paths .ok) (c .answer-paths .ensures ∙ ap pathsAnswered (bounded .0)), bounded .1)
+
+pub grid-path-bounds-spec : {M : Type 1} → statement M
+grid-path-bounds-spec =
+    tie.close
+    (tie.spec
+    read-image-requires
+    path-bounds-requires
+    answer-paths-requires
+    same-length
+    same-length-2
+    returns)

@@ -1,0 +1,28 @@
+-- `exports::three_figures::places_fault` meets its contract: 16 is looked at first.
+use Rattle.exports.proofs.Figured.{places-is}
+use borrow.Author.Needs.{needs}
+use Rattle.exports.proofs.three_figures.places_fault.Statement.{statement}
+use Rattle.exports.proofs.three_figures.places_fault.Tie as tie
+
+is-sound-requires : tie.Need-is-sound-requires
+is-sound-requires c κs = search needs
+
+unsound-fault-requires : tie.Need-unsound-fault-requires
+unsound-fault-requires c κs = search needs
+
+room-fault-requires : tie.Need-room-fault-requires
+room-fault-requires c κs = search needs
+
+first-requires : tie.Need-first-requires
+first-requires c κs = search needs
+
+returns : tie.Need-returns
+returns c =
+    let start = c .before .before .before .before in
+    let unsound = rw (c .before .before .before .is-sound .ensures) at (c .before .before .unsound-fault .ensures) in
+    places-is (start .args .t) (start .args .places) _ _ _ (c .first .ensures) unsound (c .before .room-fault .ensures)
+
+pub places-fault-spec : {M : Type 1} → statement M
+places-fault-spec =
+    tie.close
+    (tie.spec is-sound-requires unsound-fault-requires room-fault-requires first-requires returns)

@@ -1,0 +1,43 @@
+-- `exports::three_figures::write_caidi` meets its contract: each kind of CAIDI by its own clause.
+use Prim.Native.Nat.{_+_, _≤_}
+use mathlib.Core.Path.{sym, ap, _∙_}
+use mathlib.Core.List.{[]}
+use native.Mathlib.Omega.{arith}
+use lib.ListN.{length}
+use Rattle.lists.specs.Rows.{put}
+use Rattle.lists.proofs.Puts.{due-start, due-done}
+use Rattle.indices.specs.declared.figures.Caidi.{Caidi}
+use Rattle.exports.specs.Figures.{stated, caidiRow}
+use borrow.Author.Needs.{needs}
+use Rattle.exports.proofs.three_figures.write_caidi.Statement.{statement}
+use Rattle.exports.proofs.three_figures.write_caidi.Tie as tie
+
+enum-known-caidi : tie.Need-enum-known-caidi
+enum-known-caidi c = search needs
+
+write-pair-requires : tie.Need-write-pair-requires
+write-pair-requires c κs = search needs
+
+enum-told : tie.Need-enum-told
+enum-told c = search needs
+
+same-length : tie.Need-same-length
+same-length c = search needs
+
+returns : tie.Need-returns
+returns c =
+    let caidi = sym (c .before .before .before .before .before .caidi .given .1) in
+    (ap stated caidi, c .before .before .write-pair .ensures ∙ ap (λ (a : Caidi). put (c .before .before .before .before .before .before .before .before .args .places .now) 4 (caidiRow a)) caidi)
+
+returns-2 : tie.Need-returns-2
+returns-2 c =
+    let caidi = sym (c .enum-told .given .1) in
+    let start = c .before .before .before in
+    let room : 4 + 0 ≤ length (start .args .places .now) = omega (arith, start .pre) in
+    let nothing = due-done {x = []} (due-start room) in
+    (ap stated caidi, nothing ∙ ap (λ (a : Caidi). put (start .args .places .now) 4 (caidiRow a)) caidi)
+
+pub write-caidi-spec : {M : Type 1} → statement M
+write-caidi-spec =
+    tie.close
+    (tie.spec enum-known-caidi write-pair-requires enum-told same-length returns returns-2)

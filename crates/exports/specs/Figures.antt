@@ -1,0 +1,60 @@
+-- What the call for the three figures answers, and what it leaves in the six places that it was lent.
+use Prim.Native.Nat.{ℕ}
+use mathlib.Core.List.{List, [], _∷_, _++_}
+use lib.IntN.{ℤ, pos}
+use lib.ListN.{length}
+use Rattle.lists.specs.Rows.{put}
+use Rattle.rules.specs.Breach.{firstBreach}
+use Rattle.rules.specs.Table.{unsoundFault, roomFault, customersFault}
+use Rattle.study.specs.declared.Study.{Study}
+use Rattle.soundness.specs.Check.{sound}
+use Rattle.indices.specs.declared.figures.Enclosure.{Enclosure}
+use Rattle.indices.specs.declared.figures.Caidi.{Caidi}
+use Rattle.indices.specs.declared.figures.Caidi.the-variants.{Bounds, NotStated}
+use Rattle.indices.specs.declared.figures.Figures.{Figures as Triple}
+use Rattle.evaluation.specs.declared.three_figures.FiguresAnswer.{FiguresAnswer}
+use Rattle.evaluation.specs.declared.three_figures.FiguresAnswer.the-variants.{Figures, Refused}
+use Rattle.evaluation.specs.Figures.{customersOf, studyFigures, figuresBy}
+use Rattle.exports.specs.Answers.{below}
+
+abbrev pub figurePlaces : ℕ
+figurePlaces = 6
+
+-- 16, then 18
+unfoldable pub placesFault : Study → ℕ → ℕ
+placesFault t room = firstBreach (unsoundFault (sound t) ∷ roomFault figurePlaces room ∷ [])
+
+-- then 19
+unfoldable pub threeFault : Study → ℕ → ℕ
+unfolding placesFault
+threeFault t room = firstBreach (placesFault t room ∷ customersFault (customersOf t) ∷ [])
+
+unfoldable pub threeFigures : Study → ℕ → FiguresAnswer
+unfolding figuresBy
+threeFigures t room = figuresBy (threeFault t room) (studyFigures t)
+
+-- ---- the answer: how many figures are stated
+
+abbrev pub stated : Caidi → ℕ
+stated (Bounds pair) = 3
+stated NotStated = 2
+
+abbrev pub figuresAnswered : FiguresAnswer → ℤ
+figuresAnswered (Figures three) = pos (stated (three .caidi))
+figuresAnswered (Refused number) = below number
+
+-- ---- the places: a pair for each figure that is stated, and the rest as it was; a refusal leaves them all as they were
+
+abbrev pub pairRow : Enclosure → List ℕ
+pairRow pair = pair .lower ∷ pair .upper ∷ []
+
+abbrev pub caidiRow : Caidi → List ℕ
+caidiRow (Bounds pair) = pairRow pair
+caidiRow NotStated = []
+
+abbrev pub figuresRow : Triple → List ℕ
+figuresRow three = pairRow (three .saifi) ++ (pairRow (three .saidi) ++ caidiRow (three .caidi))
+
+abbrev pub figuresWritten : FiguresAnswer → List ℕ → List ℕ
+figuresWritten (Figures three) places = put places 0 (figuresRow three)
+figuresWritten (Refused number) places = places

@@ -1,0 +1,4 @@
+pub mod Answers
+pub mod Bounds
+pub mod Figures
+pub mod Images

@@ -1,0 +1,50 @@
+// What a call answers in C: a count or 0, or the number of its refusal below 0.
+use planning::Listing;
+use planning::PathsBounded;
+use study::Outcome;
+ghost use mathlib.Core.Path.{_≡_};
+ghost use lib.IntN.{pos};
+ghost use Rattle.planning.specs.Answers.{refusalOf};
+ghost use Rattle.exports.specs.Answers.{below, listAnswered, pathsAnswered};
+
+// A count.
+pub fn counted(number: u32) -> i64
+    ensures { λ r. ⌜ r ≡ pos number ⌝ }
+{
+    number as i64
+}
+
+// A refusal by its number; 0 where there is none.
+pub fn refused(number: u8) -> i64
+    ensures { λ r. ⌜ r ≡ below number ⌝ }
+{
+    -(number as i64)
+}
+
+// The number by which a call was refused; 0 where it was done.
+pub fn refusal(outcome: Outcome) -> u8
+    ensures { λ r. ⌜ r ≡ refusalOf outcome ⌝ }
+{
+    match outcome {
+        Outcome::Done => 0,
+        Outcome::Refused(number) => number,
+    }
+}
+
+pub fn answer_listing(listing: Listing) -> i64
+    ensures { λ r. ⌜ r ≡ listAnswered listing ⌝ }
+{
+    match listing {
+        Listing::Listed(count) => counted(count.paths),
+        Listing::Refused(number) => refused(number),
+    }
+}
+
+pub fn answer_paths(answer: PathsBounded) -> i64
+    ensures { λ r. ⌜ r ≡ pathsAnswered answer ⌝ }
+{
+    match answer {
+        PathsBounded::Bounded(paths) => counted(paths),
+        PathsBounded::Refused(number) => refused(number),
+    }
+}
