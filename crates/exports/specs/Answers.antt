@@ -7,6 +7,8 @@ use Rattle.planning.specs.declared.bounds.PathsBounded.{PathsBounded}
 use Rattle.planning.specs.declared.bounds.PathsBounded.the-variants.{Bounded, Refused as NotBounded}
 use Rattle.planning.specs.declared.loads.LoadBounded.{LoadBounded}
 use Rattle.planning.specs.declared.loads.LoadBounded.the-variants.{Bounds, Refused as NoBounds}
+use Rattle.report_text.specs.declared.reporting.ReportAnswer.{ReportAnswer}
+use Rattle.report_text.specs.declared.reporting.ReportAnswer.the-variants.{Written, Refused as NotWritten}
 
 -- a refusal by its number, 0 being none
 abbrev pub below : ℕ → ℤ
@@ -23,3 +25,7 @@ pathsAnswered (NotBounded number) = below number
 abbrev pub lossAnswered : LoadBounded → ℤ
 lossAnswered (Bounds pair) = pos 0
 lossAnswered (NoBounds number) = below number
+
+abbrev pub reportAnswered : ReportAnswer → ℤ
+reportAnswered (Written size) = pos size
+reportAnswered (NotWritten number) = below number

@@ -1,11 +1,12 @@
 // What a call answers in C: a count or 0, or the number of its refusal below 0.
 use planning::Listing;
 use planning::PathsBounded;
+use report_text::ReportAnswer;
 use study::Outcome;
 ghost use mathlib.Core.Path.{_≡_};
 ghost use lib.IntN.{pos};
 ghost use Rattle.planning.specs.Answers.{refusalOf};
-ghost use Rattle.exports.specs.Answers.{below, listAnswered, pathsAnswered};
+ghost use Rattle.exports.specs.Answers.{below, listAnswered, pathsAnswered, reportAnswered};
 
 // A count.
 pub fn counted(number: u32) -> i64
@@ -46,5 +47,14 @@ pub fn answer_paths(answer: PathsBounded) -> i64
     match answer {
         PathsBounded::Bounded(paths) => counted(paths),
         PathsBounded::Refused(number) => refused(number),
+    }
+}
+
+pub fn answer_report(answer: ReportAnswer) -> i64
+    ensures { λ r. ⌜ r ≡ reportAnswered answer ⌝ }
+{
+    match answer {
+        ReportAnswer::Written(size) => counted(size),
+        ReportAnswer::Refused(number) => refused(number),
     }
 }

@@ -1,15 +1,18 @@
 -- What a call for a report answers and leaves in the buffer, where the text fits and where it does not; and the front of the sheet that is copied.
 use Prim.Native.Nat.{ℕ, _+_, _≤_}
 use mathlib.Core.Path.{_≡_, refl, sym, ap, _∙_}
+use mathlib.Core.Bool.{Bool, true, false, cond}
 use mathlib.Core.List.{List}
 use native.Mathlib.Omega.{arith}
+use lib.Dec.{eqb}
 use lib.ListN.{length, take, drop, length-append}
 use lib.Seq.{take-at}
-use borrow.Author.Tests.{eq-eqb, ne-eqb}
+use borrow.Author.Tests.{eq-eqb, ne-eqb, eqb-true}
 use Rattle.lists.specs.Rows.{put}
 use Rattle.text.specs.Writing.{Room, Wrote}
 use Rattle.rules.specs.Table.{roomFault}
 use Rattle.evaluation.proofs.Listed.{room-kept}
+use Rattle.report_text.specs.declared.reporting.ReportAnswer.{ReportAnswer}
 use Rattle.report_text.specs.declared.reporting.ReportAnswer.the-variants.{Written, Refused}
 use Rattle.report_text.specs.Report.{reported, written}
 
@@ -47,3 +50,19 @@ module _ {d text d′ : List ℕ} {size : ℕ} (wrote : Wrote d 0 text d′ size
     report-done none copied =
         let none-by-text = eq-eqb (roomFault (length text) (length buffer)) 0 (sym by-text ∙ none) in
         (rw (none-by-text, long) refl, rw none-by-text (copied .holds ∙ ap (put buffer 0) sheet-front))
+
+-- ---- what a caller may read of the buffer
+
+-- the number that an answer tells, 0 where it is refused
+abbrev told : ReportAnswer → ℕ
+told (Written size) = size
+told (Refused n) = 0
+
+pub told-inside : (text buffer : List ℕ) (answer : ReportAnswer) (size : ℕ) → answer ≡ reported text buffer → answer ≡ Written size → size ≤ length buffer
+unfolding reported
+told-inside text buffer answer size e is-written = by-room (eqb (roomFault (length text) (length buffer)) 0) refl (ap told (sym is-written ∙ e))
+  where
+    by-room : (b : Bool) → eqb (roomFault (length text) (length buffer)) 0 ≡ b
+        → size ≡ told (cond b (Written (length text)) (Refused (roomFault (length text) (length buffer)))) → size ≤ length buffer
+    by-room true none telling = omega (arith, telling, room-kept (length text) (length buffer) (eqb-true (roomFault (length text) (length buffer)) 0 none))
+    by-room false some telling = omega (arith, telling)

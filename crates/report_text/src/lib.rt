@@ -5,4 +5,4 @@ mod study_text;
 
 pub use reporting::ReportAnswer;
 pub use reporting::report;
-pub use sheet::SHEET_BYTES;
+pub use sheet::blank_sheet;
