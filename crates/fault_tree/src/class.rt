@@ -1,5 +1,4 @@
 // The class of a joint state: bit j stands when load j is lost.
-use rules::GATE_PLACES;
 use rules::LOAD_PLACES;
 use rules::NEVER;
 use study::Load;
@@ -8,23 +7,23 @@ ghost use mathlib.Core.Path.{_≡_};
 ghost use Rattle.rules.specs.Limits.{mostLoads};
 ghost use Rattle.fault_tree.specs.Classes.{lost as Classes·lost, classBy, loadsLost};
 
-fn lost(truths: [bool; GATE_PLACES], l: Load) -> bool
-    ensures { λ r. ⌜ r ≡ Classes·lost truths l ⌝ }
+fn lost(truths: &[bool], l: Load) -> bool
+    ensures { λ r. ⌜ r ≡ Classes·lost (now (truths .entry)) l ⌝ }
 {
     if l.gate == NEVER {
         return false;
     }
     let i = l.gate as usize;
-    if i < GATE_PLACES {
+    if i < truths.len() {
         return truths[i];
     }
     false
 }
 
 // The class of a joint state in which the gates have these truths.
-pub fn class_by(truths: [bool; GATE_PLACES], load: [Load; LOAD_PLACES], n: u8) -> u8
+pub fn class_by(truths: &[bool], load: [Load; LOAD_PLACES], n: u8) -> u8
     requires { ⌜ n ≤ mostLoads ⌝ }
-    ensures { λ r. ⌜ r ≡ classBy truths load n ⌝ }
+    ensures { λ r. ⌜ r ≡ classBy (now (truths .entry)) load n ⌝ }
 {
     let loads = n as usize;
     let mut class: u8 = 0;

@@ -43,7 +43,8 @@ fn fill_table(t: Study, counts: &[u8], x: &mut [u8]) -> [u8; JOINT_STATE_PLACES]
     let mut table = cleared_table();
     let mut k: usize = 0;
     while k < joint {
-        table[k] = class_by(gate_truths(gate, t.gates, x), load, t.loads);
+        let truths = gate_truths(gate, t.gates, x);
+        table[k] = class_by(&truths, load, t.loads);
         next_joint_state(counts, x);
         k = k + 1;
     }

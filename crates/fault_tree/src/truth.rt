@@ -37,10 +37,11 @@ fn true_tests(g: Gate, x: &[u8]) -> u32
     n
 }
 
-fn true_gates(g: Gate, truths: [bool; GATE_PLACES]) -> u32
+fn true_gates(g: Gate, truths: &[bool]) -> u32
     requires { ⌜ g .gates ≤ mostGateInputs ⌝ }
     requires { ⌜ ((j : ℕ) → j < g .gates → getD (g .input) j 0 < mostGates) ⌝ }
-    ensures { λ r. ⌜ r ≡ trueGates g (λ (k : ℕ). getD truths k false) ⌝ }
+    requires { ⌜ mostGates ≤ length (now truths) ⌝ }
+    ensures { λ r. ⌜ r ≡ trueGates g (λ (k : ℕ). getD (now (truths .entry)) k false) ⌝ }
 {
     let input = g.input;
     let gates = g.gates as usize;
@@ -54,10 +55,11 @@ fn true_gates(g: Gate, truths: [bool; GATE_PLACES]) -> u32
     n
 }
 
-fn gate_true(g: Gate, x: &[u8], truths: [bool; GATE_PLACES]) -> bool
+fn gate_true(g: Gate, x: &[u8], truths: &[bool]) -> bool
     requires { ⌜ Inputs (length (now x)) g ⌝ }
     requires { ⌜ States (now x) ⌝ }
-    ensures { λ r. ⌜ r ≡ gateTrue g (now (x .entry)) (λ (k : ℕ). getD truths k false) ⌝ }
+    requires { ⌜ mostGates ≤ length (now truths) ⌝ }
+    ensures { λ r. ⌜ r ≡ gateTrue g (now (x .entry)) (λ (k : ℕ). getD (now (truths .entry)) k false) ⌝ }
 {
     g.threshold as u32 <= true_tests(g, x) + true_gates(g, truths)
 }
@@ -74,7 +76,8 @@ pub fn gate_truths(gate: [Gate; GATE_PLACES], n: u8, x: &[u8]) -> [bool; GATE_PL
     let mut i: usize = 0;
     while i < gates {
         let g = gate[i];
-        truths[i] = gate_true(g, x, truths);
+        let holds = gate_true(g, x, &truths);
+        truths[i] = holds;
         i = i + 1;
     }
     truths

@@ -18,7 +18,7 @@ mul-l : tie.Need-mul-l Inv-loop μ-loop
 mul-l c = omega arith
 
 array-copy-out-l : tie.Need-array-copy-out-l Inv-loop μ-loop
-array-copy-out-l c = omega (arith, c .before .before .pre)
+array-copy-out-l c = omega (arith, c .before .before .before .pre)
 
 lost-requires : tie.Need-lost-requires Inv-loop μ-loop
 lost-requires c κs = tt
@@ -27,10 +27,10 @@ cast-class : tie.Need-cast-class Inv-loop μ-loop
 cast-class c = tt
 
 cast-class-2 : tie.Need-cast-class-2 Inv-loop μ-loop
-cast-class-2 c = record { fits = omega (arith, c .before .before .loop-test .taken, c .before .before .before .before .pre) }
+cast-class-2 c = record { fits = omega (arith, c .before .before .loop-test .taken, c .before .before .before .before .before .pre) }
 
 shl-class : tie.Need-shl-class Inv-loop μ-loop
-shl-class c = omega (arith, c .before .before .loop-test .taken, c .before .before .before .before .pre)
+shl-class c = omega (arith, c .before .before .loop-test .taken, c .before .before .before .before .before .pre)
 
 add-j : tie.Need-add-j Inv-loop μ-loop
 add-j c = omega arith
@@ -40,7 +40,7 @@ loop-less c = omega (arith, c .before .before .loop-test .taken)
 
 loop-again : tie.Need-loop-again Inv-loop μ-loop
 loop-again c =
-    bits-more (c .before .before .before .loop .inv) (c .before .before .loop-test .taken) (c .before .before .before .before .pre) (c .lost .ensures)
+    bits-more (c .before .before .before .loop .inv) (c .before .before .loop-test .taken) (c .before .before .before .before .before .pre) (c .lost .ensures)
 
 returns : tie.Need-returns Inv-loop μ-loop
 returns c = bits-done (c .before .loop .inv) (c .loop-test .left)

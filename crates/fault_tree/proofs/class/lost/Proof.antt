@@ -17,20 +17,19 @@ returns c = rw (eq-eqb (c .before .before .args .l .gate) never (c .if1 .taken))
 cast-i : tie.Need-cast-i
 cast-i c = search needs
 
-array-read-result : tie.Need-array-read-result
-array-read-result c = search needs
+shared-slice-read-result : tie.Need-shared-slice-read-result
+shared-slice-read-result c = search needs
 
 returns-2 : tie.Need-returns-2
 unfolding lost
-returns-2 c = rw (ne-eqb (c .before .before .before .before .args .l .gate) never (c .before .before .if1 .left)) refl
+returns-2 c = rw (ne-eqb (c .before .before .before .before .before .args .l .gate) never (c .before .before .before .if1 .left)) refl
 
 returns-3 : tie.Need-returns-3
 unfolding lost
 returns-3 c =
     let start = c .before .before .before .before in
-    let long : length (start .args .t1) ≡ 32 = search needs in
-    let past = List·getD-eq-default (start .args .t1) false {n = start .args .l .gate} (omega (arith, long, c .if2 .left)) in
+    let past = List·getD-eq-default (start .args .truths .now) false {n = start .args .l .gate} (omega (arith, c .if2 .left)) in
     rw (ne-eqb (start .args .l .gate) never (c .before .before .if1 .left), past) refl
 
 pub lost-spec : {M : Type 1} → statement M
-lost-spec = tie.close (tie.spec returns cast-i array-read-result returns-2 returns-3)
+lost-spec = tie.close (tie.spec returns cast-i shared-slice-read-result returns-2 returns-3)

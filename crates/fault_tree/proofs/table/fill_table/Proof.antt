@@ -9,6 +9,7 @@ use Rattle.soundness.proofs.Ranges.{loads-most, gates-most, joint-most}
 use Rattle.fault_tree.specs.Classes.{classBy, classOf}
 use Rattle.fault_tree.proofs.Ready.{counts-inside, counts-small, states, inputs}
 use Rattle.fault_tree.proofs.Tables.{Tabled, tabled-start, tabled-more, tabled-inside, tabled-done}
+use borrow.Author.Needs.{needs}
 use Rattle.fault_tree.proofs.table.fill_table.Statement.{statement}
 use Rattle.fault_tree.proofs.table.fill_table.Tie as tie
 
@@ -43,32 +44,35 @@ gate-truths-requires c κs =
       (inputs _ _ (tabled .sound) (tabled .same) _ (tabled .joint), states _ _ (tabled .sound) (tabled .same) _ (tabled .joint)),
     )
 
+slice-aggregate-class-by : tie.Need-slice-aggregate-class-by Inv-loop μ-loop
+slice-aggregate-class-by c = search needs
+
 class-by-requires : tie.Need-class-by-requires Inv-loop μ-loop
-class-by-requires c κs = omega (arith, loads-most _ (c .before .before .before .loop .inv .sound))
+class-by-requires c κs = omega (arith, loads-most _ (c .before .before .before .before .loop .inv .sound))
 
 array-write-table : tie.Need-array-write-table Inv-loop μ-loop
-array-write-table c = tabled-inside (c .before .before .before .before .loop .inv) (c .before .before .before .loop-test .taken)
+array-write-table c = tabled-inside (c .before .before .before .before .before .loop .inv) (c .before .before .before .before .loop-test .taken)
 
 next-joint-state-requires : tie.Need-next-joint-state-requires Inv-loop μ-loop
-next-joint-state-requires c κs = c .before .before .before .before .before .loop .inv .joint
+next-joint-state-requires c κs = c .before .before .before .before .before .before .loop .inv .joint
 
 add-k : tie.Need-add-k Inv-loop μ-loop
 add-k c = omega arith
 
 loop-less : tie.Need-loop-less Inv-loop μ-loop
-loop-less c = omega (arith, c .before .before .before .before .before .before .before .loop-test .taken)
+loop-less c = omega (arith, c .before .before .before .before .before .before .before .before .loop-test .taken)
 
 loop-again : tie.Need-loop-again Inv-loop μ-loop
 unfolding classOf
 loop-again c =
-    let t = c .before .before .before .before .before .before .before .before .before .before .before .before .before .before .before .args .t in
+    let t = c .before .before .before .before .before .before .before .before .before .before .before .before .before .before .before .before .args .t in
     let next = c .before .before .next-joint-state .ensures in
     let class =
     c .before .before .before .before .class-by .ensures
-    ∙ ap (λ (truths : List Bool). classBy truths (t .load) (t .loads)) (c .before .before .before .before .before .gate-truths .ensures) in
+    ∙ ap (λ (truths : List Bool). classBy truths (t .load) (t .loads)) (c .before .before .before .before .before .before .gate-truths .ensures) in
     tabled-more
-    (c .before .before .before .before .before .before .before .before .loop .inv)
-    (c .before .before .before .before .before .before .before .loop-test .taken)
+    (c .before .before .before .before .before .before .before .before .before .loop .inv)
+    (c .before .before .before .before .before .before .before .before .loop-test .taken)
     class
     (next .0)
     (next .1)
@@ -90,6 +94,7 @@ fill-table-spec =
     cleared-table-requires
     loop-holds
     gate-truths-requires
+    slice-aggregate-class-by
     class-by-requires
     array-write-table
     next-joint-state-requires

@@ -22,9 +22,9 @@ true-gates-requires c κs = search needs
 
 add-result : tie.Need-add-result
 add-result c =
-    let start = c .before .before .before .before in
+    let start = c .before .before .before .before .before in
     let tests = tests-most (start .args .g) (now (start .args .x)) in
-    let gates = gates-most (start .args .g) (λ (k : ℕ). getD (start .args .truths) k false) in
+    let gates = gates-most (start .args .g) (λ (k : ℕ). getD (start .args .truths .now) k false) in
     record { fits = omega (arith, c .before .true-tests .ensures, tests, start .pre .0 .tests, c .true-gates .ensures, gates, start .pre .0 .gates) }
 
 returns : tie.Need-returns

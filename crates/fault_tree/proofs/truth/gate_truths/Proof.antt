@@ -1,7 +1,8 @@
 -- `fault_tree::truth::gate_truths` meets its contract. The truths of the gates below i are set (`Evaluated`).
 use Prim.Native.Nat.{_-_}
+use mathlib.Core.Path.{sym}
 use native.Mathlib.Omega.{arith}
-use Rattle.fault_tree.proofs.Truths.{Evaluated, evaluated-start, evaluated-more, evaluated-done}
+use Rattle.fault_tree.proofs.Truths.{Evaluated, evaluated-start, evaluated-more, evaluated-long, evaluated-done}
 use Rattle.fault_tree.proofs.truth.gate_truths.Statement.{statement}
 use Rattle.fault_tree.proofs.truth.gate_truths.Tie as tie
 
@@ -20,21 +21,25 @@ mul-g c = omega arith
 array-copy-out-g : tie.Need-array-copy-out-g Inv-loop μ-loop
 array-copy-out-g c = omega (arith, c .before .before .before .pre .0)
 
+slice-aggregate-gate-true : tie.Need-slice-aggregate-gate-true Inv-loop μ-loop
+slice-aggregate-gate-true c = sym (evaluated-long (c .before .before .before .loop .inv))
+
 gate-true-requires : tie.Need-gate-true-requires Inv-loop μ-loop
 gate-true-requires c κs =
-    (c .before .before .before .before .pre .1 .0 _ (c .before .loop-test .taken), c .before .before .before .before .pre .1 .1)
+    let pre = c .before .before .before .before .before .pre in
+    (pre .1 .0 _ (c .before .before .loop-test .taken), (pre .1 .1, omega (arith, evaluated-long (c .before .before .before .loop .inv))))
 
 array-write-truths : tie.Need-array-write-truths Inv-loop μ-loop
-array-write-truths c = omega (arith, c .before .before .loop-test .taken, c .before .before .before .before .before .pre .0)
+array-write-truths c = omega (arith, c .before .before .before .loop-test .taken, c .before .before .before .before .before .before .pre .0)
 
 add-i : tie.Need-add-i Inv-loop μ-loop
 add-i c = omega arith
 
 loop-less : tie.Need-loop-less Inv-loop μ-loop
-loop-less c = omega (arith, c .before .before .loop-test .taken)
+loop-less c = omega (arith, c .before .before .before .loop-test .taken)
 
 loop-again : tie.Need-loop-again Inv-loop μ-loop
-loop-again c = evaluated-more (c .before .before .before .loop .inv) (c .before .before .loop-test .taken) (c .gate-true .ensures)
+loop-again c = evaluated-more (c .before .before .before .before .loop .inv) (c .before .before .before .loop-test .taken) (c .gate-true .ensures)
 
 returns : tie.Need-returns Inv-loop μ-loop
 returns c = evaluated-done (c .before .loop .inv) (c .loop-test .left)
@@ -48,6 +53,7 @@ gate-truths-spec =
     loop-holds
     mul-g
     array-copy-out-g
+    slice-aggregate-gate-true
     gate-true-requires
     array-write-truths
     add-i

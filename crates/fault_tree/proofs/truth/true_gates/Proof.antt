@@ -28,27 +28,27 @@ array-read-i c = omega (arith, c .before .before .before .before .pre .0)
 cast-i : tie.Need-cast-i Inv-loop μ-loop
 cast-i c = search needs
 
-array-read-n : tie.Need-array-read-n Inv-loop μ-loop
-array-read-n c =
-    let pre = c .before .before .before .before .pre in
-    omega (arith, pre .0, pre .1 _ (c .loop-test .taken))
+shared-slice-read-n : tie.Need-shared-slice-read-n Inv-loop μ-loop
+shared-slice-read-n c =
+    let pre = c .before .before .before .before .before .pre in
+    omega (arith, pre .1 .0 _ (c .before .loop-test .taken), pre .1 .1)
 
 cast-n : tie.Need-cast-n Inv-loop μ-loop
 cast-n c = tt
 
 add-n : tie.Need-add-n Inv-loop μ-loop
 add-n c =
-    let more = counted-more (c .before .loop .inv) (c .loop-test .taken) refl in
-    record { fits = omega (arith, counted-most more, c .before .before .before .before .pre .0) }
+    let more = counted-more (c .before .before .loop .inv) (c .before .loop-test .taken) refl in
+    record { fits = omega (arith, counted-most more, c .before .before .before .before .before .pre .0) }
 
 add-j : tie.Need-add-j Inv-loop μ-loop
 add-j c = omega arith
 
 loop-less : tie.Need-loop-less Inv-loop μ-loop
-loop-less c = omega arith
+loop-less c = omega (arith, c .before .loop-test .taken)
 
 loop-again : tie.Need-loop-again Inv-loop μ-loop
-loop-again c = counted-more (c .before .loop .inv) (c .loop-test .taken) refl
+loop-again c = counted-more (c .before .before .loop .inv) (c .before .loop-test .taken) refl
 
 returns : tie.Need-returns Inv-loop μ-loop
 unfolding trueGates
@@ -64,7 +64,7 @@ true-gates-spec =
     loop-holds
     array-read-i
     cast-i
-    array-read-n
+    shared-slice-read-n
     cast-n
     add-n
     add-j
