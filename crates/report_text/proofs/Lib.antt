@@ -1,3 +1,4 @@
+pub mod CaseA
 pub mod Fits
 pub mod Printed
 pub mod Reported

@@ -1,1 +1,2 @@
+pub mod CaseA
 pub mod Report
