@@ -30,4 +30,4 @@ use Rattle.demands.specs.DeskExamples.{DeskExamples, padded, votes, open
 pub desk-examples : DeskExamples
 unfolding each product refuse outside byte word mapByte stateCount probability componentField component threshold inputsByte test tests input inputs gateField gate lossGate size customers minutes loadField load count componentAfter componentRecord records study refusedOpening answer opened absentGate zeroGate noComponents noGates noLoads zeroStudy padded votes opens sum allBelow countTrue same divided jointStates isBlank mark ways branches paths trueTests trueGates gateTrue withTruth gateTruths lost classBy classOf classes pathList sumOver joined tabulate scale chanceTable factored pathBound total pathBounds quotientDown quotientUp customersSum lossSum minutesSum caidi figuresOf figuresBy
 desk-examples =
-    ((refl, record { paths = refl; lower = refl; upper = refl; classes = refl; loads = refl; figures = refl }), ((refl, record { paths = refl; lower = refl; upper = refl; classes = refl; loads = refl; figures = refl }), ((refl, record { paths = refl; lower = refl; upper = refl; classes = refl; loads = refl; figures = refl }), ((refl, record { paths = refl; lower = refl; upper = refl; classes = refl; loads = refl; figures = refl }), ((refl, record { paths = refl; lower = refl; upper = refl; classes = refl; loads = refl; figures = refl }), ((refl, tt), ((refl, tt), ((refl, tt), ((refl, tt), ((refl, tt), ((refl, tt), ((refl, tt), ((refl, tt), ((refl, record { paths = refl; lower = refl; upper = refl; classes = refl; loads = refl; figures = refl }), ((refl, record { paths = refl; lower = refl; upper = refl; classes = refl; loads = refl; figures = refl }), tt)))))))))))))))
+    ((refl, record { paths = refl; lower = refl; upper = refl; classes = refl; loads = refl; figures = refl }), ((refl, record { paths = refl; lower = refl; upper = refl; classes = refl; loads = refl; figures = refl }), ((refl, record { paths = refl; lower = refl; upper = refl; classes = refl; loads = refl; figures = refl }), ((refl, record { paths = refl; lower = refl; upper = refl; classes = refl; loads = refl; figures = refl }), ((refl, record { paths = refl; lower = refl; upper = refl; classes = refl; loads = refl; figures = refl }), ((refl, record { paths = refl; lower = refl; upper = refl; classes = refl; loads = refl; figures = refl }), ((refl, tt), ((refl, record { paths = refl; lower = refl; upper = refl; classes = refl; loads = refl; figures = refl }), ((refl, tt), ((refl, tt), ((refl, tt), ((refl, tt), ((refl, tt), ((refl, record { paths = refl; lower = refl; upper = refl; classes = refl; loads = refl; figures = refl }), ((refl, record { paths = refl; lower = refl; upper = refl; classes = refl; loads = refl; figures = refl }), tt)))))))))))))))

@@ -188,19 +188,29 @@ examples =
     (at 0 ∷ [])
     noCustomers
     -- F: six components of four states, and a seventh of two
-    ∷ example (6 ∷ 1 ∷ 1
+    ∷ listing (6 ∷ 1 ∷ 1
     ∷ 0x01 ∷ 4 ∷ 0x01 ∷ 4 ∷ 0x01 ∷ 4 ∷ 0x01 ∷ 4 ∷ 0x01 ∷ 4 ∷ 0x01 ∷ 4
     ∷ 0x02 ∷ 1 ∷ 0 ∷ 2 ∷ 0x01 ∷ 0 ∷ [])
     (opens (replicate 6 (fourStates 0 0 0)) (failed0 ∷ []) (lostBy 0 0 0 ∷ []))
+    (path (0 ∷ replicate 5 blankMark) 0 ∷ path (1 ∷ replicate 5 blankMark) 1 ∷ path (2 ∷ replicate 5 blankMark) 0 ∷ path (3 ∷ replicate 5 blankMark) 0 ∷ [])
+    (at one ∷ at 0 ∷ at 0 ∷ at 0 ∷ [])
+    (at one ∷ at 0 ∷ [])
+    (at 0 ∷ [])
+    noCustomers
     ∷ example (7 ∷ 1 ∷ 1
     ∷ 0x01 ∷ 4 ∷ 0x01 ∷ 4 ∷ 0x01 ∷ 4 ∷ 0x01 ∷ 4 ∷ 0x01 ∷ 4 ∷ 0x01 ∷ 4 ∷ 0x00
     ∷ 0x02 ∷ 1 ∷ 0 ∷ 2 ∷ 0x01 ∷ 0 ∷ [])
     (refusedOpening 7)
     -- G: states 1 to 3 that sum to one, and to one unit more
-    ∷ example (1 ∷ 1 ∷ 1
+    ∷ listing (1 ∷ 1 ∷ 1
     ∷ 0x0F ∷ 4 ∷ 0x00 ∷ 0x65 ∷ 0xCD ∷ 0x1D ∷ 0x00 ∷ 0xA3 ∷ 0xE1 ∷ 0x11 ∷ 0x00 ∷ 0xC2 ∷ 0xEB ∷ 0x0B
     ∷ 0x02 ∷ 1 ∷ 0 ∷ 2 ∷ 0x01 ∷ 0 ∷ [])
     (opens (fourStates 500_000_000 300_000_000 200_000_000 ∷ []) (failed0 ∷ []) (lostBy 0 0 0 ∷ []))
+    (path (0 ∷ []) 0 ∷ path (1 ∷ []) 1 ∷ path (2 ∷ []) 0 ∷ path (3 ∷ []) 0 ∷ [])
+    (at 0 ∷ at 500_000_000 ∷ at 300_000_000 ∷ at 200_000_000 ∷ [])
+    (at 500_000_000 ∷ at 500_000_000 ∷ [])
+    (at 500_000_000 ∷ [])
+    noCustomers
     ∷ example (1 ∷ 1 ∷ 1
     ∷ 0x0F ∷ 4 ∷ 0x00 ∷ 0x65 ∷ 0xCD ∷ 0x1D ∷ 0x00 ∷ 0xA3 ∷ 0xE1 ∷ 0x11 ∷ 0x01 ∷ 0xC2 ∷ 0xEB ∷ 0x0B
     ∷ 0x02 ∷ 1 ∷ 0 ∷ 2 ∷ 0x01 ∷ 0 ∷ [])
