@@ -25,9 +25,9 @@ use Rattle.study.specs.Zero.{zeroComponent, zeroLoad}
 use Rattle.soundness.specs.Sound.{SoundComponent, SoundGate, SoundLoad, Sound}
 use Rattle.soundness.specs.Check.{probabilitiesFault}
 use Rattle.planning.specs.Answers.{refusalOf}
-use Rattle.planning.specs.Edits.{edited, componentEditFault, probabilitiesSet, loadEditFault, customersSet, minutesSet}
+use Rattle.editing.specs.Edits.{edited, componentEditFault, probabilitiesSet, loadEditFault, customersSet, minutesSet}
 use Rattle.soundness.proofs.Ranges.{components-most, loads-most}
-use Rattle.planning.proofs.Edited.{present, edited-done, edited-refused}
+use Rattle.editing.proofs.Edited.{present, edited-done, edited-refused}
 use Rattle.demands.specs.Demand1.{EditRefused, EditedSound, EditFields, Shaped}
 use Rattle.demands.specs.Edits.{Edit, probabilities, customers, minutes, edit, breach, after, tableOf, write, tableAfter, othersOf}
 

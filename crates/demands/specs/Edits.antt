@@ -10,7 +10,7 @@ use Rattle.study.specs.declared.Study.{Study}
 use Rattle.study.specs.declared.StudyAnswer.{StudyAnswer}
 use Rattle.study.specs.Edits.{withProbabilities, withCustomers, withMinutes}
 use Rattle.study.specs.Places.{componentAt, loadAt}
-use Rattle.planning.specs.Edits.{componentEditFault, probabilitiesSet, loadEditFault, customersSet, minutesSet}
+use Rattle.editing.specs.Edits.{componentEditFault, probabilitiesSet, loadEditFault, customersSet, minutesSet}
 
 -- an edit names an item and gives its new numbers
 pub data Edit : Type 0 where

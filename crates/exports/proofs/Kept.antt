@@ -20,7 +20,7 @@ use Rattle.study_image.specs.Places.{imageBytes}
 use Rattle.study_image.specs.Image.{studyIn}
 use Rattle.evaluation.proofs.Listed.{room-kept}
 use Rattle.planning.specs.Answers.{refusalOf}
-use Rattle.planning.specs.Edits.{edited}
+use Rattle.editing.specs.Edits.{edited}
 use Rattle.exports.specs.Images.{openFault, Keeps, Opens, Edits}
 
 -- ---- opening

@@ -1,7 +1,7 @@
 // The edits of an opened study: its image is edited in place. A slice too short for an image holds no sound study, so that none is refused by 18.
 use crate::images::keep;
 use study_image::read_image;
-ghost use Rattle.planning.specs.Edits.{probabilitiesSet, customersSet, minutesSet};
+ghost use Rattle.editing.specs.Edits.{probabilitiesSet, customersSet, minutesSet};
 ghost use Rattle.study_image.specs.Image.{studyIn};
 ghost use Rattle.exports.specs.Images.{Edits};
 

@@ -1,4 +1,3 @@
-pub mod Edited
 pub mod FigureCalls
 pub mod Listed
 pub mod LoadCalls

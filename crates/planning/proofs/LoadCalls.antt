@@ -10,7 +10,7 @@ use Rattle.soundness.specs.Check.{sound}
 use Rattle.indices.specs.declared.figures.Enclosure.{Enclosure}
 use Rattle.planning.specs.declared.loads.LoadBounded.the-variants.{Bounds, Refused}
 use Rattle.planning.specs.Bounds.{lossFault, lossOf}
-use Rattle.planning.proofs.Edited.{Present, present}
+use Rattle.editing.proofs.Edited.{Present, present}
 
 -- as the code finds the breach
 pub loss-is : (t : Study) (j fault unsound item : ℕ) → fault ≡ first unsound item → unsound ≡ unsoundFault (sound t) → item ≡ itemFault (t .loads) j

@@ -1,5 +1,4 @@
 pub mod Answers
 pub mod Bounds
-pub mod Edits
 pub mod Figures
 pub mod Listing

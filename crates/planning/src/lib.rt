@@ -2,7 +2,6 @@
 // nothing that was lent or handed in is changed then.
 mod bounds;
 mod classes;
-mod edits;
 mod listing;
 mod loads;
 mod pairs;
@@ -11,9 +10,9 @@ mod three_figures;
 pub use bounds::PathsBounded;
 pub use bounds::path_bounds;
 pub use classes::class_bounds;
-pub use edits::set_customers;
-pub use edits::set_minutes;
-pub use edits::set_probabilities;
+pub use editing::set_customers;
+pub use editing::set_minutes;
+pub use editing::set_probabilities;
 pub use evaluation::FiguresAnswer;
 pub use evaluation::Listing;
 pub use event_tree::PathCount;

@@ -1,5 +1,5 @@
 -- `exports::edits::grid_set_minutes` meets its contract: the edited study is kept, and the slice of a sound study has the room.
-use Rattle.planning.specs.Edits.{minutesSet, loadEditFault}
+use Rattle.editing.specs.Edits.{minutesSet, loadEditFault}
 use borrow.Author.Needs.{needs}
 use Rattle.exports.proofs.Kept.{edit-keeps}
 use Rattle.exports.proofs.Signed.{handed-on}

@@ -1,5 +1,5 @@
 -- `exports::edits::grid_set_probabilities` meets its contract: the edited study is kept, and the slice of a sound study has the room.
-use Rattle.planning.specs.Edits.{probabilitiesSet, componentEditFault}
+use Rattle.editing.specs.Edits.{probabilitiesSet, componentEditFault}
 use borrow.Author.Needs.{needs}
 use Rattle.exports.proofs.Kept.{edit-keeps}
 use Rattle.exports.proofs.Signed.{handed-on}

@@ -1,11 +1,11 @@
--- `planning::edits::set_probabilities` meets its contract: a breach hands the study back; without one the probabilities are anew.
+-- `editing::set_probabilities` meets its contract: a breach hands the study back; without one the probabilities are anew.
 use mathlib.Core.Path.{sym}
 use native.Mathlib.Omega.{arith}
 use borrow.Author.Needs.{needs}
-use Rattle.planning.specs.Edits.{probabilitiesSet}
-use Rattle.planning.proofs.Edited.{edited-refused, edited-done}
-use Rattle.planning.proofs.edits.set_probabilities.Statement.{statement}
-use Rattle.planning.proofs.edits.set_probabilities.Tie as tie
+use Rattle.editing.specs.Edits.{probabilitiesSet}
+use Rattle.editing.proofs.Edited.{edited-refused, edited-done}
+use Rattle.editing.proofs.set_probabilities.Statement.{statement}
+use Rattle.editing.proofs.set_probabilities.Tie as tie
 
 component-edit-fault-requires : tie.Need-component-edit-fault-requires
 component-edit-fault-requires c κs = search needs

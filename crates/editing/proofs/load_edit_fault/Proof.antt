@@ -1,14 +1,14 @@
--- `planning::edits::load_edit_fault` meets its contract: the rules are judged in the order of the definition; with none broken the load is there.
+-- `editing::load_edit_fault` meets its contract: the rules are judged in the order of the definition; with none broken the load is there.
 use mathlib.Core.Path.{_≡_, sym, _∙_}
 use native.Mathlib.Omega.{arith}
 use borrow.Author.Needs.{needs}
-use Rattle.planning.specs.Edits.{loadEditFault}
+use Rattle.editing.specs.Edits.{loadEditFault}
 use Rattle.rules.specs.Breach.{firstBreach}
 use Rattle.rules.proofs.Kept.{list-kept, first-last}
 use Rattle.soundness.proofs.Ranges.{loads-most}
-use Rattle.planning.proofs.Edited.{present}
-use Rattle.planning.proofs.edits.load_edit_fault.Statement.{statement}
-use Rattle.planning.proofs.edits.load_edit_fault.Tie as tie
+use Rattle.editing.proofs.Edited.{present}
+use Rattle.editing.proofs.load_edit_fault.Statement.{statement}
+use Rattle.editing.proofs.load_edit_fault.Tie as tie
 
 fault-is : (c : tie.After-first2) → c .first2 .result ≡ loadEditFault (c .before .before .before .before .before .before .args .t) (c .before .before .before .before .before .before .args .j) (c .before .before .before .before .before .before .args .most) (c .before .before .before .before .before .before .args .n)
 unfolding loadEditFault firstBreach

@@ -18,7 +18,7 @@ use study::with_probabilities;
 ghost use mathlib.Core.Path.{_≡_};
 ghost use Prim.Native.Nat.{_<_};
 ghost use Rattle.rules.specs.Limits.{mostComponents, mostLoads};
-ghost use Rattle.planning.specs.Edits.{componentEditFault, probabilitiesSet, loadEditFault, customersSet, minutesSet};
+ghost use Rattle.editing.specs.Edits.{componentEditFault, probabilitiesSet, loadEditFault, customersSet, minutesSet};
 
 // The first breach of an edit of component i's probabilities; without one, the study has the component.
 fn component_edit_fault(t: Study, i: usize, p1: u32, p2: u32, p3: u32) -> u8

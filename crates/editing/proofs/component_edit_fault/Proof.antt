@@ -1,17 +1,17 @@
--- `planning::edits::component_edit_fault` meets its contract: 16 and 17 are judged first; without them the component is there to be read.
+-- `editing::component_edit_fault` meets its contract: 16 and 17 are judged first; without them the component is there to be read.
 use Prim.Native.Nat.{_<_}
 use mathlib.Core.Path.{_≡_, sym, _∙_}
 use native.Mathlib.Omega.{arith}
 use borrow.Author.Needs.{needs}
-use Rattle.planning.specs.Edits.{componentEditFault}
+use Rattle.editing.specs.Edits.{componentEditFault}
 use Rattle.rules.specs.Breach.{firstBreach, first}
 use Rattle.rules.proofs.Kept.{first-kept, first-some, first-next, first-assoc, first-last}
 use Rattle.soundness.proofs.Ranges.{components-most}
 use Rattle.rules.specs.Table.{unsoundFault, itemFault}
 use Rattle.soundness.specs.Check.{sound}
-use Rattle.planning.proofs.Edited.{present}
-use Rattle.planning.proofs.edits.component_edit_fault.Statement.{statement}
-use Rattle.planning.proofs.edits.component_edit_fault.Tie as tie
+use Rattle.editing.proofs.Edited.{present}
+use Rattle.editing.proofs.component_edit_fault.Statement.{statement}
+use Rattle.editing.proofs.component_edit_fault.Tie as tie
 
 -- the first of 16 and 17
 absent-is : (c : tie.After-first)

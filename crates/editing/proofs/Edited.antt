@@ -10,7 +10,7 @@ use Rattle.study.specs.declared.Outcome.the-variants.{Done, Refused}
 use Rattle.soundness.specs.Check.{sound}
 use Rattle.soundness.specs.Sound.{Sound}
 use Rattle.soundness.proofs.Checked.{no-unsound}
-use Rattle.planning.specs.Edits.{edited}
+use Rattle.editing.specs.Edits.{edited}
 
 pub edited-refused : (breach : ℕ) (old new : Study) → (breach ≡ 0 → ⊥) → edited breach old new ≡ record { outcome = Refused breach; study = old }
 unfolding edited

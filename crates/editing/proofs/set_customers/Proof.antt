@@ -1,11 +1,11 @@
--- `planning::edits::set_customers` meets its contract: a breach hands the study back; without one the customers are anew.
+-- `editing::set_customers` meets its contract: a breach hands the study back; without one the customers are anew.
 use mathlib.Core.Path.{sym}
 use native.Mathlib.Omega.{arith}
 use borrow.Author.Needs.{needs}
-use Rattle.planning.specs.Edits.{customersSet}
-use Rattle.planning.proofs.Edited.{edited-refused, edited-done}
-use Rattle.planning.proofs.edits.set_customers.Statement.{statement}
-use Rattle.planning.proofs.edits.set_customers.Tie as tie
+use Rattle.editing.specs.Edits.{customersSet}
+use Rattle.editing.proofs.Edited.{edited-refused, edited-done}
+use Rattle.editing.proofs.set_customers.Statement.{statement}
+use Rattle.editing.proofs.set_customers.Tie as tie
 
 load-edit-fault-requires : tie.Need-load-edit-fault-requires
 load-edit-fault-requires c κs = search needs
