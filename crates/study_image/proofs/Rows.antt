@@ -1,39 +1,15 @@
--- What carries the loops that write an image: a row of bytes at a place, and a row for each record, one behind the other.
+-- What carries the loops that write an image: a row for each record, one behind the other.
 use Prim.Native.Nat.{ℕ, zero, suc, _+_, _*_, _<_, _≤_}
 use mathlib.Core.Path.{_≡_, refl, sym, ap, _∙_, subst}
 use mathlib.Core.List.{List, [], _∷_, _++_, map, append-nil, append-assoc}
 use mathlib.Core.Logic.{⊎-elim}
-use native.Mathlib.Nat.{add-zero, zero-mul, mul-le-mul-right, not-suc-le-zero, le-of-suc-le-suc, eq-or-lt-of-le}
+use native.Mathlib.Nat.{zero-mul, mul-le-mul-right, not-suc-le-zero, le-of-suc-le-suc, eq-or-lt-of-le}
 use native.Mathlib.Numerals.{add-one}
 use native.Mathlib.Omega.{arith}
-use lib.ListN.{length, getD, take, drop, set, length-append, drop-of-length-le}
-use lib.Seq.{drop-cons, take-all}
+use lib.ListN.{length, getD, take, length-append}
+use lib.Seq.{take-all}
 use Rattle.lists.specs.Rows.{put, joined}
-use Rattle.lists.proofs.Puts.{Due, due-start, due-more, due-set, due-done, put-size}
-
--- ---- a row of bytes: those below i are written
-
-pub record RowDue (row d₀ : List ℕ) (at : ℕ) (d : List ℕ) (i : ℕ) : Type 0 where
-  pub inside : i ≤ length row
-  pub due : Due d₀ at row d (at + i) (drop i row)
-
-module _ {row d₀ : List ℕ} {at : ℕ} where
-  pub row-start : at + length row ≤ length d₀ → RowDue row d₀ at d₀ 0
-  row-start h = record { inside = omega arith; due = rw add-zero (due-start h) }
-
-  pub row-more : {d : List ℕ} {i : ℕ} → RowDue row d₀ at d i → i < length row → RowDue row d₀ at (set d (at + i) (getD row i 0)) (i + 1)
-  row-more {d} {i} r h =
-      let next : drop i row ≡ getD row i 0 ∷ drop (i + 1) row = rw add-one (drop-cons row i 0 h) in
-      let place : at + i + 1 ≡ at + (i + 1) = omega arith in
-      record { inside = omega arith; due = rw place at (due-set (rw next at (r .due))) }
-
-  pub row-room : {d : List ℕ} {i : ℕ} → RowDue row d₀ at d i → i < length row → at + i < length d
-  row-room {d} {i} r h = omega (arith, r .due .place, r .due .room)
-
-  pub row-done : {d : List ℕ} {i : ℕ} → RowDue row d₀ at d i → length row ≤ i → d ≡ put d₀ at row
-  row-done {d} {i} r h = due-done (rw (drop-of-length-le row {i = i} h) at (r .due))
-
--- ---- a row for each record: those of the records below i are written, and these fit their rows
+use Rattle.lists.proofs.Puts.{due-start, due-more, due-done, put-size}
 
 -- a piece, and another behind it
 put-next : (d₀ d d′ : List ℕ) (at n : ℕ) (x y : List ℕ) → d ≡ put d₀ at x → n ≡ at + length x → at + length x + length y ≤ length d₀ → d′ ≡ put d n y

@@ -34,11 +34,7 @@ pub fn write_row(row: &[u8], image: &mut [u8], at: usize)
     requires { ⌜ at + length (now row) ≤ length (now image) ⌝ }
     ensures { λ r. ⌜ now (image .exit) ≡ put (now (image .entry)) at (now (row .entry)) ⌝ }
 {
-    let mut i: usize = 0;
-    while i < row.len() {
-        image[at + i] = row[i];
-        i = i + 1;
-    }
+    text::copy(image, at, row);
 }
 
 // The bytes at the test places of a gate, from a place on.
