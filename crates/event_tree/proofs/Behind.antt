@@ -2,11 +2,9 @@
 use Prim.Native.Nat.{ℕ}
 use mathlib.Core.Path.{_≡_, refl, sym, ap, _∙_}
 use mathlib.Core.List.{List, [], _∷_, _++_, append-nil, append-assoc}
-use lib.ListN.{take}
 use Rattle.lists.specs.Rows.{joined}
 use Rattle.paths.proofs.Ways.{headed}
-use Rattle.event_tree.specs.Entries.{marksOf, entriesBehind}
-use Rattle.event_tree.specs.declared.entry.Front.{Front}
+use Rattle.event_tree.specs.Entries.{entriesBehind}
 
 -- no entries but one, of a class alone
 pub behind-one : (front : List ℕ) (class : ℕ) → entriesBehind front ((class ∷ []) ∷ []) ≡ front ++ (class ∷ [])
@@ -27,11 +25,8 @@ behind-headed front mark (row ∷ rows) =
     ap (λ (l : List ℕ). l ++ entriesBehind front (headed mark rows)) (sym (append-assoc front (mark ∷ []) row))
     ∙ ap (λ (l : List ℕ). front ++ (mark ∷ []) ++ row ++ l) (behind-headed front mark rows)
 
-behind-nothing : (rows : List (List ℕ)) → entriesBehind [] rows ≡ joined rows
-unfolding entriesBehind joined
-behind-nothing [] = refl
-behind-nothing (row ∷ rows) = ap (λ (l : List ℕ). row ++ l) (behind-nothing rows)
-
 -- before any component is passed
-pub unmarked : (front : Front) (rows : List (List ℕ)) → front .size ≡ 0 → entriesBehind (marksOf front) rows ≡ joined rows
-unmarked front rows e = ap (λ (n : ℕ). entriesBehind (take n (front .marks)) rows) e ∙ behind-nothing rows
+pub unmarked : (rows : List (List ℕ)) → entriesBehind [] rows ≡ joined rows
+unfolding entriesBehind joined
+unmarked [] = refl
+unmarked (row ∷ rows) = ap (λ (l : List ℕ). row ++ l) (unmarked rows)

@@ -32,9 +32,9 @@ pub record Evaluated (gates : List Gate) (x : List ℕ) (n i : ℕ) (truths : Li
   pub made : truths ≡ gateTruths gates x i
 
 module _ {gates : List Gate} {x : List ℕ} {n : ℕ} where
-  pub evaluated-start : Evaluated gates x n 0 (replicate 32 false)
+  pub evaluated-start : {truths : List Bool} → truths ≡ replicate mostGates false → Evaluated gates x n 0 truths
   unfolding gateTruths
-  evaluated-start = record { inside = omega arith; made = refl }
+  evaluated-start e = record { inside = omega arith; made = e }
 
   pub evaluated-more : {i : ℕ} {truths : List Bool} {b : Bool} → Evaluated gates x n i truths → i < n
       → b ≡ gateTrue (getD gates i noGate) x (λ (k : ℕ). getD truths k false) → Evaluated gates x n (i + 1) (set truths i b)

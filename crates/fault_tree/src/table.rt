@@ -1,6 +1,7 @@
 // The classes of all joint states.
 use crate::class::class_by;
-use crate::truth::gate_truths;
+use crate::truth::gate_true;
+use crate::truth::no_truths;
 use joint_states::next_joint_state;
 use rules::COMPONENT_PLACES;
 use rules::JOINT_STATE_PLACES;
@@ -39,11 +40,19 @@ fn fill_table(t: Study, counts: &[u8], x: &mut [u8]) -> [u8; JOINT_STATE_PLACES]
 {
     let gate = t.gate;
     let load = t.load;
+    let gates = t.gates as usize;
     let joint = joint_states(counts) as usize;
     let mut table = cleared_table();
     let mut k: usize = 0;
     while k < joint {
-        let truths = gate_truths(gate, t.gates, x);
+        let mut truths = no_truths();
+        let mut i: usize = 0;
+        while i < gates {
+            let g = gate[i];
+            let holds = gate_true(g, x, &truths);
+            truths[i] = holds;
+            i = i + 1;
+        }
         table[k] = class_by(&truths, load, t.loads);
         next_joint_state(counts, x);
         k = k + 1;

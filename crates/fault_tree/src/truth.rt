@@ -4,12 +4,11 @@ use study::Gate;
 ghost use Prim.Native.Nat.{ℕ, _<_, _≤_};
 ghost use mathlib.Core.Bool.{false};
 ghost use mathlib.Core.Path.{_≡_};
-ghost use lib.ListN.{length, getD};
+ghost use lib.ListN.{length, getD, replicate};
 ghost use Rattle.lists.specs.Bits.{bit};
 ghost use Rattle.rules.specs.Limits.{mostGates, mostGateInputs};
-ghost use Rattle.study.specs.Places.{noGate};
 ghost use Rattle.fault_tree.specs.Reading.{maskBits, States, Inputs};
-ghost use Rattle.fault_tree.specs.Truth.{trueTests, trueGates, gateTrue, gateTruths};
+ghost use Rattle.fault_tree.specs.Truth.{trueTests, trueGates, gateTrue};
 
 // Whether a mask has a component's state.
 fn test_true(mask: u8, state: u8) -> bool
@@ -55,7 +54,8 @@ fn true_gates(g: Gate, truths: &[bool]) -> u32
     n
 }
 
-fn gate_true(g: Gate, x: &[u8], truths: &[bool]) -> bool
+// Whether a gate is true in joint state x, where these are the truths of the gates before it.
+pub fn gate_true(g: Gate, x: &[u8], truths: &[bool]) -> bool
     requires { ⌜ Inputs (length (now x)) g ⌝ }
     requires { ⌜ States (now x) ⌝ }
     requires { ⌜ mostGates ≤ length (now truths) ⌝ }
@@ -64,21 +64,9 @@ fn gate_true(g: Gate, x: &[u8], truths: &[bool]) -> bool
     g.threshold as u32 <= true_tests(g, x) + true_gates(g, truths)
 }
 
-// The truths of the first n gates in joint state x, in order: a gate has only lower ones as inputs.
-pub fn gate_truths(gate: [Gate; GATE_PLACES], n: u8, x: &[u8]) -> [bool; GATE_PLACES]
-    requires { ⌜ n ≤ mostGates ⌝ }
-    requires { ⌜ ((i : ℕ) → i < n → Inputs (length (now x)) (getD gate i noGate)) ⌝ }
-    requires { ⌜ States (now x) ⌝ }
-    ensures { λ r. ⌜ r ≡ gateTruths gate (now (x .entry)) n ⌝ }
+// No gate true yet.
+pub fn no_truths() -> [bool; GATE_PLACES]
+    ensures { λ r. ⌜ r ≡ replicate mostGates false ⌝ }
 {
-    let gates = n as usize;
-    let mut truths = [false; GATE_PLACES];
-    let mut i: usize = 0;
-    while i < gates {
-        let g = gate[i];
-        let holds = gate_true(g, x, &truths);
-        truths[i] = holds;
-        i = i + 1;
-    }
-    truths
+    [false; GATE_PLACES]
 }

@@ -1,41 +1,36 @@
 -- `event_tree::entry::write_entry` meets its contract. The marks below i are written (`Written`).
 use Prim.Native.Nat.{_-_}
-use mathlib.Core.Path.{_≡_}
 use native.Mathlib.Omega.{arith}
-use lib.ListN.{length}
-use borrow.Author.Needs.{needs}
 use Rattle.event_tree.proofs.Entries.{Written, written-start, written-more, written-room, written-size, written-done}
 use Rattle.event_tree.proofs.entry.write_entry.Statement.{statement}
 use Rattle.event_tree.proofs.entry.write_entry.Tie as tie
 
 abbrev Inv-loop : tie.InvT-loop
-Inv-loop class out₀ at marks size i₀ out i = Written out₀ at (record { marks = marks; size = size }) class out i
+Inv-loop marks class out₀ at size i₀ out i = Written out₀ at marks class out i
 
 abbrev μ-loop : tie.MeasureT-loop
-μ-loop class out₀ at marks size i₀ out i = size - i
+μ-loop marks class out₀ at size i₀ out i = size - i
 
 loop-holds : tie.Need-loop-holds Inv-loop μ-loop
-loop-holds c =
-    let twelve : length (c .before .args .front .marks) ≡ 12 = search needs in
-    written-start (omega (arith, c .before .pre .0, twelve)) (c .before .pre .1)
+loop-holds c = written-start (c .pre)
 
-array-read-out : tie.Need-array-read-out Inv-loop μ-loop
-array-read-out c = omega (arith, c .before .before .before .pre .0)
+shared-slice-read-out : tie.Need-shared-slice-read-out Inv-loop μ-loop
+shared-slice-read-out c = c .before .loop-test .taken
 
 add-out : tie.Need-add-out Inv-loop μ-loop
 add-out c = omega arith
 
 slice-write-out : tie.Need-slice-write-out Inv-loop μ-loop
-slice-write-out c = written-room (c .before .loop .inv)
+slice-write-out c = written-room (c .before .before .loop .inv)
 
 add-i : tie.Need-add-i Inv-loop μ-loop
 add-i c = omega arith
 
 loop-less : tie.Need-loop-less Inv-loop μ-loop
-loop-less c = omega arith
+loop-less c = omega (arith, c .before .loop-test .taken)
 
 loop-again : tie.Need-loop-again Inv-loop μ-loop
-loop-again c = written-more (c .before .loop .inv) (c .loop-test .taken)
+loop-again c = written-more (c .before .before .loop .inv) (c .before .loop-test .taken)
 
 add-out-2 : tie.Need-add-out-2 Inv-loop μ-loop
 add-out-2 c = omega arith
@@ -64,7 +59,7 @@ write-entry-spec =
     Inv-loop
     μ-loop
     loop-holds
-    array-read-out
+    shared-slice-read-out
     add-out
     slice-write-out
     add-i

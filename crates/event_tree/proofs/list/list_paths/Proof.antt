@@ -11,21 +11,24 @@ use Rattle.event_tree.proofs.list.list_paths.Tie as tie
 no-marks-requires : tie.Need-no-marks-requires
 no-marks-requires c κs = search needs
 
+slice-aggregate-list-block : tie.Need-slice-aggregate-list-block
+slice-aggregate-list-block c = search needs
+
 list-block-requires : tie.Need-list-block-requires
 list-block-requires c κs =
-    let start = c .before .before .before .before .before in
-    let front = c .before .no-marks in
-    let long = ap length (unmarked (front .result) (paths (start .args .counts .now) (start .args .block .now)) (front .ensures)) in
-    (start .pre .0, (omega (arith, front .ensures, start .pre .1 .0), omega (arith, long, start .pre .1 .1)))
+    let start = c .before .before .before .before .before .before in
+    let long = ap length (unmarked (paths (start .args .counts .now) (start .args .block .now))) in
+    (start .pre .0, (omega (arith, c .before .before .no-marks .ensures, start .pre .1 .0), omega (arith, long, start .pre .1 .1)))
 
 same-length : tie.Need-same-length
 same-length c = search needs
 
 returns : tie.Need-returns
 returns c =
-    let start = c .before .before .before .before .before .before .before .before in
-    let front = c .before .before .before .before .no-marks in
-    rw (unmarked (front .result) (paths (start .args .counts .now) (start .args .block .now)) (front .ensures)) at (c .before .before .list-block .ensures .1)
+    let start = c .before .before .before .before .before .before .before .before .before .before in
+    rw (unmarked (paths (start .args .counts .now) (start .args .block .now))) at (c .before .before .before .list-block .ensures .1 .0)
 
 pub list-paths-spec : {M : Type 1} → statement M
-list-paths-spec = tie.close (tie.spec no-marks-requires list-block-requires same-length returns)
+list-paths-spec =
+    tie.close
+    (tie.spec no-marks-requires slice-aggregate-list-block list-block-requires same-length returns)
