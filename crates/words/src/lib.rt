@@ -14,92 +14,40 @@ struct Word {
     size: usize,
 }
 
+// So many letters of these.
+fn spelt(letters: [u8; WORD_PLACES], size: usize) -> Word
+    ensures { λ r. ⌜ r .letters ≡ letters ⌝ }
+    ensures { λ r. ⌜ r .size ≡ size ⌝ }
+{
+    Word { letters, size }
+}
+
 // The word of a refusal; none for a number that the table lacks.
 fn word_of(refusal: u8) -> Word
     ensures { λ r. ⌜ take (r .size) (r .letters) ≡ refusalWord refusal ⌝ }
     ensures { λ r. ⌜ r .size ≤ length (r .letters) ⌝ }
 {
     match refusal {
-        1 => Word {
-            letters: *b"short       ",
-            size: 5,
-        },
-        2 => Word {
-            letters: *b"counts      ",
-            size: 6,
-        },
-        3 => Word {
-            letters: *b"stray bit   ",
-            size: 9,
-        },
-        4 => Word {
-            letters: *b"states      ",
-            size: 6,
-        },
-        5 => Word {
-            letters: *b"no state    ",
-            size: 8,
-        },
-        6 => Word {
-            letters: *b"over one    ",
-            size: 8,
-        },
-        7 => Word {
-            letters: *b"too wide    ",
-            size: 8,
-        },
-        8 => Word {
-            letters: *b"inputs      ",
-            size: 6,
-        },
-        9 => Word {
-            letters: *b"no component",
-            size: 12,
-        },
-        10 => Word {
-            letters: *b"mask        ",
-            size: 4,
-        },
-        11 => Word {
-            letters: *b"gate ahead  ",
-            size: 10,
-        },
-        12 => Word {
-            letters: *b"threshold   ",
-            size: 9,
-        },
-        13 => Word {
-            letters: *b"no gate     ",
-            size: 7,
-        },
-        14 => Word {
-            letters: *b"load size   ",
-            size: 9,
-        },
-        15 => Word {
-            letters: *b"left over   ",
-            size: 9,
-        },
-        16 => Word {
-            letters: *b"unsound     ",
-            size: 7,
-        },
-        17 => Word {
-            letters: *b"no item     ",
-            size: 7,
-        },
-        18 => Word {
-            letters: *b"no room     ",
-            size: 7,
-        },
-        19 => Word {
-            letters: *b"no customers",
-            size: 12,
-        },
-        _ => Word {
-            letters: *b"            ",
-            size: 0,
-        },
+        1 => spelt(*b"short       ", 5),
+        2 => spelt(*b"counts      ", 6),
+        3 => spelt(*b"stray bit   ", 9),
+        4 => spelt(*b"states      ", 6),
+        5 => spelt(*b"no state    ", 8),
+        6 => spelt(*b"over one    ", 8),
+        7 => spelt(*b"too wide    ", 8),
+        8 => spelt(*b"inputs      ", 6),
+        9 => spelt(*b"no component", 12),
+        10 => spelt(*b"mask        ", 4),
+        11 => spelt(*b"gate ahead  ", 10),
+        12 => spelt(*b"threshold   ", 9),
+        13 => spelt(*b"no gate     ", 7),
+        14 => spelt(*b"load size   ", 9),
+        15 => spelt(*b"left over   ", 9),
+        16 => spelt(*b"unsound     ", 7),
+        17 => spelt(*b"no item     ", 7),
+        18 => spelt(*b"no room     ", 7),
+        19 => spelt(*b"no customers", 12),
+        _ => spelt(*b"            ", 0),
     }
 }
 

@@ -1,8 +1,8 @@
 -- `fault_tree::class::lost` meets its contract: past the truths stands no true gate.
-use mathlib.Core.Path.{_≡_, refl}
+use mathlib.Core.Path.{refl}
 use mathlib.Core.Bool.{false}
 use native.Mathlib.Omega.{arith}
-use lib.ListN.{length, List·getD-eq-default}
+use lib.ListN.{List·getD-eq-default}
 use borrow.Author.Tests.{eq-eqb, ne-eqb}
 use Rattle.rules.specs.Limits.{never}
 use Rattle.fault_tree.specs.Classes.{lost}
