@@ -1,4 +1,5 @@
 // One entry of a list of paths: the marks of all components, then the class.
+use rules::BLANK;
 use rules::COMPONENT_PLACES;
 ghost use Prim.Native.Nat.{_+_, _≤_};
 ghost use mathlib.Core.Path.{_≡_};
@@ -7,9 +8,6 @@ ghost use lib.ListN.{length};
 ghost use Rattle.rules.specs.Limits.{mostComponents};
 ghost use Rattle.lists.specs.Rows.{put};
 ghost use Rattle.paths.specs.Paths.{mark as Paths·mark};
-
-// The mark of a blank component.
-const BLANK: u8 = 255;
 
 // Room for the marks of all components.
 pub fn no_marks() -> [u8; COMPONENT_PLACES]

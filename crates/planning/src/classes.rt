@@ -3,6 +3,7 @@ use crate::pairs::pair_fault;
 use evaluation::blank_page;
 use evaluation::list_page;
 use evaluation::write_classes;
+use rules::CLASS_PLACES;
 use rules::first;
 use rules::unsound_fault;
 use soundness::is_sound;
@@ -16,9 +17,6 @@ ghost use Rattle.probability.specs.Totals.{classPlaces};
 ghost use Rattle.soundness.specs.Sound.{Sound};
 ghost use Rattle.evaluation.specs.Bounds.{lowerClasses, upperClasses};
 ghost use Rattle.planning.specs.Bounds.{filled, classesFault, classesBounded};
-
-// The places that class bounds need: a class is a byte.
-const CLASS_PLACES: usize = 256;
 
 // Bounds for the classes of a sound study, in slices that have the room.
 fn bound_classes(t: Study, lower: &mut [u64], upper: &mut [u64])

@@ -1,5 +1,6 @@
 // The bounds of one path.
 use crate::chances::chance_at;
+use rules::BLANK;
 use units::ONE;
 use units::scale;
 ghost use Prim.Native.Nat.{_≤_, _<_};
@@ -10,9 +11,6 @@ ghost use Rattle.units.specs.Rounding.{up};
 ghost use Rattle.rules.specs.Limits.{mostComponents};
 ghost use Rattle.probability.specs.Bounds.{factored as Bounds·factored, pathBound};
 ghost use Rattle.probability.specs.Reading.{AtMostOne};
-
-// The mark of a blank component.
-const BLANK: u8 = 255;
 
 // A bound with the factor of component i, whose mark is given; a blank one has none.
 fn factored(rounding: u64, chances: &[u32], entry: &[u8], i: usize, bound: u64) -> u64

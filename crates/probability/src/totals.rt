@@ -1,5 +1,6 @@
 // Bounds and totals over a list of paths. Each call works out lower or upper numbers, by what its divisions add.
 use crate::path::path_bound;
+use rules::CLASS_PLACES;
 use rules::LOAD_PLACES;
 ghost use Prim.Native.Nat.{ℕ, _+_, _*_, _≤_, _<_, min};
 ghost use mathlib.Core.Path.{_≡_};
@@ -12,9 +13,6 @@ ghost use Rattle.units.specs.Rounding.{up};
 ghost use Rattle.rules.specs.Limits.{mostLoads};
 ghost use Rattle.probability.specs.Reading.{AtMostOne, PathList};
 ghost use Rattle.probability.specs.Totals.{classPlaces, sumsMost, noTotals, entriesOf, pathBounds, classTotals, loadTotals, withPath};
-
-// The places of classes.
-const CLASS_PLACES: usize = 256;
 
 // No limit to sums of lower bounds: one for each of 4,096 paths.
 pub const SUMS_MOST: u64 = 4096000000000;

@@ -1,5 +1,6 @@
 // The lines of classes.
 use probability::entry_at;
+use rules::CLASS_PLACES;
 use text::item_line;
 ghost use Prim.Native.Nat.{_≤_};
 ghost use mathlib.Core.Path.{_≡_};
@@ -8,9 +9,6 @@ ghost use Rattle.text.specs.Writing.{Room, Wrote};
 ghost use Rattle.probability.specs.Reading.{PathList};
 ghost use Rattle.probability.specs.Totals.{classPlaces, entriesOf};
 ghost use Rattle.report_lines.specs.Classes.{noneBearing, allBearing, classLine, classLines};
-
-// The places of classes.
-pub const CLASS_PLACES: usize = 256;
 
 // No path for any class.
 fn none_bearing() -> [u32; CLASS_PLACES]

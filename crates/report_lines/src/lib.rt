@@ -6,7 +6,6 @@ mod load_text;
 mod marks;
 mod path_text;
 
-pub use class_text::CLASS_PLACES;
 pub use class_text::all_bearing;
 pub use class_text::class_lines;
 pub use figure_text::figure_lines;

@@ -1,14 +1,13 @@
 // What stands for the components of a path.
 use rules::STATE_PLACES;
+use text::ZERO;
 ghost use Prim.Native.Nat.{_≤_};
 ghost use mathlib.Core.Path.{_≡_};
 ghost use lib.ListN.{length};
 ghost use Rattle.text.specs.Writing.{Room, Wrote};
 ghost use Rattle.report_lines.specs.Paths.{markByte, markBytes};
 
-// The byte of the digit 0, and the dash of a blank component.
-const ZERO: u8 = 48;
-
+// What stands for a blank component.
 const DASH: u8 = 45;
 
 // The digit of a state, or the dash.

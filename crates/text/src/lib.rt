@@ -9,4 +9,5 @@ pub use lines::bounds_end;
 pub use lines::bounds_line;
 pub use lines::item_line;
 pub use lines::number_line;
+pub use numbers::ZERO;
 pub use numbers::field;

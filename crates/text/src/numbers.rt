@@ -7,7 +7,7 @@ ghost use Rattle.text.specs.Numbers.{digit as Numbers·digit, decimal as
 ghost use Rattle.text.specs.Writing.{Room, Wrote};
 
 // The byte of the digit 0.
-const ZERO: u8 = 48;
+pub const ZERO: u8 = 48;
 
 // Writes a digit.
 fn digit(out: &mut [u8], at: usize, n: u8) -> usize
