@@ -8,7 +8,7 @@ report: target/bin/report
 	@scripts/bytes.sh $(STUDY) | target/bin/report
 
 # Proved, then built: a program that is not proved is not there.
-target/bin/report:
+target/bin/report: crates.txt $(wildcard crates/*/src/*.rt)
 	@rt check report > /dev/null
 
 # Every crate proved from nothing, every must-fail edit refused, every program run and compared, the library compared with a second implementation.
