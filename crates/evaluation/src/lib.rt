@@ -11,7 +11,6 @@ pub use listing::list_sound;
 pub use losses::Losses;
 pub use losses::losses_of;
 pub use losses::losses_on;
-pub use page::PAGE_BYTES;
 pub use page::blank_page;
 pub use page::list_page;
 pub use slices::write_classes;

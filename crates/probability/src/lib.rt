@@ -4,7 +4,6 @@ mod chances;
 mod path;
 mod totals;
 
-pub use chances::CHANCE_PLACES;
 pub use chances::chance_table;
 pub use path::path_bound;
 pub use totals::SUMS_MOST;
