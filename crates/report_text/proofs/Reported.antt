@@ -12,6 +12,7 @@ use Rattle.lists.specs.Rows.{put}
 use Rattle.text.specs.Writing.{Room, Wrote}
 use Rattle.rules.specs.Table.{roomFault}
 use Rattle.evaluation.proofs.Listed.{room-kept}
+use Rattle.planning.specs.Bounds.{filled}
 use Rattle.report_text.specs.declared.reporting.ReportAnswer.{ReportAnswer}
 use Rattle.report_text.specs.declared.reporting.ReportAnswer.the-variants.{Written, Refused}
 use Rattle.report_text.specs.Report.{reported, written}
@@ -37,7 +38,7 @@ module _ {d text d′ : List ℕ} {size : ℕ} (wrote : Wrote d 0 text d′ size
     by-text = is-fault ∙ ap (λ (n : ℕ). roomFault n (length buffer)) long
 
     pub report-refused : (fault ≡ 0 → ⊥) → (Refused fault ≡ reported text buffer) × (buffer ≡ written text buffer)
-    unfolding reported written
+    unfolding reported written filled
     report-refused some = (rw (← by-text, ne-eqb fault 0 some) refl, rw (← by-text, ne-eqb fault 0 some) refl)
 
     pub report-room : fault ≡ 0 → Room buffer 0 (take size d′)
@@ -46,7 +47,7 @@ module _ {d text d′ : List ℕ} {size : ℕ} (wrote : Wrote d 0 text d′ size
         record { fits = rw sheet-front (omega (arith, kept)) }
 
     pub report-done : {d″ : List ℕ} {n : ℕ} → fault ≡ 0 → Wrote buffer 0 (take size d′) d″ n → (Written size ≡ reported text buffer) × (d″ ≡ written text buffer)
-    unfolding reported written
+    unfolding reported written filled
     report-done none copied =
         let none-by-text = eq-eqb (roomFault (length text) (length buffer)) 0 (sym by-text ∙ none) in
         (rw (none-by-text, long) refl, rw none-by-text (copied .holds ∙ ap (put buffer 0) sheet-front))

@@ -4,7 +4,7 @@ use mathlib.Core.Bool.{cond}
 use mathlib.Core.List.{List, [], _∷_}
 use lib.Dec.{eqb}
 use lib.ListN.{length}
-use Rattle.lists.specs.Rows.{put, joined}
+use Rattle.lists.specs.Rows.{joined}
 use Rattle.text.specs.Letters.{letters}
 use Rattle.text.specs.Lines.{field, numberLine}
 use Rattle.words.specs.Words.{refusalWord}
@@ -15,6 +15,7 @@ use Rattle.study.specs.declared.Study.{Study}
 use Rattle.opening.specs.Opening.{opened}
 use Rattle.evaluation.specs.Bounds.{chancesOf, componentsOf, lowerClasses, upperClasses, lowerLoads, upperLoads}
 use Rattle.evaluation.specs.Listing.{pathList}
+use Rattle.planning.specs.Bounds.{filled}
 use Rattle.planning.specs.Figures.{figuresGiven}
 use Rattle.report_lines.specs.Paths.{pathLines}
 use Rattle.report_lines.specs.Classes.{allBearing, classLines}
@@ -27,9 +28,11 @@ use Rattle.report_text.specs.declared.reporting.ReportAnswer.the-variant
 abbrev pub sheetBytes : ℕ
 sheetBytes = 180224
 
+-- the lines of its paths
 unfoldable pub studyPaths : Study → List ℕ
 studyPaths t = pathLines (chancesOf t) (componentsOf t) (pathList t)
 
+-- the lines of its classes that occur
 unfoldable pub studyClasses : Study → List ℕ
 studyClasses t = classLines (allBearing (componentsOf t) (pathList t)) (lowerClasses t) (upperClasses t)
 
@@ -46,10 +49,12 @@ studyText t =
 unfoldable pub refusedText : ℕ → List ℕ
 refusedText n = joined (letters "REFUSED" ∷ field n ∷ letters " " ∷ refusalWord n ∷ letters "\n" ∷ [])
 
+-- by what opening answers
 unfoldable pub textBy : Outcome → Study → List ℕ
 textBy Done t = studyText t
 textBy (Refused n) t = refusedText n
 
+-- the report of a study's bytes
 unfoldable pub reportText : List ℕ → List ℕ
 reportText bytes = textBy (opened bytes .outcome) (opened bytes .study)
 
@@ -61,4 +66,4 @@ reported text buffer = cond (eqb (roomFault (length text) (length buffer)) 0) (W
 
 -- the text fills the buffer's front, and nothing behind it changes; a buffer that is too short stays as it was
 unfoldable pub written : List ℕ → List ℕ → List ℕ
-written text buffer = cond (eqb (roomFault (length text) (length buffer)) 0) (put buffer 0 text) buffer
+written text buffer = filled (roomFault (length text) (length buffer)) text buffer
