@@ -9,7 +9,7 @@ use native.Mathlib.Omega.{arith}
 use lib.ListN.{length, getD}
 use Rattle.lists.specs.Counting.{sum}
 use Rattle.lists.proofs.SumBelow.{sum-scaled, sum-most, term-most}
-use Rattle.lists.proofs.SumOver.{kept-most}
+use Rattle.lists.proofs.SumOver.{counted-most}
 use Rattle.units.specs.One.{one}
 use Rattle.study.specs.declared.Component.{Component}
 use Rattle.study.specs.Zero.{zeroComponent}
@@ -41,7 +41,7 @@ chance-most {counts} {components} chanced k s h below =
 
 pub exact-most : (counts : List ℕ) (components : List Component) → Chanced counts components → (concerned : List ℕ → Bool)
     → exact components counts concerned ≤ one ^ length counts
-exact-most [] components chanced concerned = rw (exact-last components concerned) (kept-most (concerned []) 1)
+exact-most [] components chanced concerned = rw (exact-last components concerned) (counted-most (concerned []) 1)
 exact-most (c ∷ cs) [] chanced concerned = absurd (chanced-none chanced)
 exact-most (c ∷ cs) (component ∷ components) chanced concerned =
     let later : ℕ → ℕ = λ s. exact components cs (λ (x : List ℕ). concerned (s ∷ x)) in

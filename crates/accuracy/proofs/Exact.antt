@@ -7,8 +7,8 @@ use mathlib.Core.List.{List, [], _∷_}
 use native.Mathlib.Nat.{zero-add, add-zero}
 use native.Mathlib.Numerals.{add-one}
 use native.Mathlib.Omega.{arith}
-use Rattle.lists.specs.Counting.{sum, kept, sumOver}
-use Rattle.lists.proofs.SumOver.{kept-scaled, sum-over-append, sum-over-scaled, sum-over-map}
+use Rattle.lists.specs.Counting.{sum, counted, sumOver}
+use Rattle.lists.proofs.SumOver.{counted-scaled, sum-over-append, sum-over-scaled, sum-over-map}
 use Rattle.joint_states.specs.JointStates.{divided, jointStates}
 use Rattle.paths.proofs.Ways.{headed}
 use Rattle.study.specs.declared.Component.{Component}
@@ -44,9 +44,9 @@ module _ (marks : ℕ → ℕ) (rows : ℕ → List (List ℕ)) (f : List ℕ �
 
 -- ---- no component
 
-pub exact-last : (components : List Component) (concerned : List ℕ → Bool) → exact components [] concerned ≡ kept (concerned []) 1
+pub exact-last : (components : List Component) (concerned : List ℕ → Bool) → exact components [] concerned ≡ counted (concerned []) 1
 unfolding exact weight jointStates sumOver
-exact-last components concerned = add-zero (kept (concerned []) 1)
+exact-last components concerned = add-zero (counted (concerned []) 1)
 
 -- ---- the first component
 
@@ -58,10 +58,10 @@ module _ (component : Component) (components : List Component) (c : ℕ) (cs : L
   pub exact-first : exact (component ∷ components) (c ∷ cs) concerned ≡ sum (λ (s : ℕ). chance component s * later s) c
   unfolding exact weight jointStates
   exact-first =
-      sum-over-states (λ (s : ℕ). s) (λ (s : ℕ). jointStates cs) (λ (x : List ℕ). kept (concerned x) (weight (component ∷ components) x)) c
+      sum-over-states (λ (s : ℕ). s) (λ (s : ℕ). jointStates cs) (λ (x : List ℕ). counted (concerned x) (weight (component ∷ components) x)) c
       ∙ (λ i. sum (λ (s : ℕ). state s i) c)
     where
-      state : (s : ℕ) → sumOver (λ (x : List ℕ). kept (concerned (s ∷ x)) (chance component s * weight components x)) (jointStates cs) ≡ chance component s * later s
+      state : (s : ℕ) → sumOver (λ (x : List ℕ). counted (concerned (s ∷ x)) (chance component s * weight components x)) (jointStates cs) ≡ chance component s * later s
       state s =
-          (λ i. sumOver (λ (x : List ℕ). kept-scaled (concerned (s ∷ x)) (chance component s) (weight components x) i) (jointStates cs))
-          ∙ sum-over-scaled (chance component s) (λ (x : List ℕ). kept (concerned (s ∷ x)) (weight components x)) (jointStates cs)
+          (λ i. sumOver (λ (x : List ℕ). counted-scaled (concerned (s ∷ x)) (chance component s) (weight components x) i) (jointStates cs))
+          ∙ sum-over-scaled (chance component s) (λ (x : List ℕ). counted (concerned (s ∷ x)) (weight components x)) (jointStates cs)

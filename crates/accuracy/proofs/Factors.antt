@@ -15,7 +15,7 @@ use Rattle.lists.proofs.SumBelow.{sum-scaled, sum-only}
 use Rattle.lists.proofs.SumOver.{sum-over-none}
 use Rattle.units.specs.One.{one}
 use Rattle.joint_states.specs.JointStates.{jointStates}
-use Rattle.paths.specs.Paths.{blankMark}
+use Rattle.entries.specs.Entries.{blankMark}
 use Rattle.paths.specs.Words.{fits}
 use Rattle.study.specs.declared.Component.{Component}
 use Rattle.study.specs.Zero.{zeroComponent}

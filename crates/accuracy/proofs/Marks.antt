@@ -10,7 +10,9 @@ use lib.ListN.{length, getD}
 use Rattle.lists.specs.Product.{product}
 use Rattle.lists.proofs.Elements.{Every}
 use Rattle.paths.specs.Blocks.{Block}
-use Rattle.paths.specs.Paths.{blankMark, part, isBlank, mark, paths}
+use Rattle.entries.specs.Entries.{blankMark}
+use Rattle.paths.specs.Paths.{part, isBlank, paths}
+use Rattle.paths.specs.Ways.{mark}
 use Rattle.paths.specs.Words.{Settled}
 use Rattle.paths.proofs.Parts.{part-block}
 use Rattle.paths.proofs.Placed.{path-placed}

@@ -16,7 +16,8 @@ use Rattle.units.specs.Rounding.{down, up, scale}
 use Rattle.units.specs.Within.{Within}
 use Rattle.units.proofs.Rounding.{up-most, down-exact, up-exact}
 use Rattle.units.proofs.Within.{within-one, within-first, within-expanded, within-product}
-use Rattle.paths.specs.Paths.{blankMark, paths}
+use Rattle.entries.specs.Entries.{blankMark}
+use Rattle.paths.specs.Paths.{paths}
 use Rattle.study.specs.declared.Component.{Component}
 use Rattle.study.specs.Zero.{zeroComponent}
 use Rattle.probability.specs.Bounds.{factored, pathBound}

@@ -5,14 +5,15 @@ use mathlib.Core.Bool.{Bool, not}
 use mathlib.Core.List.{List, []}
 use lib.Dec.{eqb}
 use lib.ListN.{length, getD}
-use Rattle.lists.specs.Counting.{sum, countTrue, kept, sumOver}
+use Rattle.lists.specs.Counting.{sum, countTrue, counted, sumOver}
 use Rattle.units.specs.One.{one}
 use Rattle.units.specs.Rounding.{down, up}
 use Rattle.units.specs.Within.{Within}
 use Rattle.rules.specs.Limits.{mostStates}
 use Rattle.paths.specs.Blocks.{Block, classAt}
-use Rattle.paths.specs.Paths.{blankMark, paths}
-use Rattle.paths.specs.Words.{fits, classBorne}
+use Rattle.entries.specs.Entries.{blankMark, classBorne}
+use Rattle.paths.specs.Paths.{paths}
+use Rattle.paths.specs.Words.{fits}
 use Rattle.study.specs.declared.Component.{Component}
 use Rattle.study.specs.Zero.{zeroComponent}
 use Rattle.probability.specs.Bounds.{pathBound, lowerTotal, upperTotal}
@@ -37,7 +38,7 @@ pathDistance n entry = settledCount n entry - 1
 -- and the paths that are added
 unfoldable pub totalDistance : ℕ → (ℕ → Bool) → List (List ℕ) → ℕ
 unfolding sumOver settledCount
-totalDistance n keep entries = sumOver (λ (entry : List ℕ). kept (keep (classBorne n entry)) (pathDistance n entry)) entries
+totalDistance n keep entries = sumOver (λ (entry : List ℕ). counted (keep (classBorne n entry)) (pathDistance n entry)) entries
 
 -- The bounds of a path enclose the exact chance of the joint states that fit it.
 abbrev pub PathWithin : Type 0
@@ -51,7 +52,7 @@ PathWithin =
     (exact components counts (λ (x : List ℕ). fits x (getD (paths counts block) i [])))
     (one ^ length counts)
 
--- Sums over the paths whose class is kept enclose the exact chance of the joint states whose class is.
+-- Sums over the paths whose class is counted enclose the exact chance of the joint states whose class is.
 abbrev pub TotalWithin : Type 0
 TotalWithin =
     (counts block : List ℕ) (components : List Component) → Block counts block → Chanced counts components → (keep : ℕ → Bool)

@@ -7,7 +7,7 @@ use mathlib.Core.List.{List, []}
 use lib.Dec.{eqb}
 use lib.ListN.{length, getD}
 use Rattle.lists.specs.Bits.{bit}
-use Rattle.lists.specs.Counting.{kept}
+use Rattle.lists.specs.Counting.{counted}
 use Rattle.lists.proofs.Maps.{getD-map-inside}
 use Rattle.lists.proofs.SumOver.{sum-over-alike}
 use Rattle.lists.proofs.Tabulated.{getD-tabulate}
@@ -18,7 +18,8 @@ use Rattle.joint_states.specs.JointStates.{jointStates}
 use Rattle.paths.specs.Blocks.{classAt}
 use Rattle.probability.specs.Bounds.{pathBound}
 use Rattle.probability.specs.Exact.{weight, exact}
-use Rattle.probability.specs.Totals.{classPlaces, pathBounds}
+use Rattle.entries.specs.Entries.{classPlaces}
+use Rattle.probability.specs.Totals.{pathBounds}
 use Rattle.accuracy.specs.Accuracy.{totalDistance}
 use Rattle.accuracy.proofs.PathBounds.{path-within}
 use Rattle.accuracy.proofs.Totals.{all-joint, total-within}
@@ -39,11 +40,11 @@ exact-by-table : (t : Study) (keep : ℕ → Bool)
 unfolding exact
 exact-by-table t keep =
     let all = jointStates (stateCounts t) in
-    sum-over-alike (λ (x : List ℕ). kept (keep (classAt (stateCounts t) (classes t) x)) (weight (t .component) x))
-    (λ (x : List ℕ). kept (keep (classOf t x)) (weight (t .component) x)) [] all
-    (λ i h. ap (λ (class : ℕ). kept (keep class) (weight (t .component) (getD all i []))) (table-class t (getD all i []) (all-joint (stateCounts t) i h)))
+    sum-over-alike (λ (x : List ℕ). counted (keep (classAt (stateCounts t) (classes t) x)) (weight (t .component) x))
+    (λ (x : List ℕ). counted (keep (classOf t x)) (weight (t .component) x)) [] all
+    (λ i h. ap (λ (class : ℕ). counted (keep class) (weight (t .component) (getD all i []))) (table-class t (getD all i []) (all-joint (stateCounts t) i h)))
 
--- the bounds of the joint states whose class is kept
+-- the bounds of the joint states whose class is counted
 kept-within : (t : Study) → Sound t → length (t .component) ≡ mostComponents → (keep : ℕ → Bool)
     → Within (lowerOf t keep) (upperOf t keep) (totalDistance (componentsOf t) keep (pathList t)) (exactOf t (λ (x : List ℕ). keep (classOf t x))) (wholeOf t)
 unfolding pathList

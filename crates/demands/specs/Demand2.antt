@@ -12,7 +12,7 @@ use Rattle.units.specs.Within.{Within}
 use Rattle.rules.specs.Limits.{mostComponents, never}
 use Rattle.paths.specs.Words.{fits}
 use Rattle.probability.specs.Exact.{exact}
-use Rattle.probability.specs.Totals.{classPlaces}
+use Rattle.entries.specs.Entries.{classPlaces}
 use Rattle.accuracy.specs.Accuracy.{pathDistance, totalDistance}
 use Rattle.study.specs.Joint.{stateCounts}
 use Rattle.study.specs.declared.Study.{Study}

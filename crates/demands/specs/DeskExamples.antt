@@ -28,7 +28,7 @@ use Rattle.evaluation.specs.declared.three_figures.FiguresAnswer.the-variants.{
 use Rattle.evaluation.specs.Figures.{customersOf, studyFigures, figuresBy}
 use Rattle.evaluation.specs.Listing.{pathList}
 use Rattle.evaluation.specs.Bounds.{lowerBounds, upperBounds, lowerOf, upperOf}
-use Rattle.paths.specs.Paths.{blankMark}
+use Rattle.entries.specs.Entries.{blankMark}
 
 -- ---- studies in few words
 

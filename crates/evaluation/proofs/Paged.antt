@@ -18,7 +18,7 @@ use Rattle.rules.specs.Breach.{refuse}
 use Rattle.rules.specs.Table.{roomFault}
 use Rattle.paths.proofs.Entries.{entries-long}
 use Rattle.paths.proofs.Few.{few-paths}
-use Rattle.probability.specs.Totals.{entriesOf}
+use Rattle.entries.specs.Entries.{entriesOf}
 use Rattle.study.specs.declared.Study.{Study}
 use Rattle.study.specs.Joint.{stateCounts}
 use Rattle.soundness.specs.Sound.{Sound}

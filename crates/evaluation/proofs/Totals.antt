@@ -12,7 +12,8 @@ use Rattle.units.specs.Rounding.{down, up}
 use Rattle.rules.specs.Limits.{mostComponents, mostStates, mostJointStates, mostLoads}
 use Rattle.probability.specs.Bounds.{lowerTotal, upperTotal}
 use Rattle.probability.specs.Chances.{chanceTable}
-use Rattle.probability.specs.Totals.{classPlaces, sumsMost, entriesOf, classTotals, loadTotals}
+use Rattle.entries.specs.Entries.{classPlaces, entriesOf}
+use Rattle.probability.specs.Totals.{sumsMost, classTotals, loadTotals}
 use Rattle.probability.specs.Reading.{AtMostOne}
 use Rattle.probability.proofs.TableChance.{chances-most}
 use Rattle.probability.proofs.Most.{lower-classes, upper-classes, lower-loads, upper-loads}

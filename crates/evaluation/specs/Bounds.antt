@@ -10,7 +10,8 @@ use Rattle.rules.specs.Limits.{mostLoads}
 use Rattle.units.specs.Rounding.{down, up}
 use Rattle.probability.specs.Bounds.{lowerTotal, upperTotal}
 use Rattle.probability.specs.Chances.{chanceTable}
-use Rattle.probability.specs.Totals.{classPlaces, pathBounds}
+use Rattle.entries.specs.Entries.{classPlaces}
+use Rattle.probability.specs.Totals.{pathBounds}
 use Rattle.study.specs.declared.Study.{Study}
 use Rattle.study.specs.Joint.{stateCounts}
 use Rattle.evaluation.specs.Listing.{pathList}

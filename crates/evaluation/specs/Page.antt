@@ -3,8 +3,8 @@ use Prim.Native.Nat.{ℕ}
 use mathlib.Core.Path.{_≡_}
 use mathlib.Core.List.{List}
 use lib.ListN.{length}
-use Rattle.probability.specs.Reading.{PathList}
-use Rattle.probability.specs.Totals.{entriesOf}
+use Rattle.entries.specs.Lists.{PathList}
+use Rattle.entries.specs.Entries.{entriesOf}
 use Rattle.study.specs.declared.Study.{Study}
 use Rattle.study.specs.Joint.{stateCounts}
 use Rattle.soundness.specs.Sound.{Sound}

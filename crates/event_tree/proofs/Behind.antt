@@ -3,13 +3,14 @@ use Prim.Native.Nat.{ℕ}
 use mathlib.Core.Path.{_≡_, refl, sym, ap, _∙_}
 use mathlib.Core.List.{List, [], _∷_, _++_, append-nil, append-assoc}
 use Rattle.lists.specs.Rows.{joined}
+use Rattle.entries.specs.Entries.{entry}
 use Rattle.paths.proofs.Ways.{headed}
 use Rattle.event_tree.specs.Entries.{entriesBehind}
 
 -- no entries but one, of a class alone
-pub behind-one : (front : List ℕ) (class : ℕ) → entriesBehind front ((class ∷ []) ∷ []) ≡ front ++ (class ∷ [])
-unfolding entriesBehind joined
-behind-one front class = append-nil (front ++ (class ∷ []))
+pub behind-one : (front : List ℕ) (class : ℕ) → entriesBehind front (entry [] class ∷ []) ≡ entry front class
+unfolding entriesBehind joined entry
+behind-one front class = append-nil (entry front class)
 
 pub behind-append : (front : List ℕ) (xs ys : List (List ℕ)) → entriesBehind front (xs ++ ys) ≡ entriesBehind front xs ++ entriesBehind front ys
 unfolding entriesBehind joined

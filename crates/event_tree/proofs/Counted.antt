@@ -5,7 +5,8 @@ use mathlib.Core.List.{List, _∷_}
 use native.Mathlib.Nat.{zero-add}
 use native.Mathlib.Omega.{arith}
 use lib.ListN.{length, length-append, length-map}
-use Rattle.paths.specs.Paths.{part, mark, paths}
+use Rattle.paths.specs.Paths.{part, paths}
+use Rattle.paths.specs.Ways.{mark}
 use Rattle.paths.proofs.Few.{few-paths}
 use Rattle.paths.proofs.Ways.{headed}
 use Rattle.event_tree.specs.declared.blank.Ways.{Ways}

@@ -9,9 +9,11 @@ use lib.Seq.{take-all, length-take-le}
 use Rattle.lists.specs.Product.{product}
 use Rattle.joint_states.specs.JointStates.{divided}
 use Rattle.paths.specs.Blocks.{Block}
-use Rattle.paths.specs.Paths.{blankMark, part, isBlank, mark, ways, branches, paths}
+use Rattle.entries.specs.Entries.{blankMark, entry}
+use Rattle.paths.specs.Paths.{part, isBlank, paths}
+use Rattle.paths.specs.Ways.{mark, ways, branches}
 use Rattle.paths.proofs.Parts.{part-block}
-use Rattle.paths.proofs.Ways.{headed, ways-most}
+use Rattle.paths.proofs.Ways.{headed, ways-most, paths-branches}
 use Rattle.event_tree.specs.declared.blank.Ways.{Ways}
 use Rattle.event_tree.specs.Ways.{WaysAt}
 use Rattle.event_tree.proofs.Compared.{part-inside}
@@ -38,7 +40,7 @@ module _ (counts block : List ℕ) (b : Block counts block) (some : 0 < length c
 
 -- ---- no component is left
 
-pub no-fork : (counts block : List ℕ) → length counts ≡ 0 → paths counts block ≡ (getD block 0 0 ∷ []) ∷ []
+pub no-fork : (counts block : List ℕ) → length counts ≡ 0 → paths counts block ≡ entry [] (getD block 0 0) ∷ []
 unfolding paths
 no-fork [] block e = refl
 no-fork (c ∷ cs) block e = absurd (omega (arith, e))
@@ -105,14 +107,14 @@ module _ {counts block : List ℕ} {w : Ways} {later : List ℕ} (f : Fork count
       omega (arith, long, fork-inside h)
 
   pub fork-paths : paths counts block ≡ divided (mark (w .blank)) (rows block w later) 0 (w .number)
-  unfolding paths branches
+  unfolding branches
   fork-paths = rw (f .rest, f .at .number, f .at .size, f .at .blank) (go counts (f .some))
     where
       go : (l : List ℕ) → 0 < length l → paths l block
           ≡ divided (mark (isBlank (getD l 0 0) (product (drop 1 l)) block)) (λ (s : ℕ). paths (drop 1 l) (part (product (drop 1 l)) s block)) 0
           (ways (isBlank (getD l 0 0) (product (drop 1 l)) block) (getD l 0 0))
       go [] some = absurd (omega arith)
-      go (c ∷ cs) some = refl
+      go (c ∷ cs) some = paths-branches c cs block
 
 -- ---- the paths of the ways from s on
 

@@ -8,7 +8,10 @@ use lib.ListN.{length, getD, take, set, length-append}
 use lib.Seq.{length-take-le, take-at, take-suc-set, take-take}
 use Rattle.lists.specs.Rows.{put, joined}
 use Rattle.lists.proofs.Puts.{Due, due-start, due-room, due-more}
-use Rattle.paths.specs.Paths.{part, mark, paths}
+use Rattle.text.specs.Writing.{Room, Wrote}
+use Rattle.entries.specs.Entries.{entry}
+use Rattle.paths.specs.Paths.{part, paths}
+use Rattle.paths.specs.Ways.{mark}
 use Rattle.paths.proofs.Ways.{headed}
 use Rattle.event_tree.specs.declared.blank.Ways.{Ways}
 use Rattle.event_tree.specs.Entries.{entriesBehind}
@@ -88,16 +91,15 @@ module _ {counts block : List ℕ} {w : Ways} {later front : List ℕ} {n size :
 -- ---- no component is left: one entry
 
 module _ (counts block front : List ℕ) (none : length counts ≡ 0) where
-  leaf : entriesBehind front (paths counts block) ≡ front ++ (getD block 0 0 ∷ [])
+  leaf : entriesBehind front (paths counts block) ≡ entry front (getD block 0 0)
   leaf = rw (no-fork counts block none) (behind-one front (getD block 0 0))
 
-  pub leaf-long : length (entriesBehind front (paths counts block)) ≡ length front + 1
-  leaf-long = ap length leaf ∙ length-append front (getD block 0 0 ∷ [])
+  pub leaf-room : {d : List ℕ} {at : ℕ} → at + length (entriesBehind front (paths counts block)) ≤ length d → Room d at (entry front (getD block 0 0))
+  leaf-room room = record { fits = rw leaf at room }
 
   pub leaf-done : {d d′ : List ℕ} {at r : ℕ} → at + length (entriesBehind front (paths counts block)) ≤ length d
-      → r ≡ at + length front + 1 → d′ ≡ put d at (front ++ (getD block 0 0 ∷ []))
-      → Due d at (entriesBehind front (paths counts block)) d′ r []
-  leaf-done {d} {d′} {at} {r} room end wrote =
-      let entry = entriesBehind front (paths counts block) in
-      let begin : Due d at entry d at (entry ++ []) = rw append-nil (due-start room) in
-      due-more entry [] begin (rw leaf wrote) (omega (arith, end, leaf-long))
+      → Wrote d at (entry front (getD block 0 0)) d′ r → Due d at (entriesBehind front (paths counts block)) d′ r []
+  leaf-done {d} {d′} {at} {r} room wrote =
+      let one = entriesBehind front (paths counts block) in
+      let begin : Due d at one d at (one ++ []) = rw append-nil (due-start room) in
+      due-more one [] begin (rw leaf (wrote .holds)) (rw leaf (wrote .behind))

@@ -4,7 +4,8 @@ use mathlib.Core.Path.{_≡_}
 use mathlib.Core.List.{List}
 use lib.ListN.{getD, drop}
 use Rattle.lists.specs.Product.{product}
-use Rattle.paths.specs.Paths.{isBlank, ways}
+use Rattle.paths.specs.Paths.{isBlank}
+use Rattle.paths.specs.Ways.{ways}
 use Rattle.event_tree.specs.declared.blank.Ways.{Ways}
 
 -- w is what the code holds of it

@@ -1,11 +1,13 @@
 // How paths go on at the first component of a block: in one way where it is blank, or else in one for each of its states.
+use entries::Class;
 ghost use Prim.Native.Nat.{_+_, _*_, _<_, _≤_};
 ghost use mathlib.Core.Path.{_≡_};
 ghost use lib.ListN.{length};
 ghost use Rattle.lists.specs.Rows.{same};
 ghost use Rattle.paths.specs.Blocks.{Block};
 ghost use Rattle.event_tree.specs.Ways.{WaysAt};
-ghost use Rattle.paths.specs.Paths.{part as Paths·part, isBlank, ways};
+ghost use Rattle.paths.specs.Paths.{part as Paths·part, isBlank};
+ghost use Rattle.paths.specs.Ways.{ways};
 
 // The ways at a component: whether it is blank, their number, and how many classes the part of each has.
 pub struct Ways {
@@ -15,7 +17,7 @@ pub struct Ways {
 }
 
 // Whether two parts have the same classes. Every place is compared, whatever was found before it.
-fn same_classes(a: &[u8], b: &[u8]) -> bool
+fn same_classes(a: &[Class], b: &[Class]) -> bool
     requires { ⌜ length (now a) ≡ length (now b) ⌝ }
     ensures { λ r. ⌜ r ≡ same (now (a .entry)) (now (b .entry)) ⌝ }
 {
@@ -29,7 +31,7 @@ fn same_classes(a: &[u8], b: &[u8]) -> bool
 }
 
 // The part of a block that state s leads to.
-pub fn part(size: usize, s: u8, block: &[u8]) -> &[u8]
+pub fn part(size: usize, s: u8, block: &[Class]) -> &[Class]
     requires { ⌜ s * size + size ≤ length (now block) ⌝ }
     ensures { λ r. ⌜ now r ≡ Paths·part size s (now (block .entry)) ⌝ }
 {
@@ -38,7 +40,7 @@ pub fn part(size: usize, s: u8, block: &[u8]) -> &[u8]
 }
 
 // Whether a component of so many states is blank in a block that has `size` classes for each of them.
-fn is_blank(states: u8, size: usize, block: &[u8]) -> bool
+fn is_blank(states: u8, size: usize, block: &[Class]) -> bool
     requires { ⌜ length (now block) ≡ states * size ⌝ }
     requires { ⌜ 0 < states ⌝ }
     ensures { λ r. ⌜ r ≡ isBlank states size (now (block .entry)) ⌝ }
@@ -63,7 +65,7 @@ fn number_of_ways(blank: bool, states: u8) -> u8
 }
 
 // The ways at the first of the components whose state counts are given.
-pub fn ways_at(counts: &[u8], block: &[u8]) -> Ways
+pub fn ways_at(counts: &[u8], block: &[Class]) -> Ways
     requires { ⌜ Block (now counts) (now block) ⌝ }
     requires { ⌜ 0 < length (now counts) ⌝ }
     ensures { λ r. ⌜ WaysAt (now (counts .entry)) (now (block .entry)) r ⌝ }

@@ -1,6 +1,7 @@
 // How many paths a block has.
 use crate::blank::part;
 use crate::blank::ways_at;
+use entries::Class;
 ghost use Prim.Native.Nat.{_≤_};
 ghost use mathlib.Core.Path.{_≡_};
 ghost use lib.ListN.{length};
@@ -14,7 +15,7 @@ pub struct PathCount {
 }
 
 // The number of paths of a block, before any of them is written.
-pub fn count_paths(counts: &[u8], block: &[u8]) -> PathCount
+pub fn count_paths(counts: &[u8], block: &[Class]) -> PathCount
     requires { ⌜ Block (now counts) (now block) ⌝ }
     requires { ⌜ length (now block) ≤ mostJointStates ⌝ }
     ensures { λ r. ⌜ r .paths ≡ length (paths (now (counts .entry)) (now (block .entry))) ⌝ }

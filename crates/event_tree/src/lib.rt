@@ -2,8 +2,8 @@
 // here. Not for callers from outside: those call `planning`.
 mod blank;
 mod count;
-mod entry;
 mod list;
+mod marks;
 
 pub use count::PathCount;
 pub use count::count_paths;

@@ -1,9 +1,10 @@
 // The list of the paths of a block.
 use crate::blank::part;
 use crate::blank::ways_at;
-use crate::entry::mark;
-use crate::entry::no_marks;
-use crate::entry::write_entry;
+use crate::marks::mark;
+use crate::marks::no_marks;
+use entries::Class;
+use entries::write_entry;
 ghost use Prim.Native.Nat.{_+_, _≤_};
 ghost use mathlib.Core.Path.{_≡_};
 ghost use lib.ListN.{length, take};
@@ -17,7 +18,7 @@ ghost use Rattle.paths.specs.Paths.{paths};
 // behind those in front are written over.
 fn list_block(
     counts: &[u8],
-    block: &[u8],
+    block: &[Class],
     marks: &mut [u8],
     front: usize,
     out: &mut [u8],
@@ -53,7 +54,7 @@ fn list_block(
 }
 
 // Writes the list of the paths of a block at the front of a buffer.
-pub fn list_paths(counts: &[u8], block: &[u8], out: &mut [u8])
+pub fn list_paths(counts: &[u8], block: &[Class], out: &mut [u8])
     requires { ⌜ Block (now counts) (now block) ⌝ }
     requires { ⌜ length (now counts) ≤ mostComponents ⌝ }
     requires { ⌜ length (joined (paths (now counts) (now block))) ≤ length (now out) ⌝ }

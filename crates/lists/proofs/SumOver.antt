@@ -1,26 +1,26 @@
 -- Laws of sums over the elements of a list: each by induction over the list.
 use Prim.Native.Nat.{ℕ, suc, _+_, _*_, _≤_}
 use mathlib.Core.Path.{_≡_, refl, sym, ap₂, _∙_}
-use mathlib.Core.Bool.{Bool, true, false}
+use mathlib.Core.Bool.{Bool, true, false, cond}
 use mathlib.Core.List.{List, [], _∷_, _++_, map}
 use native.Mathlib.Nat.{mul-zero}
 use native.Mathlib.Omega.{arith}
-use Rattle.lists.specs.Counting.{kept, sumOver}
+use Rattle.lists.specs.Counting.{counted, those, sumOver}
 use Rattle.lists.proofs.Elements.{Every}
 
--- ---- numbers that are kept or not
+-- ---- numbers that count or not
 
-kept-none : (b : Bool) → kept b 0 ≡ 0
-kept-none true = refl
-kept-none false = refl
+counted-none : (b : Bool) → counted b 0 ≡ 0
+counted-none true = refl
+counted-none false = refl
 
-pub kept-most : (b : Bool) (n : ℕ) → kept b n ≤ n
-kept-most true n = omega arith
-kept-most false n = omega arith
+pub counted-most : (b : Bool) (n : ℕ) → counted b n ≤ n
+counted-most true n = omega arith
+counted-most false n = omega arith
 
-pub kept-scaled : (b : Bool) (k n : ℕ) → kept b (k * n) ≡ k * kept b n
-kept-scaled true k n = refl
-kept-scaled false k n = sym (mul-zero k)
+pub counted-scaled : (b : Bool) (k n : ℕ) → counted b (k * n) ≡ k * counted b n
+counted-scaled true k n = refl
+counted-scaled false k n = sym (mul-zero k)
 
 -- ---- sums over a list
 
@@ -52,10 +52,21 @@ module _ {A : Type 0} where
   sum-over-added f g [] = refl
   sum-over-added f g (x ∷ l) = omega (arith, sum-over-added f g l)
 
-  pub sum-over-kept : (b : Bool) (test : A → Bool) (f : A → ℕ) (l : List A)
-      → sumOver (λ (x : A). kept (test x) (kept b (f x))) l ≡ kept b (sumOver (λ (x : A). kept (test x) (f x)) l)
-  sum-over-kept true test f l = refl
-  sum-over-kept false test f l = (λ i. sumOver (λ (x : A). kept-none (test x) i) l) ∙ sum-over-none l
+  pub sum-over-counted : (b : Bool) (test : A → Bool) (f : A → ℕ) (l : List A)
+      → sumOver (λ (x : A). counted (test x) (counted b (f x))) l ≡ counted b (sumOver (λ (x : A). counted (test x) (f x)) l)
+  sum-over-counted true test f l = refl
+  sum-over-counted false test f l = (λ i. sumOver (λ (x : A). counted-none (test x) i) l) ∙ sum-over-none l
+
+  -- the sum over those that take part, with every element in step
+  pub sum-over-those : (takesPart : A → Bool) (f : A → ℕ) (l : List A)
+      → sumOver f (those takesPart l) ≡ sumOver (λ (x : A). counted (takesPart x) (f x)) l
+  unfolding those sumOver
+  sum-over-those takesPart f [] = refl
+  sum-over-those takesPart f (x ∷ l) = rw (sym (sum-over-those takesPart f l)) (go (takesPart x))
+    where
+      go : (b : Bool) → sumOver f (cond b (x ∷ those takesPart l) (those takesPart l)) ≡ counted b (f x) + sumOver f (those takesPart l)
+      go true = refl
+      go false = omega arith
 
 module _ {A B : Type 0} where
   pub sum-over-map : (f : B → ℕ) (g : A → B) (l : List A) → sumOver f (map g l) ≡ sumOver (λ (x : A). f (g x)) l

@@ -1,6 +1,6 @@
--- Sums and tests over the numbers below n and over lists, and the number that a truth value counts as.
+-- Sums and tests over the numbers below n and over lists, those of a list that take part, and the number that a truth value counts as.
 use Prim.Native.Nat.{ℕ, zero, suc, _+_}
-use mathlib.Core.Bool.{Bool, true, false, _&&_}
+use mathlib.Core.Bool.{Bool, true, false, _&&_, cond}
 use mathlib.Core.List.{List, [], _∷_}
 
 -- f 0 + f 1 + .. , n terms
@@ -23,10 +23,15 @@ unfoldable pub countTrue : (ℕ → Bool) → ℕ → ℕ
 unfolding sum
 countTrue f n = sum (λ (j : ℕ). truth (f j)) n
 
--- n where b holds, else 0
-abbrev pub kept : Bool → ℕ → ℕ
-kept true n = n
-kept false n = 0
+-- n where it counts, else 0
+abbrev pub counted : Bool → ℕ → ℕ
+counted true n = n
+counted false n = 0
+
+-- those elements of a list that take part
+unfoldable pub those : {A : Type 0} → (A → Bool) → List A → List A
+those takesPart [] = []
+those takesPart (x ∷ l) = cond (takesPart x) (x ∷ those takesPart l) (those takesPart l)
 
 -- the sum of f over the elements of a list
 unfoldable pub sumOver : {A : Type 0} → (A → ℕ) → List A → ℕ

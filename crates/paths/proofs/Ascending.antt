@@ -10,12 +10,14 @@ use lib.ListN.{length, getD}
 use Rattle.lists.specs.Product.{product}
 use Rattle.lists.proofs.Elements.{Every, pairs-append, every-map, pairs-map}
 use Rattle.joint_states.specs.JointStates.{divided}
-use Rattle.paths.specs.Paths.{blankMark, part, isBlank, mark, ways, branches, paths}
+use Rattle.entries.specs.Entries.{blankMark}
+use Rattle.paths.specs.Paths.{part, isBlank, paths}
+use Rattle.paths.specs.Ways.{mark, ways, branches}
 use Rattle.paths.specs.Words.{Ascends, Ascending}
 use Rattle.paths.specs.Theorems.{PathsAscend}
-use Rattle.paths.proofs.Parts.{partPaths, first-some, first-most, part-block}
+use Rattle.paths.proofs.Parts.{first-some, first-most, part-block}
 use Rattle.paths.proofs.Placed.{placed}
-use Rattle.paths.proofs.Ways.{headed, ways-most}
+use Rattle.paths.proofs.Ways.{partPaths, paths-branches, headed, ways-most}
 
 -- ---- two entries
 
@@ -85,10 +87,11 @@ module _ (n : ℕ) (marks : ℕ → ℕ) (rows : ℕ → List (List ℕ)) (state
 
 pub paths-ascend : PathsAscend
 unfolding paths branches
-paths-ascend [] block b i j less h = absurd (omega arith)
-paths-ascend (c ∷ cs) block b i j less h =
+paths-ascend [] block b = λ i j less h. absurd (omega arith)
+paths-ascend (c ∷ cs) block b =
     let blank = isBlank c (product cs) block in
     let most = ways-most blank c (first-some b) in
-    divided-ascends (length cs) (mark blank) (partPaths cs block) (ways blank c) (mark-rising blank c (first-most b))
+    rw (paths-branches c cs block)
+    (divided-ascends (length cs) (mark blank) (partPaths cs block) (ways blank c) (mark-rising blank c (first-most b))
     (λ s below. paths-ascend cs (part (product cs) s block) (part-block b s (omega arith)))
-    0 (ways blank c) (omega arith) i j less h
+    0 (ways blank c) (omega arith))

@@ -11,14 +11,17 @@ use lib.Seq.{ext-getD}
 use Rattle.lists.specs.Product.{product}
 use Rattle.joint_states.specs.JointStates.{JointState}
 use Rattle.joint_states.proofs.Numbered.{with-number, joint-head, joint-tail, joint-none}
-use Rattle.paths.specs.Paths.{blankMark, part, isBlank, mark}
+use Rattle.entries.specs.Entries.{blankMark}
+use Rattle.paths.specs.Paths.{part, isBlank}
+use Rattle.paths.specs.Ways.{mark}
 use Rattle.paths.specs.Words.{Blank, ChangesNoLoss, BlankIff}
 use Rattle.paths.specs.Blocks.{Block, classAt}
 use Rattle.paths.specs.Theorems.{BlankExactly}
 use Rattle.paths.proofs.Alike.{blank-alike, alike-blank}
 use Rattle.paths.proofs.Differ.{Meets, differ-first, first-differs, differ-later, later-differs}
-use Rattle.paths.proofs.Parts.{partPaths, first-some, first-most, part-block, class-part}
+use Rattle.paths.proofs.Parts.{first-some, first-most, part-block, class-part}
 use Rattle.paths.proofs.Placed.{path-placed}
+use Rattle.paths.proofs.Ways.{partPaths}
 
 -- ---- marks
 

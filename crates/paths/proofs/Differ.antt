@@ -9,7 +9,7 @@ use lib.ListN.{getD}
 use lib.Seq.{ext-getD}
 use Rattle.joint_states.specs.JointStates.{JointState}
 use Rattle.joint_states.proofs.Numbered.{joint-cons, joint-tail}
-use Rattle.paths.specs.Paths.{blankMark}
+use Rattle.entries.specs.Entries.{blankMark}
 use Rattle.paths.specs.Words.{Settled, DifferAt}
 
 -- state s has what a mark asks: to be the marked state, or anything if the mark is blank

@@ -7,11 +7,12 @@ use native.Mathlib.Omega.{arith}
 use lib.ListN.{length, length-append, length-map}
 use Rattle.lists.specs.Product.{product}
 use Rattle.joint_states.specs.JointStates.{divided}
-use Rattle.paths.specs.Paths.{part, isBlank, mark, ways, branches, paths}
+use Rattle.paths.specs.Paths.{part, isBlank, paths}
+use Rattle.paths.specs.Ways.{mark, ways, branches}
 use Rattle.paths.specs.Blocks.{Block}
 use Rattle.paths.specs.Theorems.{FewPaths}
-use Rattle.paths.proofs.Parts.{partPaths, first-some, part-block}
-use Rattle.paths.proofs.Ways.{headed, ways-some, ways-most}
+use Rattle.paths.proofs.Parts.{first-some, part-block}
+use Rattle.paths.proofs.Ways.{partPaths, paths-branches, headed, ways-some, ways-most}
 
 -- ---- rows of each state, where those of each state below `states` are some, and at most m
 
@@ -38,8 +39,9 @@ unfolding paths branches
 some-path [] block b = omega arith
 some-path (c ∷ cs) block b =
     let blank = isBlank c (product cs) block in
-    divided-some (mark blank) (partPaths cs block) c (λ k h. some-path cs (part (product cs) k block) (part-block b k h)) 0 (ways blank c)
-    (omega (arith, ways-most blank c (first-some b))) (ways-some blank c (first-some b))
+    rw (paths-branches c cs block)
+    (divided-some (mark blank) (partPaths cs block) c (λ k h. some-path cs (part (product cs) k block) (part-block b k h)) 0 (ways blank c)
+    (omega (arith, ways-most blank c (first-some b))) (ways-some blank c (first-some b)))
 
 most-paths : (counts block : List ℕ) → Block counts block → length (paths counts block) ≤ product counts
 unfolding paths branches product
@@ -49,7 +51,7 @@ most-paths (c ∷ cs) block b =
     let inside = ways-most blank c (first-some b) in
     let all =
     divided-most (mark blank) (partPaths cs block) c (product cs) (λ k h. most-paths cs (part (product cs) k block) (part-block b k h)) 0 (ways blank c) (omega (arith, inside)) in
-    omega (arith, all, mul-le-mul-right (product cs) inside)
+    rw (paths-branches c cs block) (omega (arith, all, mul-le-mul-right (product cs) inside))
 
 pub few-paths : FewPaths
 few-paths counts block b = record { some = some-path counts block b; most = most-paths counts block b }

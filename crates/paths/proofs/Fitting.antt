@@ -9,13 +9,15 @@ use native.Mathlib.Nat.{eq-or-lt-of-le}
 use native.Mathlib.Omega.{arith}
 use lib.Dec.{eqb}
 use borrow.Author.Tests.{eq-eqb, ne-eqb}
+use Rattle.lists.specs.Counting.{those}
 use Rattle.joint_states.specs.JointStates.{divided}
-use Rattle.paths.specs.Paths.{blankMark, mark, ways, branches}
+use Rattle.entries.specs.Entries.{blankMark}
+use Rattle.paths.specs.Ways.{mark, ways, branches}
 use Rattle.paths.specs.Words.{fits, fitting}
 use Rattle.paths.proofs.Ways.{headed}
 
 fitting-append : (x : List ℕ) (front rest : List (List ℕ)) → fitting x (front ++ rest) ≡ fitting x front ++ fitting x rest
-unfolding fitting
+unfolding those
 fitting-append x [] rest = refl
 fitting-append x (entry ∷ front) rest = rw (fitting-append x front rest) (go (fits x entry))
   where
@@ -41,7 +43,7 @@ other-unmet s t h other = rw (ne-eqb s blankMark (λ same. omega arith)) (ne-eqb
 
 module _ (s : ℕ) (x : List ℕ) (m : ℕ) where
   fitting-met : met m s ≡ true → (rows : List (List ℕ)) → fitting (s ∷ x) (headed m rows) ≡ headed m (fitting x rows)
-  unfolding fitting fits
+  unfolding those fits
   fitting-met e [] = refl
   fitting-met e (row ∷ rows) = rw (e, fitting-met e rows) (go (fits x row))
     where
@@ -50,7 +52,7 @@ module _ (s : ℕ) (x : List ℕ) (m : ℕ) where
       go false = refl
 
   fitting-unmet : met m s ≡ false → (rows : List (List ℕ)) → fitting (s ∷ x) (headed m rows) ≡ []
-  unfolding fitting fits
+  unfolding those fits
   fitting-unmet e [] = refl
   fitting-unmet e (row ∷ rows) = rw e (fitting-unmet e rows)
 
@@ -58,7 +60,7 @@ module _ (s : ℕ) (x : List ℕ) (m : ℕ) where
 
 module _ (t : ℕ) (x : List ℕ) (rows : ℕ → List (List ℕ)) where
   passed : (s n : ℕ) → t < s → s + n ≤ blankMark → fitting (t ∷ x) (divided (mark false) rows s n) ≡ []
-  unfolding fitting divided mark
+  unfolding those divided mark
   passed s zero h most = refl
   passed s (suc n) h most =
       fitting-append (t ∷ x) (headed s (rows s)) (divided (mark false) rows (s + 1) n)

@@ -9,12 +9,9 @@ use lib.Seq.{length-take-le, getD-take, getD-drop}
 use Rattle.lists.specs.Product.{product}
 use Rattle.joint_states.specs.JointStates.{JointState, numberOf}
 use Rattle.joint_states.proofs.Numbered.{number-below}
-use Rattle.paths.specs.Paths.{blankMark, part, paths}
+use Rattle.entries.specs.Entries.{blankMark}
+use Rattle.paths.specs.Paths.{part}
 use Rattle.paths.specs.Blocks.{Block, classAt}
-
--- the paths of the part at state s, over the later components
-abbrev pub partPaths : List ℕ → List ℕ → ℕ → List (List ℕ)
-partPaths cs block s = paths cs (part (product cs) s block)
 
 module _ {c : ℕ} {cs block : List ℕ} (b : Block (c ∷ cs) block) where
   pub first-some : 0 < c

@@ -8,10 +8,11 @@ use lib.ListN.{length, getD}
 use Rattle.lists.specs.Product.{product}
 use Rattle.lists.proofs.Elements.{Every, every-append, every-map}
 use Rattle.joint_states.specs.JointStates.{divided}
-use Rattle.paths.specs.Paths.{isBlank, mark, ways, branches, paths}
+use Rattle.paths.specs.Paths.{isBlank, paths}
+use Rattle.paths.specs.Ways.{mark, ways, branches}
 use Rattle.paths.specs.Blocks.{Block}
-use Rattle.paths.proofs.Parts.{partPaths, first-some}
-use Rattle.paths.proofs.Ways.{headed, ways-most}
+use Rattle.paths.proofs.Parts.{first-some}
+use Rattle.paths.proofs.Ways.{partPaths, paths-branches, headed, ways-most}
 
 -- the entry is the mark of a state from s on and below t, in front of a row of that state
 pub record Placed (marks : ℕ → ℕ) (rows : ℕ → List (List ℕ)) (s t : ℕ) (entry : List ℕ) : Type 0 where
@@ -37,7 +38,8 @@ module _ (marks : ℕ → ℕ) (rows : ℕ → List (List ℕ)) where
 
 -- each path goes on from the part of one state of the first component
 pub path-placed : (c : ℕ) (cs block : List ℕ) → Block (c ∷ cs) block → Every (Placed (mark (isBlank c (product cs) block)) (partPaths cs block) 0 c) [] (paths (c ∷ cs) block)
-unfolding paths branches
+unfolding branches
 path-placed c cs block b =
     let blank = isBlank c (product cs) block in
-    placed (mark blank) (partPaths cs block) c 0 (ways blank c) (omega (arith, ways-most blank c (first-some b)))
+    rw (paths-branches c cs block)
+    (placed (mark blank) (partPaths cs block) c 0 (ways blank c) (omega (arith, ways-most blank c (first-some b))))

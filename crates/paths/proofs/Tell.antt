@@ -7,7 +7,8 @@ use lib.Seq.{ext-getD}
 use Rattle.joint_states.specs.JointStates.{JointState}
 use Rattle.joint_states.proofs.Numbered.{with-number}
 use Rattle.paths.specs.Paths.{paths}
-use Rattle.paths.specs.Words.{fitting, classBorne}
+use Rattle.paths.specs.Words.{fitting}
+use Rattle.entries.specs.Entries.{classBorne}
 use Rattle.paths.specs.Blocks.{Block, classAt}
 use Rattle.paths.specs.Theorems.{PathsTell}
 use Rattle.paths.proofs.OnePath.{one-path-each}

@@ -6,7 +6,7 @@ use mathlib.Core.List.{List}
 use lib.ListN.{length, getD}
 use Rattle.lists.specs.Product.{product}
 use Rattle.joint_states.specs.JointStates.{numberOf}
-use Rattle.paths.specs.Paths.{blankMark}
+use Rattle.entries.specs.Entries.{blankMark}
 
 pub record Block (counts block : List ℕ) : Type 0 where
   pub long : length block ≡ product counts

@@ -2,16 +2,13 @@
 -- components in front have their states.
 use Prim.Native.Nat.{ℕ, _*_}
 use mathlib.Core.Bool.{Bool, true, false}
-use mathlib.Core.List.{List, [], _∷_}
+use mathlib.Core.List.{List, [], _∷_, map}
 use lib.ListN.{getD, take, drop}
 use Rattle.lists.specs.Counting.{allBelow}
 use Rattle.lists.specs.Product.{product}
 use Rattle.lists.specs.Rows.{same}
 use Rattle.joint_states.specs.JointStates.{divided}
-
--- what stands in a path's entry for a blank component
-abbrev pub blankMark : ℕ
-blankMark = 255
+use Rattle.entries.specs.Entries.{blankMark, entry}
 
 -- the part of a block that a component's state s leads to: the classes for each choice of the later components, of which there are m
 abbrev pub part : ℕ → ℕ → List ℕ → List ℕ
@@ -22,23 +19,15 @@ unfoldable pub isBlank : ℕ → ℕ → List ℕ → Bool
 unfolding allBelow same
 isBlank states m block = allBelow (λ (s : ℕ). same (part m 0 block) (part m s block)) states
 
--- what a path's entry holds for a component that is blank, or else in state s
-unfoldable pub mark : Bool → ℕ → ℕ
-mark true s = blankMark
-mark false s = s
+-- the rows of paths at a component, `rest` being what follows each of its states: where it is blank, the blank mark in front of what follows
+-- state 0; otherwise each of its states, ascending, in front of what follows that state
+unfoldable pub rowsAt : Bool → ℕ → (ℕ → List (List ℕ)) → List (List ℕ)
+unfolding divided
+rowsAt true states rest = map (λ (row : List ℕ). blankMark ∷ row) (rest 0)
+rowsAt false states rest = divided (λ s. s) rest 0 states
 
--- the ways in which paths go on at a component: one where it is blank, or else one for each state
-unfoldable pub ways : Bool → ℕ → ℕ
-ways true states = 1
-ways false states = states
-
--- the rows of each way, its mark in front
-unfoldable pub branches : Bool → ℕ → (ℕ → List (List ℕ)) → List (List ℕ)
-unfolding mark ways divided
-branches blank states rows = divided (mark blank) rows 0 (ways blank states)
-
--- the paths of a block of classes, over components with these state counts: the entry of each, which ends with its class
+-- the paths of a block of classes, over components with these state counts: the entry of each
 unfoldable pub paths : List ℕ → List ℕ → List (List ℕ)
-unfolding product isBlank branches
-paths [] block = (getD block 0 0 ∷ []) ∷ []
-paths (c ∷ cs) block = branches (isBlank c (product cs) block) c (λ (s : ℕ). paths cs (part (product cs) s block))
+unfolding product isBlank rowsAt entry
+paths [] block = entry [] (getD block 0 0) ∷ []
+paths (c ∷ cs) block = rowsAt (isBlank c (product cs) block) c (λ (s : ℕ). paths cs (part (product cs) s block))

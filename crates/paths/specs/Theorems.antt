@@ -1,10 +1,11 @@
 -- What holds of the paths of any block of classes.
-use Prim.Native.Nat.{ℕ, _+_, _<_, _≤_}
+use Prim.Native.Nat.{ℕ, _<_, _≤_}
 use mathlib.Core.Path.{_≡_}
 use mathlib.Core.List.{List, []}
 use lib.ListN.{length, getD}
 use Rattle.lists.specs.Product.{product}
 use Rattle.joint_states.specs.JointStates.{JointState}
+use Rattle.entries.specs.Entries.{entryBytes}
 use Rattle.paths.specs.Blocks.{Block, classAt}
 use Rattle.paths.specs.Paths.{paths}
 use Rattle.paths.specs.Words.{OnePath, Ascending, BlankIff}
@@ -30,7 +31,7 @@ PathsTell = (counts a b : List ℕ) → Block counts a → Block counts b → pa
 abbrev pub EntriesLong : Type 0
 EntriesLong =
     (counts block : List ℕ) → Block counts block → (i : ℕ) → i < length (paths counts block)
-    → length (getD (paths counts block) i []) ≡ length counts + 1
+    → length (getD (paths counts block) i []) ≡ entryBytes (length counts)
 
 -- there is a path at least, and at most one for each joint state
 pub record PathsFew (counts block : List ℕ) : Type 0 where

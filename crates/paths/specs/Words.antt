@@ -1,12 +1,13 @@
--- The words in which document 01 speaks of a list of paths. An entry has a mark for each of n components, and ends with the path's class.
+-- The words in which document 01 speaks of a list of paths, each of which is its entry.
 use Prim.Native.Nat.{ℕ, _<_}
 use mathlib.Core.Path.{_≡_}
-use mathlib.Core.Bool.{Bool, true, _&&_, _||_, cond}
+use mathlib.Core.Bool.{Bool, true, _&&_, _||_}
 use mathlib.Core.List.{List, [], _∷_}
 use lib.Dec.{eqb}
 use lib.ListN.{length, getD}
+use Rattle.lists.specs.Counting.{those}
 use Rattle.joint_states.specs.JointStates.{JointState}
-use Rattle.paths.specs.Paths.{blankMark}
+use Rattle.entries.specs.Entries.{blankMark, classBorne}
 
 abbrev pub Blank : List ℕ → ℕ → Type 0
 Blank entry k = getD entry k blankMark ≡ blankMark
@@ -22,14 +23,8 @@ fits (s ∷ x) [] = true
 fits (s ∷ x) (mark ∷ entry) = (eqb mark blankMark || eqb mark s) && fits x entry
 
 -- the paths that a joint state fits
-unfoldable pub fitting : List ℕ → List (List ℕ) → List (List ℕ)
-unfolding fits
-fitting x [] = []
-fitting x (entry ∷ entries) = cond (fits x entry) (entry ∷ fitting x entries) (fitting x entries)
-
--- "bears": the class that ends the entry
-abbrev pub classBorne : ℕ → List ℕ → ℕ
-classBorne n entry = getD entry n 0
+abbrev pub fitting : List ℕ → List (List ℕ) → List (List ℕ)
+fitting x entries = those (fits x) entries
 
 -- joint state x fits one path and only one, and that path bears its class
 pub record OnePath (n class : ℕ) (x : List ℕ) (entries : List (List ℕ)) : Type 0 where

@@ -8,7 +8,7 @@ use Rattle.lists.specs.Bits.{bit}
 use Rattle.lists.specs.Rows.{put}
 use Rattle.rules.specs.Breach.{firstBreach}
 use Rattle.rules.specs.Table.{unsoundFault, itemFault, roomFault}
-use Rattle.probability.specs.Totals.{classPlaces}
+use Rattle.entries.specs.Entries.{classPlaces}
 use Rattle.study.specs.declared.Study.{Study}
 use Rattle.study.specs.declared.Outcome.{Outcome}
 use Rattle.study.specs.declared.Outcome.the-variants.{Done, Refused}

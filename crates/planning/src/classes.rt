@@ -13,7 +13,7 @@ ghost use Prim.Native.Nat.{_≤_};
 ghost use mathlib.Core.Path.{_≡_};
 ghost use lib.ListN.{length};
 ghost use Rattle.lists.specs.Rows.{put};
-ghost use Rattle.probability.specs.Totals.{classPlaces};
+ghost use Rattle.entries.specs.Entries.{classPlaces};
 ghost use Rattle.soundness.specs.Sound.{Sound};
 ghost use Rattle.evaluation.specs.Bounds.{lowerClasses, upperClasses};
 ghost use Rattle.planning.specs.Bounds.{filled, classesFault, classesBounded};

@@ -5,7 +5,8 @@ use mathlib.Core.List.{List, []}
 use lib.ListN.{length, getD, take, drop, length-map}
 use Rattle.lists.proofs.Maps.{getD-map-inside}
 use Rattle.probability.specs.Bounds.{pathBound}
-use Rattle.probability.specs.Totals.{entriesOf, pathBounds}
+use Rattle.entries.specs.Entries.{entriesOf}
+use Rattle.probability.specs.Totals.{pathBounds}
 use Rattle.probability.proofs.Lists.{entries-long, entry-is}
 
 module _ (rounding : ℕ) (chances : List ℕ) (n : ℕ) (list : List ℕ) (paths : ℕ) where

@@ -8,14 +8,14 @@ use lib.Dec.{eqb}
 use lib.ListN.{length, getD, take, drop, set}
 use lib.Seq.{take-all}
 use borrow.Author.Tests.{eq-eqb, ne-eqb}
-use Rattle.lists.specs.Counting.{kept}
+use Rattle.lists.specs.Counting.{counted}
 use Rattle.lists.specs.Rows.{put}
 use Rattle.lists.proofs.Fronts.{getD-put, put-over}
 use Rattle.lists.proofs.Puts.{put-set, put-size}
 use Rattle.lists.proofs.Tabulated.{length-tabulate, getD-tabulate, tabulate-alike, tabulate-set}
-use Rattle.paths.specs.Words.{classBorne}
+use Rattle.entries.specs.Entries.{classBorne, classPlaces, entriesOf}
 use Rattle.probability.specs.Bounds.{pathBound, total}
-use Rattle.probability.specs.Totals.{classPlaces, entriesOf, noTotals, classTotals}
+use Rattle.probability.specs.Totals.{noTotals, classTotals}
 use Rattle.probability.proofs.Lists.{entries-long, entry-is, total-none, total-next}
 
 -- ---- cleared places
@@ -54,7 +54,7 @@ module _ (rounding most : ℕ) (chances : List ℕ) (n : ℕ) where
       tabulate-set (at (take k entries)) (at (take (k + 1) entries)) classPlaces class (min most (at (take k entries) class + bound)) small here there
     where
       next : (c : ℕ) → total rounding chances n (λ (class : ℕ). eqb class c) (take (k + 1) entries)
-          ≡ total rounding chances n (λ (class : ℕ). eqb class c) (take k entries) + kept (eqb class c) bound
+          ≡ total rounding chances n (λ (class : ℕ). eqb class c) (take k entries) + counted (eqb class c) bound
       next c = rw (is-class, is-bound) (total-next rounding chances n (λ (class : ℕ). eqb class c) entries k h)
 
       here : at (take (k + 1) entries) class ≡ min most (at (take k entries) class + bound)

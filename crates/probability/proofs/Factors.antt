@@ -9,7 +9,7 @@ use borrow.Author.Tests.{eq-eqb, ne-eqb}
 use Rattle.lists.proofs.Defaults.{getD-inside}
 use Rattle.units.specs.One.{one}
 use Rattle.units.specs.Rounding.{scale}
-use Rattle.paths.specs.Paths.{blankMark}
+use Rattle.entries.specs.Entries.{blankMark}
 use Rattle.probability.specs.Chances.{chanceAt}
 use Rattle.probability.specs.Bounds.{factored, pathBound}
 

@@ -7,13 +7,12 @@ use native.Mathlib.Nat.{mul-le-mul-right}
 use native.Mathlib.Omega.{arith}
 use lib.ListN.{length, getD, take, drop, length-drop}
 use lib.Seq.{length-take-le}
-use Rattle.lists.specs.Counting.{kept, sumOver}
+use Rattle.lists.specs.Counting.{counted, sumOver}
 use Rattle.lists.proofs.Adding.{add-next}
 use Rattle.lists.proofs.Tabulated.{length-tabulate, getD-tabulate}
-use Rattle.paths.specs.Words.{classBorne}
+use Rattle.entries.specs.Entries.{classBorne, entriesOf}
 use Rattle.probability.specs.Bounds.{pathBound, total}
-use Rattle.probability.specs.Reading.{PathList}
-use Rattle.probability.specs.Totals.{entriesOf}
+use Rattle.entries.specs.Lists.{PathList}
 
 module _ {n paths : ℕ} {list : List ℕ} (l : PathList n paths list) where
   -- entry k stands inside the list
@@ -44,7 +43,7 @@ module _ (rounding : ℕ) (chances : List ℕ) (n : ℕ) (keep : ℕ → Bool) w
 
   pub total-next : (entries : List (List ℕ)) (k : ℕ) → k < length entries
       → total rounding chances n keep (take (k + 1) entries)
-      ≡ total rounding chances n keep (take k entries) + kept (keep (classBorne n (getD entries k []))) (pathBound rounding chances n (getD entries k []))
+      ≡ total rounding chances n keep (take k entries) + counted (keep (classBorne n (getD entries k []))) (pathBound rounding chances n (getD entries k []))
   unfolding total
   total-next entries k h =
-      add-next (λ (entry : List ℕ). kept (keep (classBorne n entry)) (pathBound rounding chances n entry)) entries k [] h
+      add-next (λ (entry : List ℕ). counted (keep (classBorne n entry)) (pathBound rounding chances n entry)) entries k [] h

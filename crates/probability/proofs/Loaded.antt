@@ -8,21 +8,21 @@ use lib.ListN.{length, getD, take, drop, replicate, length-replicate, getD-repli
 use lib.Seq.{take-all}
 use borrow.Author.Tests.{eq-eqb, ne-eqb}
 use Rattle.lists.specs.Bits.{digit, bit}
-use Rattle.lists.specs.Counting.{kept}
+use Rattle.lists.specs.Counting.{counted}
 use Rattle.lists.proofs.Tabulated.{length-tabulate, getD-tabulate, tabulated, tabulate-alike}
 use Rattle.rules.specs.Limits.{mostLoads}
-use Rattle.paths.specs.Words.{classBorne}
+use Rattle.entries.specs.Entries.{classBorne, entriesOf}
 use Rattle.probability.specs.Bounds.{pathBound, total}
-use Rattle.probability.specs.Totals.{entriesOf, loadTotals, withPath}
+use Rattle.probability.specs.Totals.{loadTotals, withPath}
 use Rattle.probability.proofs.Classed.{min-sum}
 use Rattle.probability.proofs.Lists.{entries-long, entry-is, total-none, total-next}
 
 -- ---- one bound
 
-pub bit-kept : (class j bound : ℕ) → digit class j ≡ 1 → bound ≡ kept (bit class j) bound
+pub bit-kept : (class j bound : ℕ) → digit class j ≡ 1 → bound ≡ counted (bit class j) bound
 bit-kept class j bound e = rw (eq-eqb (digit class j) 1 e) refl
 
-pub bit-clear : (class j bound : ℕ) → (digit class j ≡ 1 → ⊥) → _≡_ {A = ℕ} 0 (kept (bit class j) bound)
+pub bit-clear : (class j bound : ℕ) → (digit class j ≡ 1 → ⊥) → _≡_ {A = ℕ} 0 (counted (bit class j) bound)
 bit-clear class j bound e = rw (ne-eqb (digit class j) 1 e) refl
 
 -- ---- one path more
@@ -30,11 +30,11 @@ bit-clear class j bound e = rw (ne-eqb (digit class j) 1 e) refl
 module _ (most : ℕ) (totals : List ℕ) (class bound : ℕ) where
   pub with-long : length (withPath most totals class bound) ≡ mostLoads
   unfolding withPath
-  with-long = length-tabulate (λ (j : ℕ). min most (getD totals j 0 + kept (bit class j) bound)) mostLoads
+  with-long = length-tabulate (λ (j : ℕ). min most (getD totals j 0 + counted (bit class j) bound)) mostLoads
 
-  pub with-is : (j : ℕ) → j < mostLoads → getD (withPath most totals class bound) j 0 ≡ min most (getD totals j 0 + kept (bit class j) bound)
+  pub with-is : (j : ℕ) → j < mostLoads → getD (withPath most totals class bound) j 0 ≡ min most (getD totals j 0 + counted (bit class j) bound)
   unfolding withPath
-  with-is j h = getD-tabulate (λ (j : ℕ). min most (getD totals j 0 + kept (bit class j) bound)) mostLoads j 0 h
+  with-is j h = getD-tabulate (λ (j : ℕ). min most (getD totals j 0 + counted (bit class j) bound)) mostLoads j 0 h
 
 module _ (rounding most : ℕ) (chances : List ℕ) (n : ℕ) where
   -- the total of a load
@@ -52,13 +52,13 @@ module _ (rounding most : ℕ) (chances : List ℕ) (n : ℕ) where
       → withPath most (loadTotals rounding most chances n (take k entries)) class bound ≡ loadTotals rounding most chances n (take (k + 1) entries)
   unfolding withPath loadTotals
   loads-next entries k class bound h is-class is-bound =
-      tabulate-alike (λ (j : ℕ). min most (getD (loadTotals rounding most chances n (take k entries)) j 0 + kept (bit class j) bound)) (lossOf (take (k + 1) entries)) mostLoads same
+      tabulate-alike (λ (j : ℕ). min most (getD (loadTotals rounding most chances n (take k entries)) j 0 + counted (bit class j) bound)) (lossOf (take (k + 1) entries)) mostLoads same
     where
       same : (j : ℕ) → j < mostLoads
-          → min most (getD (loadTotals rounding most chances n (take k entries)) j 0 + kept (bit class j) bound) ≡ lossOf (take (k + 1) entries) j
+          → min most (getD (loadTotals rounding most chances n (take k entries)) j 0 + counted (bit class j) bound) ≡ lossOf (take (k + 1) entries) j
       same j less =
-          ap (λ (v : ℕ). min most (v + kept (bit class j) bound)) (getD-tabulate (lossOf (take k entries)) mostLoads j 0 less)
-          ∙ min-sum most (total rounding chances n (λ (c : ℕ). bit c j) (take k entries)) (kept (bit class j) bound)
+          ap (λ (v : ℕ). min most (v + counted (bit class j) bound)) (getD-tabulate (lossOf (take k entries)) mostLoads j 0 less)
+          ∙ min-sum most (total rounding chances n (λ (c : ℕ). bit c j) (take k entries)) (counted (bit class j) bound)
           ∙ ap (min most) (sym (rw (← is-class, ← is-bound) at (total-next rounding chances n (λ (c : ℕ). bit c j) entries k h)))
 
 pub record Loaded (rounding most : ℕ) (chances : List ℕ) (n : ℕ) (list : List ℕ) (paths k : ℕ) (totals : List ℕ) : Type 0 where

@@ -10,17 +10,16 @@ use lib.ListN.{length, getD}
 use Rattle.lists.specs.Bits.{bit}
 use Rattle.lists.specs.Counting.{sumOver}
 use Rattle.lists.specs.Tabulate.{tabulate}
-use Rattle.lists.proofs.SumOver.{kept-most}
+use Rattle.lists.proofs.SumOver.{counted-most}
 use Rattle.lists.proofs.Tabulated.{tabulate-alike}
 use Rattle.units.specs.One.{one}
 use Rattle.units.specs.Rounding.{down, up, scale}
 use Rattle.rules.specs.Limits.{mostJointStates, mostLoads}
-use Rattle.paths.specs.Paths.{blankMark}
-use Rattle.paths.specs.Words.{classBorne}
+use Rattle.entries.specs.Entries.{blankMark, classBorne, classPlaces}
 use Rattle.probability.specs.Bounds.{factored, pathBound, total, lowerTotal, upperTotal}
 use Rattle.probability.specs.Chances.{chanceAt}
 use Rattle.probability.specs.Reading.{AtMostOne}
-use Rattle.probability.specs.Totals.{classPlaces, sumsMost, classTotals, loadTotals}
+use Rattle.probability.specs.Totals.{sumsMost, classTotals, loadTotals}
 
 scale-most : (rounding a p : ℕ) → rounding ≤ up → a ≤ one → p ≤ one → scale rounding a p ≤ one
 unfolding scale
@@ -43,7 +42,7 @@ module _ (rounding : ℕ) (less : rounding ≤ up) (chances : List ℕ) (chance 
   unfolding total sumOver
   total-most keep [] = omega arith
   total-most keep (entry ∷ entries) =
-      omega (arith, kept-most (keep (classBorne n entry)) (pathBound rounding chances n entry), path-most n entry, total-most keep entries)
+      omega (arith, counted-most (keep (classBorne n entry)) (pathBound rounding chances n entry), path-most n entry, total-most keep entries)
 
 -- a limit of one for each of 4,096 paths is none
 lower-unlimited : (chances : List ℕ) → AtMostOne chances → (n : ℕ) (keep : ℕ → Bool) (entries : List (List ℕ)) → length entries ≤ mostJointStates

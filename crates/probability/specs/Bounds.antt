@@ -4,11 +4,10 @@ use mathlib.Core.Bool.{Bool, cond}
 use mathlib.Core.List.{List}
 use lib.Dec.{eqb}
 use lib.ListN.{getD}
-use Rattle.lists.specs.Counting.{kept, sumOver}
+use Rattle.lists.specs.Counting.{counted, sumOver}
 use Rattle.units.specs.One.{one}
 use Rattle.units.specs.Rounding.{down, up, scale}
-use Rattle.paths.specs.Paths.{blankMark}
-use Rattle.paths.specs.Words.{classBorne}
+use Rattle.entries.specs.Entries.{blankMark, classBorne}
 use Rattle.probability.specs.Chances.{chanceAt}
 
 -- a bound with the factor of component i: a settled one's chance, and none of a blank one
@@ -23,11 +22,11 @@ unfolding factored
 pathBound rounding chances zero entry = one
 pathBound rounding chances (suc i) entry = factored rounding chances entry i (pathBound rounding chances i entry)
 
--- the sum of the bounds of the paths whose class is kept; entries are of n components
+-- the sum of the bounds of the paths whose class is counted; entries are of n components
 unfoldable pub total : ℕ → List ℕ → ℕ → (ℕ → Bool) → List (List ℕ) → ℕ
 unfolding sumOver pathBound
 total rounding chances n keep entries =
-    sumOver (λ (entry : List ℕ). kept (keep (classBorne n entry)) (pathBound rounding chances n entry)) entries
+    sumOver (λ (entry : List ℕ). counted (keep (classBorne n entry)) (pathBound rounding chances n entry)) entries
 
 abbrev pub lowerTotal : List ℕ → ℕ → (ℕ → Bool) → List (List ℕ) → ℕ
 lowerTotal chances n keep entries = total down chances n keep entries

@@ -2,7 +2,7 @@
 use Prim.Native.Nat.{ℕ, _*_}
 use mathlib.Core.Bool.{Bool}
 use mathlib.Core.List.{List, [], _∷_}
-use Rattle.lists.specs.Counting.{kept, sumOver}
+use Rattle.lists.specs.Counting.{counted, sumOver}
 use Rattle.joint_states.specs.JointStates.{jointStates}
 use Rattle.study.specs.declared.Component.{Component}
 use Rattle.probability.specs.Chances.{chance}
@@ -16,4 +16,4 @@ weight (c ∷ cs) (s ∷ x) = chance c s * weight cs x
 -- document 01's "exact": over the joint states concerned, the sum of the products of state probabilities
 unfoldable pub exact : List Component → List ℕ → (List ℕ → Bool) → ℕ
 unfolding sumOver weight jointStates
-exact components counts concerned = sumOver (λ (x : List ℕ). kept (concerned x) (weight components x)) (jointStates counts)
+exact components counts concerned = sumOver (λ (x : List ℕ). counted (concerned x) (weight components x)) (jointStates counts)

@@ -4,7 +4,7 @@ use mathlib.Core.List.{List, map}
 use lib.Dec.{eqb}
 use lib.ListN.{getD, take, drop}
 use Rattle.lists.specs.Bits.{bit}
-use Rattle.lists.specs.Counting.{kept}
+use Rattle.lists.specs.Counting.{counted}
 use Rattle.lists.specs.Tabulate.{tabulate}
 use Rattle.rules.specs.Limits.{mostLoads}
 use Rattle.probability.specs.Bounds.{pathBound, total}
@@ -47,4 +47,4 @@ loadTotals rounding most chances n entries =
 -- the totals of all loads with the bound of a path added to those whose bit its class has
 unfoldable pub withPath : ℕ → List ℕ → ℕ → ℕ → List ℕ
 unfolding tabulate
-withPath most totals class bound = tabulate (λ (j : ℕ). min most (getD totals j 0 + kept (bit class j) bound)) mostLoads
+withPath most totals class bound = tabulate (λ (j : ℕ). min most (getD totals j 0 + counted (bit class j) bound)) mostLoads

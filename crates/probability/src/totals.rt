@@ -6,13 +6,15 @@ ghost use Prim.Native.Nat.{ℕ, _+_, _*_, _≤_, _<_, min};
 ghost use mathlib.Core.Path.{_≡_};
 ghost use lib.ListN.{length, getD, take, drop};
 ghost use Rattle.lists.specs.Bits.{bit};
-ghost use Rattle.lists.specs.Counting.{kept};
+ghost use Rattle.lists.specs.Counting.{counted};
 ghost use Rattle.lists.specs.Rows.{put};
 ghost use Rattle.units.specs.One.{one};
 ghost use Rattle.units.specs.Rounding.{up};
 ghost use Rattle.rules.specs.Limits.{mostLoads};
-ghost use Rattle.probability.specs.Reading.{AtMostOne, PathList};
-ghost use Rattle.probability.specs.Totals.{classPlaces, sumsMost, noTotals, entriesOf, pathBounds, classTotals, loadTotals, withPath};
+ghost use Rattle.probability.specs.Reading.{AtMostOne};
+ghost use Rattle.entries.specs.Lists.{PathList};
+ghost use Rattle.entries.specs.Entries.{classPlaces, entriesOf};
+ghost use Rattle.probability.specs.Totals.{sumsMost, noTotals, pathBounds, classTotals, loadTotals, withPath};
 
 // No limit to sums of lower bounds: one for each of 4,096 paths.
 pub const SUMS_MOST: u64 = 4096000000000;
@@ -125,7 +127,7 @@ pub fn class_totals(
 // A bound where bit j of a class stands, else 0.
 fn kept_bit(class: u8, j: usize, bound: u64) -> u64
     requires { ⌜ j < mostLoads ⌝ }
-    ensures { λ r. ⌜ r ≡ kept (bit class j) bound ⌝ }
+    ensures { λ r. ⌜ r ≡ counted (bit class j) bound ⌝ }
 {
     if (class >> j) & 1 == 1 {
         return bound;

@@ -12,8 +12,7 @@ use Rattle.lists.specs.Counting.{truth, sumOver}
 use Rattle.lists.proofs.Adding.{add-next}
 use Rattle.lists.proofs.Sums.{truth-most}
 use Rattle.lists.proofs.Tabulated.{getD-tabulate, tabulated, tabulate-set}
-use Rattle.paths.specs.Words.{classBorne}
-use Rattle.probability.specs.Totals.{classPlaces, entriesOf}
+use Rattle.entries.specs.Entries.{classBorne, classPlaces, entriesOf}
 use Rattle.probability.proofs.Lists.{entries-long, entry-is}
 use Rattle.report_lines.specs.Classes.{bearing, noneBearing, allBearing}
 

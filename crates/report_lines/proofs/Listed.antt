@@ -7,7 +7,7 @@ use Rattle.lists.specs.Rows.{joined}
 use Rattle.lists.specs.Tabulate.{tabulate}
 use Rattle.lists.proofs.Maps.{getD-map-inside}
 use Rattle.lists.proofs.Tabulated.{tabulated}
-use Rattle.probability.specs.Totals.{entriesOf}
+use Rattle.entries.specs.Entries.{entriesOf}
 use Rattle.probability.proofs.Lists.{entries-long, entry-is}
 use Rattle.report_lines.specs.Paths.{pathLine, pathLines}
 

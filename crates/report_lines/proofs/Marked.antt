@@ -5,7 +5,7 @@ use mathlib.Core.List.{List}
 use lib.ListN.{length, getD}
 use Rattle.lists.proofs.Defaults.{getD-inside}
 use Rattle.lists.proofs.Tabulated.{length-tabulate, getD-tabulate}
-use Rattle.paths.specs.Paths.{blankMark}
+use Rattle.entries.specs.Entries.{blankMark}
 use Rattle.report_lines.specs.Paths.{markByte, markBytes}
 
 pub marks-long : (n : ℕ) (entry : List ℕ) → length (markBytes n entry) ≡ n

@@ -13,10 +13,9 @@ use Rattle.text.proofs.Short.{joined-length, field-short, ending-short, bounds-
 use Rattle.units.specs.One.{one}
 use Rattle.units.specs.Rounding.{down, up}
 use Rattle.rules.specs.Limits.{mostComponents, mostLoads}
-use Rattle.paths.specs.Words.{classBorne}
+use Rattle.entries.specs.Entries.{classBorne, classPlaces, entriesOf}
 use Rattle.probability.specs.Bounds.{pathBound}
 use Rattle.probability.specs.Reading.{AtMostOne}
-use Rattle.probability.specs.Totals.{classPlaces, entriesOf}
 use Rattle.probability.proofs.Most.{path-most}
 use Rattle.indices.specs.declared.figures.Caidi.{Caidi}
 use Rattle.indices.specs.declared.figures.Caidi.the-variants.{Bounds, NotStated}

@@ -9,8 +9,7 @@ use Rattle.lists.specs.Rows.{joined}
 use Rattle.lists.specs.Tabulate.{tabulate}
 use Rattle.text.specs.Letters.{letters}
 use Rattle.text.specs.Lines.{itemLine}
-use Rattle.paths.specs.Words.{classBorne}
-use Rattle.probability.specs.Totals.{classPlaces}
+use Rattle.entries.specs.Entries.{classBorne, classPlaces}
 
 -- how many paths bear class c
 unfoldable pub bearing : ℕ → List (List ℕ) → ℕ → ℕ

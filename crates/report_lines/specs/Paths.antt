@@ -11,8 +11,7 @@ use Rattle.text.specs.Lines.{field, boundsEnd}
 use Rattle.text.specs.Numbers.{digit}
 use Rattle.units.specs.Rounding.{down, up}
 use Rattle.rules.specs.Limits.{mostStates}
-use Rattle.paths.specs.Paths.{blankMark}
-use Rattle.paths.specs.Words.{classBorne}
+use Rattle.entries.specs.Entries.{blankMark, classBorne}
 use Rattle.probability.specs.Bounds.{pathBound}
 
 -- the dash of a blank component

@@ -6,8 +6,8 @@ ghost use Prim.Native.Nat.{_≤_};
 ghost use mathlib.Core.Path.{_≡_};
 ghost use lib.ListN.{length};
 ghost use Rattle.text.specs.Writing.{Room, Wrote};
-ghost use Rattle.probability.specs.Reading.{PathList};
-ghost use Rattle.probability.specs.Totals.{classPlaces, entriesOf};
+ghost use Rattle.entries.specs.Lists.{PathList};
+ghost use Rattle.entries.specs.Entries.{classPlaces, entriesOf};
 ghost use Rattle.report_lines.specs.Classes.{noneBearing, allBearing, classLine, classLines};
 
 // No path for any class.

@@ -19,7 +19,7 @@ use Rattle.rules.specs.Breach.{refuse}
 use Rattle.rules.specs.Limits.{mostComponents, mostJointStates}
 use Rattle.probability.specs.Bounds.{total}
 use Rattle.probability.specs.Reading.{AtMostOne}
-use Rattle.probability.specs.Totals.{classPlaces}
+use Rattle.entries.specs.Entries.{classPlaces}
 use Rattle.probability.proofs.Most.{total-most}
 use Rattle.probability.proofs.TableChance.{chances-most}
 use Rattle.study.specs.declared.Study.{Study}

@@ -9,7 +9,7 @@ use Rattle.lists.proofs.Puts.{put-whole}
 use Rattle.lists.proofs.Tabulated.{length-tabulate}
 use Rattle.rules.specs.Table.{unsoundFault, customersFault}
 use Rattle.rules.specs.Breach.{refuse}
-use Rattle.probability.specs.Totals.{classPlaces, entriesOf}
+use Rattle.entries.specs.Entries.{classPlaces, entriesOf}
 use Rattle.study.specs.declared.Outcome.{Outcome}
 use Rattle.study.specs.declared.Outcome.the-variants.{Done, Refused}
 use Rattle.study.specs.declared.Study.{Study}

@@ -15,7 +15,7 @@ ghost use Prim.Native.Nat.{_≤_};
 ghost use mathlib.Core.Path.{_≡_};
 ghost use lib.ListN.{length};
 ghost use Rattle.text.specs.Writing.{Room, Wrote};
-ghost use Rattle.probability.specs.Totals.{classPlaces};
+ghost use Rattle.entries.specs.Entries.{classPlaces};
 ghost use Rattle.evaluation.specs.Page.{Paged};
 ghost use Rattle.report_text.specs.Report.{sheetBytes, studyPaths, studyClasses, studyLosses, studyText};
 

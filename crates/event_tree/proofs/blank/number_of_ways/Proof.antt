@@ -1,6 +1,6 @@
 -- `event_tree::blank::number_of_ways` meets its contract: the two cases of the definition.
 use mathlib.Core.Path.{refl}
-use Rattle.paths.specs.Paths.{ways}
+use Rattle.paths.specs.Ways.{ways}
 use Rattle.event_tree.proofs.blank.number_of_ways.Statement.{statement}
 use Rattle.event_tree.proofs.blank.number_of_ways.Tie as tie
 

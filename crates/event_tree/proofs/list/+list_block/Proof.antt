@@ -9,7 +9,7 @@ use denote.Ref.{now}
 use borrow.Author.Needs.{needs}
 use Rattle.lists.proofs.Puts.{due-done, due-end}
 use Rattle.event_tree.proofs.Fork.{one-class, fork, fork-fewer, fork-most, fork-inside, fork-block}
-use Rattle.event_tree.proofs.Listed.{Listed, listed-start, listed-way, listed-room, listed-more, listed-all, leaf-long, leaf-done}
+use Rattle.event_tree.proofs.Listed.{Listed, listed-start, listed-way, listed-room, listed-more, listed-all, leaf-room, leaf-done}
 use Prim.Native.Nat.{ℕ, _<_}
 use borrow.Fn.Kinds.{In}
 use borrow.Fn.PlainCycle.{Measures, is, falls, and}
@@ -18,8 +18,8 @@ use Rattle.event_tree.proofs.list.list_block.Kinds as list-block-kinds
 use Rattle.event_tree.proofs.list.+list_block.Lts-list_block as list-block-lts
 use Rattle.event_tree.proofs.blank.part.Reads as part-reads
 use Rattle.event_tree.proofs.blank.ways_at.Reads as ways-at-reads
-use Rattle.event_tree.proofs.entry.mark.Reads as mark-reads
-use Rattle.event_tree.proofs.entry.write_entry.Reads as write-entry-reads
+use Rattle.event_tree.proofs.marks.mark.Reads as mark-reads
+use Rattle.entries.proofs.write_entry.Reads as write-entry-reads
 use Rattle.event_tree.proofs.list.+list_block.{statement}
 use Rattle.event_tree.proofs.list.+list_block.Tie.{close}
 
@@ -56,7 +56,7 @@ module _ (t : ℕ) where
   write-entry-requires : list-block-lts.Need-write-entry-requires (claims t) (at t) list-block.Post Inv-loop μ-loop
   write-entry-requires c κs =
       let start = c .before .before .before .before .before .before .before .before in
-      omega (arith, start .pre .1 .1 .1, leaf-long (start .args .counts .now) (start .args .block .now) (take (start .args .front) (now (start .args .marks))) (c .before .before .before .if1 .taken))
+      leaf-room _ _ (take (start .args .front) (now (start .args .marks))) (c .before .before .before .if1 .taken) (start .pre .1 .1 .1)
 
   same-length : list-block-lts.Need-same-length (claims t) (at t) list-block.Post Inv-loop μ-loop
   same-length c = refl
@@ -65,14 +65,14 @@ module _ (t : ℕ) where
   same-length-2 c =
       let start = c .before .before .before .before .before .before .before .before .before .before .before in
       let entry = c .before .before .write-entry .ensures in
-      let done = leaf-done _ _ (take (start .args .front) (now (start .args .marks))) (c .before .before .before .before .before .before .if1 .taken) (start .pre .1 .1 .1) (entry .0) (entry .1) in
+      let done = leaf-done _ _ (take (start .args .front) (now (start .args .marks))) (c .before .before .before .before .before .before .if1 .taken) (start .pre .1 .1 .1) entry in
       done .size
 
   returns : list-block-lts.Need-returns (claims t) (at t) list-block.Post Inv-loop μ-loop
   returns c =
       let start = c .before .before .before .before .before .before .before .before .before .before .before in
       let entry = c .before .before .write-entry .ensures in
-      let done = leaf-done _ _ (take (start .args .front) (now (start .args .marks))) (c .before .before .before .before .before .before .if1 .taken) (start .pre .1 .1 .1) (entry .0) (entry .1) in
+      let done = leaf-done _ _ (take (start .args .front) (now (start .args .marks))) (c .before .before .before .before .before .before .if1 .taken) (start .pre .1 .1 .1) entry in
       (due-end done, (due-done done, refl))
 
   ways-at-requires : list-block-lts.Need-ways-at-requires (claims t) (at t) list-block.Post Inv-loop μ-loop

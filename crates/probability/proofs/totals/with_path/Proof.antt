@@ -6,7 +6,7 @@ use borrow.Author.Needs.{needs}
 use lib.ListN.{length, getD, set}
 use Rattle.lists.specs.Bits.{bit}
 use Rattle.lists.proofs.Filling.{Filling, filling-start, filling-more, filling-done}
-use Rattle.lists.proofs.SumOver.{kept-most}
+use Rattle.lists.proofs.SumOver.{counted-most}
 use Rattle.probability.specs.Totals.{withPath}
 use Rattle.probability.proofs.Loaded.{with-long, with-is}
 use Rattle.probability.proofs.totals.with_path.Statement.{statement}
@@ -36,7 +36,7 @@ kept-bit-requires c κs = c .loop-test .taken
 sum-at-most-requires : tie.Need-sum-at-most-requires Inv-loop μ-loop
 sum-at-most-requires c κs =
     let start = c .before .before .before in
-    (start .pre .0 _ (c .before .loop-test .taken), omega (arith, c .kept-bit .ensures, kept-most (bit (start .args .class) (c .before .before .loop .j)) (start .args .bound), start .pre .1))
+    (start .pre .0 _ (c .before .loop-test .taken), omega (arith, c .kept-bit .ensures, counted-most (bit (start .args .class) (c .before .before .loop .j)) (start .args .bound), start .pre .1))
 
 mul-more : tie.Need-mul-more Inv-loop μ-loop
 mul-more c = omega (arith, c .before .before .loop-test .taken)

@@ -4,7 +4,7 @@ use mathlib.Core.List.{List}
 use native.Mathlib.Omega.{arith}
 use lib.ListN.{getD}
 use Rattle.text.proofs.Pieces.{Tabled, tabled-start, tabled-room, tabled-more, tabled-size, tabled-done}
-use Rattle.probability.specs.Totals.{classPlaces}
+use Rattle.entries.specs.Entries.{classPlaces}
 use Rattle.report_lines.specs.Classes.{classLine, classLines}
 use borrow.Author.Needs.{needs}
 use Rattle.report_lines.proofs.class_text.class_lines.Statement.{statement}

@@ -1,8 +1,8 @@
--- `event_tree::entry::mark` meets its contract: the two cases of the definition.
+-- `event_tree::marks::mark` meets its contract: the two cases of the definition.
 use mathlib.Core.Path.{refl}
-use Rattle.paths.specs.Paths.{mark}
-use Rattle.event_tree.proofs.entry.mark.Statement.{statement}
-use Rattle.event_tree.proofs.entry.mark.Tie as tie
+use Rattle.paths.specs.Ways.{mark}
+use Rattle.event_tree.proofs.marks.mark.Statement.{statement}
+use Rattle.event_tree.proofs.marks.mark.Tie as tie
 
 returns : tie.Need-returns
 unfolding mark

@@ -1,0 +1,72 @@
+-- Laws of entries in a list: where each stands, how long it is, what class it bears, and that entries put at the front of a buffer stand there.
+use Prim.Native.Nat.{ℕ, suc, _+_, _*_, _<_, _≤_}
+use mathlib.Core.Path.{_≡_, refl, sym, ap, _∙_}
+use mathlib.Core.List.{List, [], _∷_}
+use native.Mathlib.Nat.{mul-le-mul-right}
+use native.Mathlib.Omega.{arith}
+use lib.ListN.{length, getD, take, drop, length-drop, length-append}
+use lib.Seq.{length-take-le, take-append-le, drop-append-le, getD-at}
+use Rattle.lists.specs.Rows.{put, joined}
+use Rattle.lists.proofs.Elements.{Every}
+use Rattle.lists.proofs.Joined.{joined-long}
+use Rattle.lists.proofs.Rows.{row-at}
+use Rattle.lists.proofs.Tabulated.{length-tabulate, getD-tabulate, tabulated}
+use Rattle.entries.specs.Entries.{classCode, entryBytes, entry, classBorne, entryAt, entriesOf}
+use Rattle.entries.specs.Lists.{EntryIn, PathList}
+
+-- ---- one entry
+
+pub length-entry : (marks : List ℕ) (class : ℕ) → length (entry marks class) ≡ entryBytes (length marks)
+unfolding entry
+length-entry marks class = length-append marks (classCode class)
+
+pub entry-bears : (marks : List ℕ) (class : ℕ) → classBorne (length marks) (entry marks class) ≡ class
+unfolding entry classBorne
+entry-bears marks class = getD-at marks class [] 0 (length marks) refl
+
+-- a mark in front of an entry is one component more
+pub bears-later : (n m : ℕ) (e : List ℕ) → classBorne (suc n) (m ∷ e) ≡ classBorne n e
+unfolding classBorne
+bears-later n m e = refl
+
+pub entry-later : (m : ℕ) (marks : List ℕ) (class : ℕ) → entry (m ∷ marks) class ≡ m ∷ entry marks class
+unfolding entry
+entry-later m marks class = refl
+
+-- ---- the entries of a list
+
+module _ {n paths : ℕ} {list : List ℕ} (l : PathList n paths list) where
+  pub entry-in : {k : ℕ} → k < paths → EntryIn list n k
+  entry-in {k} h =
+      let room : suc k * entryBytes n ≤ paths * entryBytes n = mul-le-mul-right (entryBytes n) h in
+      record { inside = omega (arith, room, l .long) }
+
+  pub entry-long : {k : ℕ} (e : List ℕ) → k < paths → e ≡ entryAt n list k → length e ≡ entryBytes n
+  entry-long {k} e h same =
+      ap length same ∙ length-take-le (entryBytes n) (drop (k * entryBytes n) list) (rw (length-drop (k * entryBytes n) list) (omega (arith, entry-in h .inside)))
+
+pub entries-long : (n paths : ℕ) (list : List ℕ) → length (entriesOf n paths list) ≡ paths
+unfolding entriesOf
+entries-long n paths list = length-tabulate (entryAt n list) paths
+
+pub entry-is : (n paths : ℕ) (list : List ℕ) (k : ℕ) → k < paths → getD (entriesOf n paths list) k [] ≡ entryAt n list k
+unfolding entriesOf
+entry-is n paths list k h = getD-tabulate (entryAt n list) paths k [] h
+
+-- ---- entries put at the front of a buffer
+
+pub entries-put : (n : ℕ) (rows : List (List ℕ)) (d : List ℕ) → Every (λ (row : List ℕ). length row ≡ entryBytes n) [] rows
+    → entriesOf n (length rows) (put d 0 (joined rows)) ≡ rows
+unfolding entriesOf put
+entries-put n rows d each = sym (tabulated (entryAt n (put d 0 (joined rows))) (length rows) rows [] refl at)
+  where
+    at : (k : ℕ) → k < length rows → getD rows k [] ≡ entryAt n (put d 0 (joined rows)) k
+    at k h =
+        let width = entryBytes n in
+        let x = joined rows in
+        let rest = drop (0 + length x) d in
+        let room : (k + 1) * width ≤ length rows * width = mul-le-mul-right width (omega arith) in
+        let inside : k * width + width ≤ length x = omega (arith, room, joined-long width rows each) in
+        sym (row-at width rows k each h)
+        ∙ sym (take-append-le width (drop (k * width) x) rest (rw (length-drop (k * width) x) (omega (arith, inside))))
+        ∙ ap (take width) (sym (drop-append-le (k * width) x rest (omega (arith, inside))))

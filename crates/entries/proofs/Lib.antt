@@ -1,0 +1,2 @@
+pub mod ClassBehind
+pub mod Entries

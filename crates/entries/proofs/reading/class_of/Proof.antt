@@ -1,0 +1,15 @@
+-- `entries::reading::class_of` meets its contract: the class ends the entry.
+use borrow.Author.Needs.{needs}
+use Rattle.entries.specs.Entries.{classBorne}
+use Rattle.entries.proofs.reading.class_of.Statement.{statement}
+use Rattle.entries.proofs.reading.class_of.Tie as tie
+
+shared-slice-read-result : tie.Need-shared-slice-read-result
+shared-slice-read-result c = search needs
+
+returns : tie.Need-returns
+unfolding classBorne
+returns c = search needs
+
+pub class-of-spec : {M : Type 1} → statement M
+class-of-spec = tie.close (tie.spec shared-slice-read-result returns)

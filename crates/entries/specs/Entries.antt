@@ -1,0 +1,47 @@
+-- The entry of a path: a mark for each component, its state or 255 where it is blank, then the class of the path. The only place that knows how
+-- many bytes a class takes and where it stands.
+use Prim.Native.Nat.{ℕ, _+_, _*_, _^_}
+use mathlib.Core.List.{List, [], _∷_, _++_}
+use lib.ListN.{getD, take, drop}
+use Rattle.lists.specs.Tabulate.{tabulate}
+use Rattle.rules.specs.Limits.{mostComponents, mostLoads, mostJointStates}
+
+-- what stands in an entry for a blank component
+abbrev pub blankMark : ℕ
+blankMark = 255
+
+-- a class has a bit for each load: as many classes as there are sets of loads
+abbrev pub classPlaces : ℕ
+classPlaces = 2 ^ mostLoads
+
+-- the bytes of a class in an entry, lowest first
+abbrev pub classCode : ℕ → List ℕ
+classCode class = class ∷ []
+
+abbrev pub classBytes : ℕ
+classBytes = 1
+
+-- the bytes of an entry of n components
+abbrev pub entryBytes : ℕ → ℕ
+entryBytes n = n + classBytes
+
+-- the entry with these marks and this class
+unfoldable pub entry : List ℕ → ℕ → List ℕ
+entry marks class = marks ++ classCode class
+
+-- document 01's "bears": the class that ends an entry of n components
+unfoldable pub classBorne : ℕ → List ℕ → ℕ
+classBorne n entry = getD entry n 0
+
+-- entry k of a list
+abbrev pub entryAt : ℕ → List ℕ → ℕ → List ℕ
+entryAt n list k = take (entryBytes n) (drop (k * entryBytes n) list)
+
+-- the entries of a list of so many paths
+unfoldable pub entriesOf : ℕ → ℕ → List ℕ → List (List ℕ)
+unfolding tabulate
+entriesOf n paths list = tabulate (entryAt n list) paths
+
+-- room for the longest list: an entry of all components for each joint state
+abbrev pub listBytes : ℕ
+listBytes = mostJointStates * entryBytes mostComponents

@@ -1,0 +1,15 @@
+// What an entry of a list of paths is: a mark for each component, then the class of the path. Its bytes, reading and writing it, and the room that
+// the longest list takes. Not for callers from outside: those call `planning`.
+mod layout;
+mod reading;
+mod writing;
+
+pub use layout::BLANK;
+pub use layout::CLASS_PLACES;
+pub use layout::Class;
+pub use layout::LIST_BYTES;
+pub use reading::class_of;
+pub use reading::entry_at;
+pub use reading::list_need;
+pub use writing::empty_list;
+pub use writing::write_entry;
