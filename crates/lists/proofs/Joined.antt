@@ -1,11 +1,14 @@
 -- Laws of lists one behind the other.
-use Prim.Native.Nat.{ℕ, suc, _*_, _≤_}
+use Prim.Native.Nat.{ℕ, zero, suc, _+_, _-_, _*_, _≤_}
 use mathlib.Core.Path.{_≡_, refl, sym, ap, _∙_}
-use mathlib.Core.List.{List, [], _∷_}
+use mathlib.Core.Bool.{Bool, true, false}
+use mathlib.Core.List.{List, [], _∷_, _++_}
 use native.Mathlib.Nat.{zero-mul}
 use native.Mathlib.Omega.{arith}
-use lib.ListN.{length, take, drop, length-append}
-use lib.Seq.{take-at, drop-at}
+use lib.Dec.{ltb}
+use lib.ListN.{length, getD, take, drop, length-append, List·getD-append}
+use lib.Seq.{take-at, drop-at, take-all, take-append-add, getD-append-add}
+use borrow.Author.Tests.{ltb-true, ltb-false}
 use Rattle.lists.specs.Rows.{joined}
 use Rattle.lists.proofs.Elements.{Every}
 
@@ -42,3 +45,27 @@ joined-tells width (row ∷ rows) (row′ ∷ others) each other number e =
     let same =
     joined-tells width rows others (λ k h. each (suc k) (omega arith)) (λ k h. other (suc k) (omega arith)) (omega (arith, number)) rest in
     λ i. first i ∷ same i
+
+-- numbers that are all at most a number
+pub joined-most : (most : ℕ) (rows : List (List ℕ)) → Every (λ (row : List ℕ). (s : ℕ) → getD row s 0 ≤ most) [] rows → (k : ℕ) → getD (joined rows) k 0 ≤ most
+unfolding joined
+joined-most most [] each k = omega arith
+joined-most most (row ∷ rows) each k = go (joined-most most rows (λ i h. each (suc i) (omega arith))) (ltb k (length row)) refl
+  where
+    go : ((j : ℕ) → getD (joined rows) j 0 ≤ most) → (b : Bool) → ltb k (length row) ≡ b → getD (row ++ joined rows) k 0 ≤ most
+    go rest true inside = rw (List·getD-append row (joined rows) 0 k (ltb-true k (length row) inside)) (each 0 (omega arith) k)
+    go rest false behind =
+        let place : k ≡ length row + (k - length row) = omega (arith, ltb-false k (length row) behind) in
+        rw (place, getD-append-add row (joined rows) (k - length row) 0) (rest (k - length row))
+
+-- the first rows
+pub joined-front : (width n : ℕ) (rows : List (List ℕ)) → Every (λ (row : List ℕ). length row ≡ width) [] rows → take (n * width) (joined rows) ≡ joined (take n rows)
+unfolding joined
+joined-front width zero rows each = rw zero-mul refl
+joined-front width (suc n) [] each = take-all (suc n * width) [] (omega arith)
+joined-front width (suc n) (row ∷ rows) each =
+    let long : length row ≡ width = each 0 (omega arith) in
+    let places : suc n * width ≡ length row + n * width = omega (arith, long) in
+    ap (λ (k : ℕ). take k (row ++ joined rows)) places
+    ∙ take-append-add row (joined rows) (n * width)
+    ∙ ap (λ (l : List ℕ). row ++ l) (joined-front width n rows (λ i h. each (suc i) (omega arith)))

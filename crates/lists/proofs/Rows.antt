@@ -1,11 +1,11 @@
 -- Rows of the same length, one behind the other: each stands where its number says.
 use Prim.Native.Nat.{ℕ, zero, suc, _+_, _*_, _<_}
-use mathlib.Core.Path.{_≡_, ap, _∙_}
+use mathlib.Core.Path.{_≡_, sym, ap, _∙_}
 use mathlib.Core.List.{List, [], _∷_, _++_}
 use native.Mathlib.Nat.{not-suc-le-zero, le-of-suc-le-suc, zero-mul}
 use native.Mathlib.Omega.{arith}
 use lib.ListN.{length, getD, take, drop}
-use lib.Seq.{take-at, drop-append-add}
+use lib.Seq.{take-at, drop-append-add, getD-take, getD-drop}
 use Rattle.lists.specs.Rows.{joined}
 use Rattle.lists.proofs.Elements.{Every}
 
@@ -21,3 +21,10 @@ module _ (width : ℕ) where
       ap (λ (p : ℕ). take width (drop p (row ++ joined rows))) place
       ∙ ap (take width) (drop-append-add row (joined rows) (k * width))
       ∙ row-at rows k (λ i less. each (suc i) (omega arith)) (le-of-suc-le-suc h)
+
+  -- place s of row k
+  pub row-place : (rows : List (List ℕ)) (k s : ℕ) → Every (λ (row : List ℕ). length row ≡ width) [] rows → k < length rows → s < width
+      → getD (joined rows) (k * width + s) 0 ≡ getD (getD rows k []) s 0
+  row-place rows k s each h less =
+      sym (getD-take width (drop (k * width) (joined rows)) s 0 less ∙ getD-drop (k * width) (joined rows) s 0)
+      ∙ ap (λ (row : List ℕ). getD row s 0) (row-at rows k each h)

@@ -1,0 +1,4 @@
+pub mod Classes
+pub mod Listing
+pub mod Paths
+pub mod Table

@@ -1,0 +1,23 @@
+-- Slices that hold what is worked out of: the table of a good model's probabilities, and the list of its paths.
+use Prim.Native.Nat.{ℕ}
+use mathlib.Core.Path.{_≡_}
+use mathlib.Core.List.{List}
+use lib.ListN.{length}
+use Rattle.entries.specs.Entries.{entriesOf}
+use Rattle.entries.specs.Lists.{PathList}
+use Rattle.model.specs.Good.{Good}
+use Rattle.model.specs.Model.{Model, components, pathsOf, probabilityTable}
+
+-- the list of a good model's paths stands at the front of a buffer
+pub record Listed (m : Model) (paths : ℕ) (list : List ℕ) : Type 0 where
+  pub good : Good m
+  pub number : paths ≡ length (pathsOf m)
+  pub room : PathList (components m) paths list
+  pub entries : entriesOf (components m) paths list ≡ pathsOf m
+
+-- beside it stands the table of its probabilities; which model it is does not matter to what is worked out
+pub record Held (table : List ℕ) (n : ℕ) (list : List ℕ) (paths : ℕ) : Type 0 where
+  pub model : Model
+  pub is-table : table ≡ probabilityTable model
+  pub number : n ≡ components model
+  pub listed : Listed model paths list

@@ -1,0 +1,4 @@
+pub mod Good
+pub mod Held
+pub mod Laws
+pub mod Model
