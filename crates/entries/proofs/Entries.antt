@@ -35,6 +35,10 @@ entry-later m marks class = refl
 
 -- ---- the entries of a list
 
+pub entry-at-long : {list : List ℕ} {n k : ℕ} (e : List ℕ) → EntryIn list n k → e ≡ entryAt n list k → length e ≡ entryBytes n
+entry-at-long {list} {n} {k} e within same =
+    ap length same ∙ length-take-le (entryBytes n) (drop (k * entryBytes n) list) (rw (length-drop (k * entryBytes n) list) (omega (arith, within .inside)))
+
 module _ {n paths : ℕ} {list : List ℕ} (l : PathList n paths list) where
   pub entry-in : {k : ℕ} → k < paths → EntryIn list n k
   entry-in {k} h =
@@ -42,8 +46,7 @@ module _ {n paths : ℕ} {list : List ℕ} (l : PathList n paths list) where
       record { inside = omega (arith, room, l .long) }
 
   pub entry-long : {k : ℕ} (e : List ℕ) → k < paths → e ≡ entryAt n list k → length e ≡ entryBytes n
-  entry-long {k} e h same =
-      ap length same ∙ length-take-le (entryBytes n) (drop (k * entryBytes n) list) (rw (length-drop (k * entryBytes n) list) (omega (arith, entry-in h .inside)))
+  entry-long e h same = entry-at-long e (entry-in h) same
 
 pub entries-long : (n paths : ℕ) (list : List ℕ) → length (entriesOf n paths list) ≡ paths
 unfolding entriesOf

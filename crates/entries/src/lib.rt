@@ -8,6 +8,7 @@ pub use layout::BLANK;
 pub use layout::CLASS_PLACES;
 pub use layout::Class;
 pub use layout::LIST_BYTES;
+pub use reading::class_at;
 pub use reading::class_of;
 pub use reading::entry_at;
 pub use reading::list_need;

@@ -34,3 +34,11 @@ pub fn class_of(n: usize, entry: &[u8]) -> Class
 {
     entry[n]
 }
+
+// The class that entry k of a list bears.
+pub fn class_at(list: &[u8], n: usize, k: usize) -> Class
+    requires { ⌜ EntryIn (now list) n k ⌝ }
+    ensures { λ r. ⌜ r ≡ classBorne n (entryAt n (now (list .entry)) k) ⌝ }
+{
+    class_of(n, entry_at(list, n, k))
+}

@@ -14,7 +14,7 @@ use Rattle.probability.specs.Bounds.{lowerTotal, upperTotal}
 use Rattle.probability.specs.Chances.{chanceTable}
 use Rattle.entries.specs.Entries.{classPlaces, entriesOf}
 use Rattle.probability.specs.Totals.{sumsMost, classTotals, loadTotals}
-use Rattle.probability.specs.Reading.{AtMostOne}
+use Rattle.probability.specs.Probabilities.{AtMostOne}
 use Rattle.probability.proofs.TableChance.{chances-most}
 use Rattle.probability.proofs.Most.{lower-classes, upper-classes, lower-loads, upper-loads}
 use Rattle.probability.proofs.Charted.{table-long}

@@ -13,10 +13,12 @@ use Rattle.lists.specs.Rows.{put}
 use Rattle.lists.proofs.Fronts.{getD-put, put-over}
 use Rattle.lists.proofs.Puts.{put-set, put-size}
 use Rattle.lists.proofs.Tabulated.{length-tabulate, getD-tabulate, tabulate-alike, tabulate-set}
-use Rattle.entries.specs.Entries.{classBorne, classPlaces, entriesOf}
+use Rattle.entries.specs.Entries.{classPlaces, classBorne, entryAt, entriesOf}
+use Rattle.probability.specs.Bounded.{Boundable, Bounded}
 use Rattle.probability.specs.Bounds.{pathBound, total}
-use Rattle.probability.specs.Totals.{noTotals, classTotals}
-use Rattle.probability.proofs.Lists.{entries-long, entry-is, total-none, total-next}
+use Rattle.probability.specs.Totals.{sumsMost, noTotals, classTotals}
+use Rattle.entries.proofs.Entries.{entries-long, entry-is}
+use Rattle.probability.proofs.TotalTerms.{total-none, total-next}
 
 -- ---- cleared places
 
@@ -35,93 +37,97 @@ min-sum most a b = omega arith
 
 -- ---- one path more
 
-module _ (rounding most : ℕ) (chances : List ℕ) (n : ℕ) where
+module _ (rounding most : ℕ) (probabilities : List ℕ) (n : ℕ) where
   -- the total of a class
   abbrev at : List (List ℕ) → ℕ → ℕ
-  at entries c = min most (total rounding chances n (λ (class : ℕ). eqb class c) entries)
+  at entries c = min most (total rounding probabilities n (λ (class : ℕ). eqb class c) entries)
 
-  totals-none : classTotals rounding most chances n [] ≡ noTotals
+  totals-none : classTotals rounding most probabilities n [] ≡ noTotals
   unfolding classTotals noTotals
   totals-none =
-      tabulate-alike (at []) (λ c. 0) classPlaces (λ c h. ap (min most) (total-none rounding chances n (λ (class : ℕ). eqb class c)) ∙ min-zero most)
+      tabulate-alike (at []) (λ c. 0) classPlaces (λ c h. ap (min most) (total-none rounding probabilities n (λ (class : ℕ). eqb class c)) ∙ min-zero most)
 
   totals-next : (entries : List (List ℕ)) (k class bound : ℕ) → k < length entries → class < classPlaces
-      → class ≡ classBorne n (getD entries k []) → bound ≡ pathBound rounding chances n (getD entries k [])
-      → set (classTotals rounding most chances n (take k entries)) class (min most (at (take k entries) class + bound))
-      ≡ classTotals rounding most chances n (take (k + 1) entries)
+      → class ≡ classBorne n (getD entries k []) → bound ≡ pathBound rounding probabilities n (getD entries k [])
+      → set (classTotals rounding most probabilities n (take k entries)) class (min most (at (take k entries) class + bound))
+      ≡ classTotals rounding most probabilities n (take (k + 1) entries)
   unfolding classTotals
   totals-next entries k class bound h small is-class is-bound =
       tabulate-set (at (take k entries)) (at (take (k + 1) entries)) classPlaces class (min most (at (take k entries) class + bound)) small here there
     where
-      next : (c : ℕ) → total rounding chances n (λ (class : ℕ). eqb class c) (take (k + 1) entries)
-          ≡ total rounding chances n (λ (class : ℕ). eqb class c) (take k entries) + counted (eqb class c) bound
-      next c = rw (is-class, is-bound) (total-next rounding chances n (λ (class : ℕ). eqb class c) entries k h)
+      next : (c : ℕ) → total rounding probabilities n (λ (class : ℕ). eqb class c) (take (k + 1) entries)
+          ≡ total rounding probabilities n (λ (class : ℕ). eqb class c) (take k entries) + counted (eqb class c) bound
+      next c = rw (is-class, is-bound) (total-next rounding probabilities n (λ (class : ℕ). eqb class c) entries k h)
 
       here : at (take (k + 1) entries) class ≡ min most (at (take k entries) class + bound)
-      here = rw (next class, eq-eqb class class refl) (sym (min-sum most (total rounding chances n (λ (c : ℕ). eqb c class) (take k entries)) bound))
+      here = rw (next class, eq-eqb class class refl) (sym (min-sum most (total rounding probabilities n (λ (c : ℕ). eqb c class) (take k entries)) bound))
 
       there : (c : ℕ) → (c ≡ class → ⊥) → at (take (k + 1) entries) c ≡ at (take k entries) c
       there c other = rw (next c, ne-eqb class c (λ e. other (sym e)), add-zero) refl
 
-pub record Classed (rounding most : ℕ) (chances : List ℕ) (n : ℕ) (list : List ℕ) (paths : ℕ) (d₀ : List ℕ) (k : ℕ) (d : List ℕ) : Type 0 where
+pub record Classed (rounding most : ℕ) (probabilities : List ℕ) (n : ℕ) (list : List ℕ) (paths : ℕ) (d₀ : List ℕ) (k : ℕ) (d : List ℕ) : Type 0 where
+  pub known : Boundable rounding probabilities n list paths
+  pub limit : most ≤ sumsMost
   pub inside : k ≤ paths
   pub room : classPlaces ≤ length d₀
-  pub made : d ≡ put d₀ 0 (classTotals rounding most chances n (take k (entriesOf n paths list)))
+  pub made : d ≡ put d₀ 0 (classTotals rounding most probabilities n (take k (entriesOf n paths list)))
 
-totals-long : (rounding most : ℕ) (chances : List ℕ) (n : ℕ) (entries : List (List ℕ)) → length (classTotals rounding most chances n entries) ≡ classPlaces
+totals-long : (rounding most : ℕ) (probabilities : List ℕ) (n : ℕ) (entries : List (List ℕ)) → length (classTotals rounding most probabilities n entries) ≡ classPlaces
 unfolding classTotals
-totals-long rounding most chances n entries = length-tabulate (at rounding most chances n entries) classPlaces
+totals-long rounding most probabilities n entries = length-tabulate (at rounding most probabilities n entries) classPlaces
 
-module _ {rounding most : ℕ} {chances : List ℕ} {n : ℕ} {list : List ℕ} {paths : ℕ} {d₀ : List ℕ} where
-  pub classed-start : {d : List ℕ} → classPlaces ≤ length d₀ → d ≡ put d₀ 0 noTotals → Classed rounding most chances n list paths d₀ 0 d
-  classed-start {d} room e = record { inside = omega arith; room = room; made = rw (totals-none rounding most chances n) e }
+module _ {rounding most : ℕ} {probabilities : List ℕ} {n : ℕ} {list : List ℕ} {paths : ℕ} {d₀ : List ℕ} where
+  pub classed-start : {d : List ℕ} → Boundable rounding probabilities n list paths → most ≤ sumsMost → classPlaces ≤ length d₀ → d ≡ put d₀ 0 noTotals → Classed rounding most probabilities n list paths d₀ 0 d
+  classed-start {d} known limit room e = record { known = known; limit = limit; inside = omega arith; room = room; made = rw (totals-none rounding most probabilities n) e }
 
-  pub classed-size : {k : ℕ} {d : List ℕ} → Classed rounding most chances n list paths d₀ k d → length d ≡ length d₀
+  pub classed-size : {k : ℕ} {d : List ℕ} → Classed rounding most probabilities n list paths d₀ k d → length d ≡ length d₀
   classed-size {k} {d} c =
-      let totals = classTotals rounding most chances n (take k (entriesOf n paths list)) in
-      put-size d₀ d 0 totals (omega (arith, totals-long rounding most chances n (take k (entriesOf n paths list)), c .room)) (c .made)
+      let totals = classTotals rounding most probabilities n (take k (entriesOf n paths list)) in
+      put-size d₀ d 0 totals (omega (arith, totals-long rounding most probabilities n (take k (entriesOf n paths list)), c .room)) (c .made)
 
   -- the total that stands at a class
-  pub classed-at : {k : ℕ} {d : List ℕ} (class : ℕ) → Classed rounding most chances n list paths d₀ k d → class < classPlaces
-      → getD d class 0 ≡ at rounding most chances n (take k (entriesOf n paths list)) class
+  pub classed-at : {k : ℕ} {d : List ℕ} (class : ℕ) → Classed rounding most probabilities n list paths d₀ k d → class < classPlaces
+      → getD d class 0 ≡ at rounding most probabilities n (take k (entriesOf n paths list)) class
   unfolding classTotals
   classed-at {k} {d} class c h =
       let entries = take k (entriesOf n paths list) in
-      let totals = classTotals rounding most chances n entries in
+      let totals = classTotals rounding most probabilities n entries in
       ap (λ (l : List ℕ). getD l class 0) (c .made)
-      ∙ getD-put d₀ totals class 0 (omega (arith, h, totals-long rounding most chances n entries))
-      ∙ getD-tabulate (at rounding most chances n entries) classPlaces class 0 h
+      ∙ getD-put d₀ totals class 0 (omega (arith, h, totals-long rounding most probabilities n entries))
+      ∙ getD-tabulate (at rounding most probabilities n entries) classPlaces class 0 h
 
-  pub classed-most : {k : ℕ} {d : List ℕ} (class : ℕ) → Classed rounding most chances n list paths d₀ k d → class < classPlaces → getD d class 0 ≤ most
-  classed-most {k} {d} class c h = omega (arith, classed-at class c h)
+  pub classed-most : {k : ℕ} {d : List ℕ} (class : ℕ) → Classed rounding most probabilities n list paths d₀ k d → class < classPlaces → getD d class 0 ≤ sumsMost
+  classed-most {k} {d} class c h = omega (arith, classed-at class c h, c .limit)
 
-  pub classed-more : {k class bound r : ℕ} {d entry : List ℕ} → Classed rounding most chances n list paths d₀ k d → k < paths → class < classPlaces
-      → entry ≡ take (n + 1) (drop (k * (n + 1)) list) → class ≡ getD entry n 0 → bound ≡ pathBound rounding chances n entry
-      → r ≡ min most (getD d class 0 + bound) → Classed rounding most chances n list paths d₀ (k + 1) (set d class r)
-  classed-more {k} {class} {bound} {r} {d} {entry} c h small is-entry is-class is-bound e =
+  pub classed-more : {k class bound r : ℕ} {d : List ℕ} → Classed rounding most probabilities n list paths d₀ k d → k < paths → class < classPlaces
+      → class ≡ classBorne n (entryAt n list k) → Bounded rounding probabilities n (entryAt n list k) bound → r ≡ min most (getD d class 0 + bound)
+      → Classed rounding most probabilities n list paths d₀ (k + 1) (set d class r)
+  classed-more {k} {class} {bound} {r} {d} c h small is-class bounded e =
       let entries = entriesOf n paths list in
-      let same : entry ≡ getD entries k [] = is-entry ∙ sym (entry-is n paths list k h) in
+      let same = sym (entry-is n paths list k h) in
       let inside : k < length entries = rw (entries-long n paths list) h in
       let next =
-      totals-next rounding most chances n entries k class bound inside small (is-class ∙ ap (λ (l : List ℕ). getD l n 0) same)
-      (is-bound ∙ ap (pathBound rounding chances n) same) in
-      let totals = classTotals rounding most chances n (take k entries) in
-      let value : r ≡ min most (at rounding most chances n (take k entries) class + bound) = e ∙ ap (λ (v : ℕ). min most (v + bound)) (classed-at class c small) in
+      totals-next rounding most probabilities n entries k class bound inside small (is-class ∙ ap (classBorne n) same)
+      (bounded .is ∙ ap (pathBound rounding probabilities n) same) in
+      let totals = classTotals rounding most probabilities n (take k entries) in
+      let value : r ≡ min most (at rounding most probabilities n (take k entries) class + bound) = e ∙ ap (λ (v : ℕ). min most (v + bound)) (classed-at class c small) in
       record {
+        known = c .known;
+        limit = c .limit;
         inside = omega arith;
         room = c .room;
         made =
             ap (λ (l : List ℕ). set l class r) (c .made)
-            ∙ put-set d₀ totals class r (omega (arith, small, totals-long rounding most chances n (take k entries)))
+            ∙ put-set d₀ totals class r (omega (arith, small, totals-long rounding most probabilities n (take k entries)))
             ∙ ap (λ (v : ℕ). put d₀ 0 (set totals class v)) value
             ∙ ap (put d₀ 0) next;
       }
 
-  pub classed-done : {k : ℕ} {d : List ℕ} → Classed rounding most chances n list paths d₀ k d → paths ≤ k
-      → d ≡ put d₀ 0 (classTotals rounding most chances n (entriesOf n paths list))
+  pub classed-done : {k : ℕ} {d : List ℕ} → Classed rounding most probabilities n list paths d₀ k d → paths ≤ k
+      → d ≡ put d₀ 0 (classTotals rounding most probabilities n (entriesOf n paths list))
   classed-done {k} {d} c h =
       let all = take-all k (entriesOf n paths list) (omega (arith, h, entries-long n paths list)) in
-      c .made ∙ ap (λ (entries : List (List ℕ)). put d₀ 0 (classTotals rounding most chances n entries)) all
+      c .made ∙ ap (λ (entries : List (List ℕ)). put d₀ 0 (classTotals rounding most probabilities n entries)) all
 
 -- ---- cleared places, and totals over them
 
@@ -137,9 +143,9 @@ cleared d₀ d room e =
       none = e ∙ sym (put-over d₀ noTotals noTotals refl) ∙ ap (λ (l : List ℕ). put l 0 noTotals) (sym e);
     }
 
-pub totals-over : (rounding most : ℕ) (chances : List ℕ) (n : ℕ) (entries : List (List ℕ)) (d₀ d d′ : List ℕ) → d ≡ put d₀ 0 noTotals
-    → d′ ≡ put d 0 (classTotals rounding most chances n entries) → d′ ≡ put d₀ 0 (classTotals rounding most chances n entries)
-totals-over rounding most chances n entries d₀ d d′ e totals =
+pub totals-over : (rounding most : ℕ) (probabilities : List ℕ) (n : ℕ) (entries : List (List ℕ)) (d₀ d d′ : List ℕ) → d ≡ put d₀ 0 noTotals
+    → d′ ≡ put d 0 (classTotals rounding most probabilities n entries) → d′ ≡ put d₀ 0 (classTotals rounding most probabilities n entries)
+totals-over rounding most probabilities n entries d₀ d d′ e totals =
     totals
-    ∙ ap (λ (l : List ℕ). put l 0 (classTotals rounding most chances n entries)) e
-    ∙ put-over d₀ noTotals (classTotals rounding most chances n entries) (none-long ∙ sym (totals-long rounding most chances n entries))
+    ∙ ap (λ (l : List ℕ). put l 0 (classTotals rounding most probabilities n entries)) e
+    ∙ put-over d₀ noTotals (classTotals rounding most probabilities n entries) (none-long ∙ sym (totals-long rounding most probabilities n entries))

@@ -10,42 +10,42 @@ use Rattle.lists.proofs.Defaults.{getD-inside}
 use Rattle.units.specs.One.{one}
 use Rattle.units.specs.Rounding.{scale}
 use Rattle.entries.specs.Entries.{blankMark}
-use Rattle.probability.specs.Chances.{chanceAt}
+use Rattle.probability.specs.Probabilities.{probabilityAt}
 use Rattle.probability.specs.Bounds.{factored, pathBound}
 
 -- a blank component, and a settled one
 
-module _ (rounding : ℕ) (chances entry : List ℕ) (i bound : ℕ) (inside : i < length entry) where
+module _ (rounding : ℕ) (probabilities entry : List ℕ) (i bound : ℕ) (inside : i < length entry) where
   mark : getD entry i blankMark ≡ getD entry i 0
   mark = getD-inside entry i blankMark 0 inside
 
-  pub blank-factor : getD entry i 0 ≡ blankMark → bound ≡ factored rounding chances entry i bound
+  pub blank-factor : getD entry i 0 ≡ blankMark → bound ≡ factored rounding probabilities entry i bound
   unfolding factored
   blank-factor e = rw (eq-eqb (getD entry i blankMark) blankMark (mark ∙ e)) refl
 
-  pub settled-factor : {r p : ℕ} → (getD entry i 0 ≡ blankMark → ⊥) → p ≡ chanceAt chances i (getD entry i 0) → r ≡ scale rounding bound p
-      → r ≡ factored rounding chances entry i bound
+  pub settled-factor : {r p : ℕ} → (getD entry i 0 ≡ blankMark → ⊥) → p ≡ probabilityAt probabilities i (getD entry i 0) → r ≡ scale rounding bound p
+      → r ≡ factored rounding probabilities entry i bound
   unfolding factored
-  settled-factor {r} {p} settled chance scaled =
+  settled-factor {r} {p} settled probability scaled =
       let other : getD entry i blankMark ≡ blankMark → ⊥ = λ e. settled (sym mark ∙ e) in
-      rw (ne-eqb (getD entry i blankMark) blankMark other, mark, ← chance) scaled
+      rw (ne-eqb (getD entry i blankMark) blankMark other, mark, ← probability) scaled
 
-pub record Factored (rounding : ℕ) (chances entry : List ℕ) (n i bound : ℕ) : Type 0 where
+pub record Factored (rounding : ℕ) (probabilities entry : List ℕ) (n i bound : ℕ) : Type 0 where
   pub inside : i ≤ n
-  pub made : bound ≡ pathBound rounding chances i entry
+  pub made : bound ≡ pathBound rounding probabilities i entry
   pub most : bound ≤ one
 
-module _ {rounding : ℕ} {chances entry : List ℕ} {n : ℕ} where
-  pub factors-start : Factored rounding chances entry n 0 one
+module _ {rounding : ℕ} {probabilities entry : List ℕ} {n : ℕ} where
+  pub factors-start : Factored rounding probabilities entry n 0 one
   unfolding pathBound
   factors-start = record { inside = omega arith; made = refl; most = omega arith }
 
-  pub factors-more : {i bound r : ℕ} → Factored rounding chances entry n i bound → i < n → r ≡ factored rounding chances entry i bound → r ≤ one
-      → Factored rounding chances entry n (i + 1) r
+  pub factors-more : {i bound r : ℕ} → Factored rounding probabilities entry n i bound → i < n → r ≡ factored rounding probabilities entry i bound → r ≤ one
+      → Factored rounding probabilities entry n (i + 1) r
   unfolding pathBound
   factors-more {i} {bound} {r} f h e most = record { inside = omega arith; made = rw (add-one, ← f .made) e; most = most }
 
-  pub factors-done : {i bound : ℕ} → Factored rounding chances entry n i bound → n ≤ i → bound ≡ pathBound rounding chances n entry
+  pub factors-done : {i bound : ℕ} → Factored rounding probabilities entry n i bound → n ≤ i → bound ≡ pathBound rounding probabilities n entry
   factors-done {i} {bound} f h =
       let all : i ≡ n = omega (arith, f .inside) in
-      f .made ∙ ap (λ (k : ℕ). pathBound rounding chances k entry) all
+      f .made ∙ ap (λ (k : ℕ). pathBound rounding probabilities k entry) all

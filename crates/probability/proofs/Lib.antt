@@ -1,8 +1,7 @@
+pub mod Boundable
 pub mod Bounded
-pub mod Charted
 pub mod Classed
 pub mod Factors
-pub mod Lists
+pub mod TotalTerms
 pub mod Loaded
 pub mod Most
-pub mod TableChance

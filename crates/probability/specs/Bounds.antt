@@ -4,33 +4,32 @@ use mathlib.Core.Bool.{Bool, cond}
 use mathlib.Core.List.{List}
 use lib.Dec.{eqb}
 use lib.ListN.{getD}
-use Rattle.lists.specs.Counting.{counted, sumOver}
+use Rattle.lists.specs.Counting.{those, sumOver}
 use Rattle.units.specs.One.{one}
 use Rattle.units.specs.Rounding.{down, up, scale}
 use Rattle.entries.specs.Entries.{blankMark, classBorne}
-use Rattle.probability.specs.Chances.{chanceAt}
+use Rattle.probability.specs.Probabilities.{probabilityAt}
 
--- a bound with the factor of component i: a settled one's chance, and none of a blank one
+-- a bound with the factor of component i: a settled one's probability, and none of a blank one
 unfoldable pub factored : ℕ → List ℕ → List ℕ → ℕ → ℕ → ℕ
 unfolding scale
-factored rounding chances entry i bound =
-    cond (eqb (getD entry i blankMark) blankMark) bound (scale rounding bound (chanceAt chances i (getD entry i blankMark)))
+factored rounding probabilities entry i bound =
+    cond (eqb (getD entry i blankMark) blankMark) bound (scale rounding bound (probabilityAt probabilities i (getD entry i blankMark)))
 
 -- a path starts at one, and has the factors of its first n components in order
 unfoldable pub pathBound : ℕ → List ℕ → ℕ → List ℕ → ℕ
 unfolding factored
-pathBound rounding chances zero entry = one
-pathBound rounding chances (suc i) entry = factored rounding chances entry i (pathBound rounding chances i entry)
+pathBound rounding probabilities zero entry = one
+pathBound rounding probabilities (suc i) entry = factored rounding probabilities entry i (pathBound rounding probabilities i entry)
 
--- the sum of the bounds of the paths whose class is counted; entries are of n components
+-- the sum of the bounds of those paths whose class is kept; entries are of n components
 unfoldable pub total : ℕ → List ℕ → ℕ → (ℕ → Bool) → List (List ℕ) → ℕ
-unfolding sumOver pathBound
-total rounding chances n keep entries =
-    sumOver (λ (entry : List ℕ). counted (keep (classBorne n entry)) (pathBound rounding chances n entry)) entries
+unfolding sumOver those pathBound
+total rounding probabilities n keep entries = sumOver (pathBound rounding probabilities n) (those (λ (entry : List ℕ). keep (classBorne n entry)) entries)
 
 abbrev pub lowerTotal : List ℕ → ℕ → (ℕ → Bool) → List (List ℕ) → ℕ
-lowerTotal chances n keep entries = total down chances n keep entries
+lowerTotal probabilities n keep entries = total down probabilities n keep entries
 
 -- at most one
 abbrev pub upperTotal : List ℕ → ℕ → (ℕ → Bool) → List (List ℕ) → ℕ
-upperTotal chances n keep entries = min one (total up chances n keep entries)
+upperTotal probabilities n keep entries = min one (total up probabilities n keep entries)

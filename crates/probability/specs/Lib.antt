@@ -1,5 +1,5 @@
+pub mod Bounded
 pub mod Bounds
-pub mod Chances
 pub mod Exact
-pub mod Reading
+pub mod Probabilities
 pub mod Totals

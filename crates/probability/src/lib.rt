@@ -1,13 +1,12 @@
-// Bounds of paths, classes and loads from a list of paths and a table of chances. Gates are not known here. Not for callers from outside: those
+// Bounds of paths, classes and loads from a list of paths and a table of probabilities. Gates and studies are not known here. Not for callers from outside: those
 // call `planning`.
-mod chances;
 mod path;
+mod probabilities;
 mod totals;
 
-pub use chances::chance_table;
+pub use path::bound_at;
 pub use path::path_bound;
 pub use totals::SUMS_MOST;
 pub use totals::class_totals;
-pub use totals::entry_at;
 pub use totals::load_totals;
 pub use totals::path_bounds;

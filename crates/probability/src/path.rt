@@ -1,6 +1,7 @@
 // The bounds of one path.
-use crate::chances::chance_at;
-use rules::BLANK;
+use crate::probabilities::probability_at;
+use entries::BLANK;
+use entries::entry_at;
 use units::ONE;
 use units::scale;
 ghost use Prim.Native.Nat.{_≤_, _<_};
@@ -8,41 +9,54 @@ ghost use mathlib.Core.Path.{_≡_};
 ghost use lib.ListN.{length};
 ghost use Rattle.units.specs.One.{one};
 ghost use Rattle.units.specs.Rounding.{up};
+ghost use Rattle.entries.specs.Entries.{entryAt};
+ghost use Rattle.entries.specs.Lists.{EntryIn};
 ghost use Rattle.rules.specs.Limits.{mostComponents};
-ghost use Rattle.probability.specs.Bounds.{factored as Bounds·factored, pathBound};
-ghost use Rattle.probability.specs.Reading.{AtMostOne};
+ghost use Rattle.probability.specs.Bounds.{factored as Bounds·factored};
+ghost use Rattle.probability.specs.Bounded.{Bounded};
+ghost use Rattle.probability.specs.Probabilities.{AtMostOne};
 
 // A bound with the factor of component i, whose mark is given; a blank one has none.
-fn factored(rounding: u64, chances: &[u32], entry: &[u8], i: usize, bound: u64) -> u64
+fn factored(rounding: u64, probabilities: &[u32], entry: &[u8], i: usize, bound: u64) -> u64
     requires { ⌜ rounding ≤ up ⌝ }
-    requires { ⌜ AtMostOne (now chances) ⌝ }
+    requires { ⌜ AtMostOne (now probabilities) ⌝ }
     requires { ⌜ i < mostComponents ⌝ }
     requires { ⌜ i < length (now entry) ⌝ }
     requires { ⌜ bound ≤ one ⌝ }
-    ensures { λ r. ⌜ r ≡ Bounds·factored rounding (now (chances .entry)) (now (entry .entry)) i bound ⌝ }
+    ensures { λ r. ⌜ r ≡ Bounds·factored rounding (now (probabilities .entry)) (now (entry .entry)) i bound ⌝ }
     ensures { λ r. ⌜ r ≤ one ⌝ }
 {
     let mark = entry[i];
     if mark == BLANK {
         return bound;
     }
-    scale(rounding, bound, chance_at(chances, i, mark) as u64)
+    scale(rounding, bound, probability_at(probabilities, i, mark) as u64)
 }
 
 // A bound of the path of an entry of n components: a path starts at one, and has the factors of its components in order.
-pub fn path_bound(rounding: u64, chances: &[u32], n: usize, entry: &[u8]) -> u64
+pub fn path_bound(rounding: u64, probabilities: &[u32], n: usize, entry: &[u8]) -> u64
     requires { ⌜ rounding ≤ up ⌝ }
-    requires { ⌜ AtMostOne (now chances) ⌝ }
+    requires { ⌜ AtMostOne (now probabilities) ⌝ }
     requires { ⌜ n ≤ mostComponents ⌝ }
     requires { ⌜ n ≤ length (now entry) ⌝ }
-    ensures { λ r. ⌜ r ≡ pathBound rounding (now (chances .entry)) n (now (entry .entry)) ⌝ }
-    ensures { λ r. ⌜ r ≤ one ⌝ }
+    ensures { λ r. ⌜ Bounded rounding (now (probabilities .entry)) n (now (entry .entry)) r ⌝ }
 {
     let mut bound = ONE as u64;
     let mut i: usize = 0;
     while i < n {
-        bound = factored(rounding, chances, entry, i, bound);
+        bound = factored(rounding, probabilities, entry, i, bound);
         i = i + 1;
     }
     bound
+}
+
+// A bound of the path at entry k of a list.
+pub fn bound_at(rounding: u64, probabilities: &[u32], n: usize, list: &[u8], k: usize) -> u64
+    requires { ⌜ rounding ≤ up ⌝ }
+    requires { ⌜ AtMostOne (now probabilities) ⌝ }
+    requires { ⌜ n ≤ mostComponents ⌝ }
+    requires { ⌜ EntryIn (now list) n k ⌝ }
+    ensures { λ r. ⌜ Bounded rounding (now (probabilities .entry)) n (entryAt n (now (list .entry)) k) r ⌝ }
+{
+    path_bound(rounding, probabilities, n, entry_at(list, n, k))
 }

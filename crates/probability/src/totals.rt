@@ -1,52 +1,40 @@
 // Bounds and totals over a list of paths. Each call works out lower or upper numbers, by what its divisions add.
-use crate::path::path_bound;
-use rules::CLASS_PLACES;
+use crate::path::bound_at;
+use entries::CLASS_PLACES;
+use entries::Class;
+use entries::class_at;
 use rules::LOAD_PLACES;
-ghost use Prim.Native.Nat.{ℕ, _+_, _*_, _≤_, _<_, min};
+ghost use Prim.Native.Nat.{ℕ, _+_, _≤_, _<_, min};
 ghost use mathlib.Core.Path.{_≡_};
-ghost use lib.ListN.{length, getD, take, drop};
+ghost use lib.ListN.{length, getD};
 ghost use Rattle.lists.specs.Bits.{bit};
 ghost use Rattle.lists.specs.Counting.{counted};
 ghost use Rattle.lists.specs.Rows.{put};
 ghost use Rattle.units.specs.One.{one};
-ghost use Rattle.units.specs.Rounding.{up};
 ghost use Rattle.rules.specs.Limits.{mostLoads};
-ghost use Rattle.probability.specs.Reading.{AtMostOne};
-ghost use Rattle.entries.specs.Lists.{PathList};
+ghost use Rattle.probability.specs.Bounded.{Boundable};
 ghost use Rattle.entries.specs.Entries.{classPlaces, entriesOf};
 ghost use Rattle.probability.specs.Totals.{sumsMost, noTotals, pathBounds, classTotals, loadTotals, withPath};
 
 // No limit to sums of lower bounds: one for each of 4,096 paths.
 pub const SUMS_MOST: u64 = 4096000000000;
 
-// The k-th entry of a list whose entries have n components.
-pub fn entry_at(list: &[u8], n: usize, k: usize) -> &[u8]
-    requires { ⌜ k * (n + 1) + (n + 1) ≤ length (now list) ⌝ }
-    ensures { λ r. ⌜ now r ≡ take (n + 1) (drop (k * (n + 1)) (now (list .entry))) ⌝ }
-{
-    let width = n + 1;
-    let at = k * width;
-    &list[at..at + width]
-}
-
 // Writes a bound for each of so many paths at the front of a slice.
 pub fn path_bounds(
     rounding: u64,
-    chances: &[u32],
+    probabilities: &[u32],
     n: usize,
     list: &[u8],
     paths: usize,
     out: &mut [u64],
 )
-    requires { ⌜ rounding ≤ up ⌝ }
-    requires { ⌜ AtMostOne (now chances) ⌝ }
-    requires { ⌜ PathList n paths (now list) ⌝ }
+    requires { ⌜ Boundable rounding (now probabilities) n (now list) paths ⌝ }
     requires { ⌜ paths ≤ length (now out) ⌝ }
-    ensures { λ r. ⌜ now (out .exit) ≡ put (now (out .entry)) 0 (pathBounds rounding (now (chances .entry)) n (entriesOf n paths (now (list .entry)))) ⌝ }
+    ensures { λ r. ⌜ now (out .exit) ≡ put (now (out .entry)) 0 (pathBounds rounding (now (probabilities .entry)) n (entriesOf n paths (now (list .entry)))) ⌝ }
 {
     let mut k: usize = 0;
     while k < paths {
-        out[k] = path_bound(rounding, chances, n, entry_at(list, n, k));
+        out[k] = bound_at(rounding, probabilities, n, list, k);
         k = k + 1;
     }
 }
@@ -80,25 +68,23 @@ fn clear(out: &mut [u64])
 fn add_paths(
     rounding: u64,
     most: u64,
-    chances: &[u32],
+    probabilities: &[u32],
     n: usize,
     list: &[u8],
     paths: usize,
     out: &mut [u64],
 )
-    requires { ⌜ rounding ≤ up ⌝ }
+    requires { ⌜ Boundable rounding (now probabilities) n (now list) paths ⌝ }
     requires { ⌜ most ≤ sumsMost ⌝ }
-    requires { ⌜ AtMostOne (now chances) ⌝ }
-    requires { ⌜ PathList n paths (now list) ⌝ }
     requires { ⌜ classPlaces ≤ length (now out) ⌝ }
     requires { ⌜ now out ≡ put (now out) 0 noTotals ⌝ }
-    ensures { λ r. ⌜ now (out .exit) ≡ put (now (out .entry)) 0 (classTotals rounding most (now (chances .entry)) n (entriesOf n paths (now (list .entry)))) ⌝ }
+    ensures { λ r. ⌜ now (out .exit) ≡ put (now (out .entry)) 0 (classTotals rounding most (now (probabilities .entry)) n (entriesOf n paths (now (list .entry)))) ⌝ }
 {
     let mut k: usize = 0;
     while k < paths {
-        let entry = entry_at(list, n, k);
-        let class = entry[n] as usize;
-        out[class] = sum_at_most(most, out[class], path_bound(rounding, chances, n, entry));
+        let class = class_at(list, n, k) as usize;
+        let bound = bound_at(rounding, probabilities, n, list, k);
+        out[class] = sum_at_most(most, out[class], bound);
         k = k + 1;
     }
 }
@@ -107,25 +93,23 @@ fn add_paths(
 pub fn class_totals(
     rounding: u64,
     most: u64,
-    chances: &[u32],
+    probabilities: &[u32],
     n: usize,
     list: &[u8],
     paths: usize,
     out: &mut [u64],
 )
-    requires { ⌜ rounding ≤ up ⌝ }
+    requires { ⌜ Boundable rounding (now probabilities) n (now list) paths ⌝ }
     requires { ⌜ most ≤ sumsMost ⌝ }
-    requires { ⌜ AtMostOne (now chances) ⌝ }
-    requires { ⌜ PathList n paths (now list) ⌝ }
     requires { ⌜ classPlaces ≤ length (now out) ⌝ }
-    ensures { λ r. ⌜ now (out .exit) ≡ put (now (out .entry)) 0 (classTotals rounding most (now (chances .entry)) n (entriesOf n paths (now (list .entry)))) ⌝ }
+    ensures { λ r. ⌜ now (out .exit) ≡ put (now (out .entry)) 0 (classTotals rounding most (now (probabilities .entry)) n (entriesOf n paths (now (list .entry)))) ⌝ }
 {
     clear(out);
-    add_paths(rounding, most, chances, n, list, paths, out);
+    add_paths(rounding, most, probabilities, n, list, paths, out);
 }
 
 // A bound where bit j of a class stands, else 0.
-fn kept_bit(class: u8, j: usize, bound: u64) -> u64
+fn counted_bit(class: Class, j: usize, bound: u64) -> u64
     requires { ⌜ j < mostLoads ⌝ }
     ensures { λ r. ⌜ r ≡ counted (bit class j) bound ⌝ }
 {
@@ -136,7 +120,7 @@ fn kept_bit(class: u8, j: usize, bound: u64) -> u64
 }
 
 // The totals of all loads with the bound of a path added to those whose bit its class has.
-fn with_path(most: u64, totals: [u64; LOAD_PLACES], class: u8, bound: u64) -> [u64; LOAD_PLACES]
+fn with_path(most: u64, totals: [u64; LOAD_PLACES], class: Class, bound: u64) -> [u64; LOAD_PLACES]
     requires { ⌜ ((j : ℕ) → j < mostLoads → getD totals j 0 ≤ sumsMost) ⌝ }
     requires { ⌜ bound ≤ one ⌝ }
     ensures { λ r. ⌜ r ≡ withPath most totals class bound ⌝ }
@@ -144,7 +128,7 @@ fn with_path(most: u64, totals: [u64; LOAD_PLACES], class: u8, bound: u64) -> [u
     let mut more = totals;
     let mut j: usize = 0;
     while j < LOAD_PLACES {
-        more[j] = sum_at_most(most, totals[j], kept_bit(class, j, bound));
+        more[j] = sum_at_most(most, totals[j], counted_bit(class, j, bound));
         j = j + 1;
     }
     more
@@ -154,27 +138,21 @@ fn with_path(most: u64, totals: [u64; LOAD_PLACES], class: u8, bound: u64) -> [u
 pub fn load_totals(
     rounding: u64,
     most: u64,
-    chances: &[u32],
+    probabilities: &[u32],
     n: usize,
     list: &[u8],
     paths: usize,
 ) -> [u64; LOAD_PLACES]
-    requires { ⌜ rounding ≤ up ⌝ }
+    requires { ⌜ Boundable rounding (now probabilities) n (now list) paths ⌝ }
     requires { ⌜ most ≤ sumsMost ⌝ }
-    requires { ⌜ AtMostOne (now chances) ⌝ }
-    requires { ⌜ PathList n paths (now list) ⌝ }
-    ensures { λ r. ⌜ r ≡ loadTotals rounding most (now (chances .entry)) n (entriesOf n paths (now (list .entry))) ⌝ }
+    ensures { λ r. ⌜ r ≡ loadTotals rounding most (now (probabilities .entry)) n (entriesOf n paths (now (list .entry))) ⌝ }
 {
     let mut totals = [0u64; LOAD_PLACES];
     let mut k: usize = 0;
     while k < paths {
-        let entry = entry_at(list, n, k);
-        let more = with_path(
-            most,
-            totals,
-            entry[n],
-            path_bound(rounding, chances, n, entry),
-        );
+        let class = class_at(list, n, k);
+        let bound = bound_at(rounding, probabilities, n, list, k);
+        let more = with_path(most, totals, class, bound);
         totals = more;
         k = k + 1;
     }

@@ -13,7 +13,7 @@ use Rattle.lists.proofs.Adding.{add-next}
 use Rattle.lists.proofs.Sums.{truth-most}
 use Rattle.lists.proofs.Tabulated.{getD-tabulate, tabulated, tabulate-set}
 use Rattle.entries.specs.Entries.{classBorne, classPlaces, entriesOf}
-use Rattle.probability.proofs.Lists.{entries-long, entry-is}
+use Rattle.entries.proofs.Entries.{entries-long, entry-is}
 use Rattle.report_lines.specs.Classes.{bearing, noneBearing, allBearing}
 
 -- no more paths than there are

@@ -8,7 +8,7 @@ use Rattle.lists.specs.Tabulate.{tabulate}
 use Rattle.lists.proofs.Maps.{getD-map-inside}
 use Rattle.lists.proofs.Tabulated.{tabulated}
 use Rattle.entries.specs.Entries.{entriesOf}
-use Rattle.probability.proofs.Lists.{entries-long, entry-is}
+use Rattle.entries.proofs.Entries.{entries-long, entry-is}
 use Rattle.report_lines.specs.Paths.{pathLine, pathLines}
 
 -- the line of path k

@@ -15,7 +15,7 @@ use Rattle.units.specs.Rounding.{down, up}
 use Rattle.rules.specs.Limits.{mostComponents, mostLoads}
 use Rattle.entries.specs.Entries.{classBorne, classPlaces, entriesOf}
 use Rattle.probability.specs.Bounds.{pathBound}
-use Rattle.probability.specs.Reading.{AtMostOne}
+use Rattle.probability.specs.Probabilities.{AtMostOne}
 use Rattle.probability.proofs.Most.{path-most}
 use Rattle.indices.specs.declared.figures.Caidi.{Caidi}
 use Rattle.indices.specs.declared.figures.Caidi.the-variants.{Bounds, NotStated}

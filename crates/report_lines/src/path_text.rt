@@ -12,7 +12,7 @@ ghost use mathlib.Core.Path.{_≡_};
 ghost use lib.ListN.{length};
 ghost use Rattle.text.specs.Writing.{Room, Wrote};
 ghost use Rattle.rules.specs.Limits.{mostComponents};
-ghost use Rattle.probability.specs.Reading.{AtMostOne};
+ghost use Rattle.probability.specs.Probabilities.{AtMostOne};
 ghost use Rattle.entries.specs.Lists.{PathList};
 ghost use Rattle.entries.specs.Entries.{entriesOf};
 ghost use Rattle.report_lines.specs.Paths.{entryLine, pathLine, pathLines};

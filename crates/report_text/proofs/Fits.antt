@@ -18,7 +18,7 @@ use Rattle.units.specs.Rounding.{down, up}
 use Rattle.rules.specs.Breach.{refuse}
 use Rattle.rules.specs.Limits.{mostComponents, mostJointStates}
 use Rattle.probability.specs.Bounds.{total}
-use Rattle.probability.specs.Reading.{AtMostOne}
+use Rattle.probability.specs.Probabilities.{AtMostOne}
 use Rattle.entries.specs.Entries.{classPlaces}
 use Rattle.probability.proofs.Most.{total-most}
 use Rattle.probability.proofs.TableChance.{chances-most}

@@ -12,8 +12,8 @@ returns c =
     let start = c .before .before .before .before in
     (blank-factor _ _ _ _ _ (start .pre .1 .1 .1 .0) (c .if1 .taken), start .pre .1 .1 .1 .1)
 
-chance-at-requires : tie.Need-chance-at-requires
-chance-at-requires c κs = search needs
+probability-at-requires : tie.Need-probability-at-requires
+probability-at-requires c κs = search needs
 
 cast-scale : tie.Need-cast-scale
 cast-scale c = search needs
@@ -21,12 +21,12 @@ cast-scale c = search needs
 scale-requires : tie.Need-scale-requires
 scale-requires c κs =
     let start = c .before .before .before .before .before in
-    (start .pre .0, (start .pre .1 .1 .1 .1, rw (c .chance-at .ensures) (start .pre .1 .0 .each _)))
+    (start .pre .0, (start .pre .1 .1 .1 .1, rw (c .probability-at .ensures) (start .pre .1 .0 .each _)))
 
 returns-2 : tie.Need-returns-2
 returns-2 c =
     let start = c .before .before .before .before .before .before in
-    (settled-factor _ _ _ _ _ (start .pre .1 .1 .1 .0) (c .before .before .if1 .left) (c .before .chance-at .ensures) (c .scale .ensures .0), c .scale .ensures .1)
+    (settled-factor _ _ _ _ _ (start .pre .1 .1 .1 .0) (c .before .before .if1 .left) (c .before .probability-at .ensures) (c .scale .ensures .0), c .scale .ensures .1)
 
 pub factored-spec : {M : Type 1} → statement M
 factored-spec =
@@ -34,7 +34,7 @@ factored-spec =
     (tie.spec
     shared-slice-read-mark
     returns
-    chance-at-requires
+    probability-at-requires
     cast-scale
     scale-requires
     returns-2)

@@ -7,10 +7,10 @@ use Rattle.probability.proofs.path.path_bound.Statement.{statement}
 use Rattle.probability.proofs.path.path_bound.Tie as tie
 
 abbrev Inv-loop : tie.InvT-loop
-Inv-loop rounding chances n entry bound₀ i₀ bound i = Factored rounding chances entry n i bound
+Inv-loop rounding probabilities n entry bound₀ i₀ bound i = Factored rounding probabilities entry n i bound
 
 abbrev μ-loop : tie.MeasureT-loop
-μ-loop rounding chances n entry bound₀ i₀ bound i = n - i
+μ-loop rounding probabilities n entry bound₀ i₀ bound i = n - i
 
 cast-bound : tie.Need-cast-bound Inv-loop μ-loop
 cast-bound c = search needs
@@ -38,7 +38,7 @@ loop-again : tie.Need-loop-again Inv-loop μ-loop
 loop-again c = factors-more (c .before .before .loop .inv) (c .before .loop-test .taken) (c .factored .ensures .0) (c .factored .ensures .1)
 
 returns : tie.Need-returns Inv-loop μ-loop
-returns c = (factors-done (c .before .loop .inv) (c .loop-test .left), c .before .loop .inv .most)
+returns c = record { is = factors-done (c .before .loop .inv) (c .loop-test .left); most = c .before .loop .inv .most }
 
 pub path-bound-spec : {M : Type 1} → statement M
 path-bound-spec =

@@ -3,6 +3,7 @@ use Prim.Native.Nat.{_-_}
 use mathlib.Core.Path.{sym}
 use native.Mathlib.Omega.{arith}
 use Rattle.lists.proofs.Writing.{Writing, writing-start, writing-more, writing-room, writing-done}
+use Rattle.entries.specs.Entries.{classPlaces}
 use Rattle.probability.specs.Totals.{noTotals}
 use Rattle.probability.proofs.Classed.{none-long, none-is}
 use Rattle.probability.proofs.totals.clear.Statement.{statement}
@@ -12,7 +13,7 @@ abbrev Inv-loop : tie.InvT-loop
 Inv-loop out₀ c₀ out c = Writing noTotals out₀ 0 c out c
 
 abbrev μ-loop : tie.MeasureT-loop
-μ-loop out₀ c₀ out c = 256 - c
+μ-loop out₀ c₀ out c = classPlaces - c
 
 loop-holds : tie.Need-loop-holds Inv-loop μ-loop
 loop-holds c = writing-start (omega (arith, none-long, c .pre))

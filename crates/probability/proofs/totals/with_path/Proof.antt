@@ -7,6 +7,7 @@ use lib.ListN.{length, getD, set}
 use Rattle.lists.specs.Bits.{bit}
 use Rattle.lists.proofs.Filling.{Filling, filling-start, filling-more, filling-done}
 use Rattle.lists.proofs.SumOver.{counted-most}
+use Rattle.rules.specs.Limits.{mostLoads}
 use Rattle.probability.specs.Totals.{withPath}
 use Rattle.probability.proofs.Loaded.{with-long, with-is}
 use Rattle.probability.proofs.totals.with_path.Statement.{statement}
@@ -17,11 +18,11 @@ Inv-loop most class bound totals more₀ j₀ more j =
     Filling (withPath most totals class bound) j more
 
 abbrev μ-loop : tie.MeasureT-loop
-μ-loop most class bound totals more₀ j₀ more j = 8 - j
+μ-loop most class bound totals more₀ j₀ more j = mostLoads - j
 
 loop-holds : tie.Need-loop-holds Inv-loop μ-loop
 loop-holds c =
-    let eight : length (c .args .t2) ≡ 8 = search needs in
+    let eight : length (c .args .t2) ≡ mostLoads = search needs in
     filling-start (eight ∙ sym (with-long (c .args .most) (c .args .t2) (c .args .class) (c .args .bound)))
 
 mul-sum-at-most : tie.Need-mul-sum-at-most Inv-loop μ-loop
@@ -30,13 +31,13 @@ mul-sum-at-most c = omega arith
 array-read-sum-at-most : tie.Need-array-read-sum-at-most Inv-loop μ-loop
 array-read-sum-at-most c = omega arith
 
-kept-bit-requires : tie.Need-kept-bit-requires Inv-loop μ-loop
-kept-bit-requires c κs = c .loop-test .taken
+counted-bit-requires : tie.Need-counted-bit-requires Inv-loop μ-loop
+counted-bit-requires c κs = c .loop-test .taken
 
 sum-at-most-requires : tie.Need-sum-at-most-requires Inv-loop μ-loop
 sum-at-most-requires c κs =
     let start = c .before .before .before in
-    (start .pre .0 _ (c .before .loop-test .taken), omega (arith, c .kept-bit .ensures, counted-most (bit (start .args .class) (c .before .before .loop .j)) (start .args .bound), start .pre .1))
+    (start .pre .0 _ (c .before .loop-test .taken), omega (arith, c .counted-bit .ensures, counted-most (bit (start .args .class) (c .before .before .loop .j)) (start .args .bound), start .pre .1))
 
 mul-more : tie.Need-mul-more Inv-loop μ-loop
 mul-more c = omega (arith, c .before .before .loop-test .taken)
@@ -57,7 +58,7 @@ loop-again c =
     let taken = c .before .before .loop-test .taken in
     let value : c .sum-at-most .result ≡ getD (withPath (args .most) (args .t2) (args .class) (args .bound)) (loop .j) 0 =
     c .sum-at-most .ensures
-    ∙ ap (λ (n : ℕ). min (args .most) (getD (args .t2) (loop .j) 0 + n)) (c .before .kept-bit .ensures)
+    ∙ ap (λ (n : ℕ). min (args .most) (getD (args .t2) (loop .j) 0 + n)) (c .before .counted-bit .ensures)
     ∙ sym (with-is (args .most) (args .t2) (args .class) (args .bound) (loop .j) taken) in
     subst (λ (n : ℕ). Filling (withPath (args .most) (args .t2) (args .class) (args .bound)) (loop .j + 1) (set (loop .more) (loop .j) n)) (sym value)
     (filling-more 0 (loop .inv) (omega (arith, taken, with-long (args .most) (args .t2) (args .class) (args .bound))))
@@ -76,7 +77,7 @@ with-path-spec =
     loop-holds
     mul-sum-at-most
     array-read-sum-at-most
-    kept-bit-requires
+    counted-bit-requires
     sum-at-most-requires
     mul-more
     array-write-more

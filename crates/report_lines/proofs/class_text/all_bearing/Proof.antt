@@ -4,7 +4,7 @@ use mathlib.Core.Path.{refl}
 use native.Mathlib.Omega.{arith}
 use lib.ListN.{getD}
 use denote.Ref.{now}
-use Rattle.probability.proofs.Lists.{entry-inside, entry-long}
+use Rattle.entries.proofs.Entries.{entry-in, entry-long}
 use Rattle.report_lines.proofs.Borne.{Borne, borne-start, borne-few, borne-more, borne-done}
 use borrow.Author.Needs.{needs}
 use Rattle.report_lines.proofs.class_text.all_bearing.Statement.{statement}
@@ -25,7 +25,7 @@ loop-holds : tie.Need-loop-holds Inv-loop μ-loop
 loop-holds c = borne-start (c .none-bearing .ensures)
 
 entry-at-requires : tie.Need-entry-at-requires Inv-loop μ-loop
-entry-at-requires c κs = entry-inside (c .before .before .before .before .pre) (c .loop-test .taken)
+entry-at-requires c κs = entry-in (c .before .before .before .before .pre) (c .loop-test .taken)
 
 shared-slice-read-class : tie.Need-shared-slice-read-class Inv-loop μ-loop
 shared-slice-read-class c =

@@ -2,7 +2,7 @@
 use Prim.Native.Nat.{_-_}
 use native.Mathlib.Omega.{arith}
 use Rattle.text.proofs.Pieces.{Tabled, tabled-start, tabled-room, tabled-more, tabled-size, tabled-done}
-use Rattle.probability.proofs.Lists.{entry-inside, entry-long}
+use Rattle.entries.proofs.Entries.{entry-in, entry-long}
 use Rattle.report_lines.proofs.Listed.{lineAt, lines-at}
 use borrow.Author.Needs.{needs}
 use Rattle.report_lines.proofs.path_text.path_lines.Statement.{statement}
@@ -22,7 +22,7 @@ loop-holds c =
     tabled-start _ _ (rw (lines-at (start .args .chances .now) (start .args .n) (start .args .list .now) (start .args .paths)) at (start .pre .1 .1))
 
 entry-at-requires : tie.Need-entry-at-requires Inv-loop μ-loop
-entry-at-requires c κs = entry-inside (c .before .before .before .before .before .before .pre .1 .0) (c .before .loop-test .taken)
+entry-at-requires c κs = entry-in (c .before .before .before .before .before .before .pre .1 .0) (c .before .loop-test .taken)
 
 path-line-requires : tie.Need-path-line-requires Inv-loop μ-loop
 path-line-requires c κs =

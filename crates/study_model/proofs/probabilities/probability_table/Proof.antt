@@ -1,12 +1,12 @@
--- `probability::chances::chance_table` meets its contract. The chances of the components below i are written (`Charted`).
+-- `probability::probabilities::probability_table` meets its contract. The probabilities of the components below i are written (`Charted`).
 use Prim.Native.Nat.{_-_}
 use mathlib.Core.Path.{_≡_, refl}
 use native.Mathlib.Omega.{arith}
 use borrow.Author.Needs.{needs}
 use lib.ListN.{length}
 use Rattle.probability.proofs.Charted.{Charted, charted-start, charted-room, charted-more, charted-done}
-use Rattle.probability.proofs.chances.chance_table.Statement.{statement}
-use Rattle.probability.proofs.chances.chance_table.Tie as tie
+use Rattle.probability.proofs.probabilities.probability_table.Statement.{statement}
+use Rattle.probability.proofs.probabilities.probability_table.Tie as tie
 
 abbrev Inv-loop : tie.InvT-loop
 Inv-loop component table₀ i₀ table i = Charted component table₀ i table
@@ -28,8 +28,8 @@ array-copy-out-c c = omega arith
 mul-at : tie.Need-mul-at Inv-loop μ-loop
 mul-at c = omega (arith, c .before .loop-test .taken)
 
-with-chances-requires : tie.Need-with-chances-requires Inv-loop μ-loop
-with-chances-requires c κs =
+with-probabilities-requires : tie.Need-with-probabilities-requires Inv-loop μ-loop
+with-probabilities-requires c κs =
     (charted-room (c .before .before .loop .inv) (c .before .loop-test .taken), c .before .before .before .pre _ (c .before .loop-test .taken))
 
 add-i : tie.Need-add-i Inv-loop μ-loop
@@ -39,13 +39,13 @@ loop-less : tie.Need-loop-less Inv-loop μ-loop
 loop-less c = omega (arith, c .before .before .loop-test .taken)
 
 loop-again : tie.Need-loop-again Inv-loop μ-loop
-loop-again c = charted-more (c .before .before .before .loop .inv) (c .before .before .loop-test .taken) (c .with-chances .ensures)
+loop-again c = charted-more (c .before .before .before .loop .inv) (c .before .before .loop-test .taken) (c .with-probabilities .ensures)
 
 returns : tie.Need-returns Inv-loop μ-loop
 returns c = charted-done (c .before .loop .inv) (c .loop-test .left)
 
-pub chance-table-spec : {M : Type 1} → statement M
-chance-table-spec =
+pub probability-table-spec : {M : Type 1} → statement M
+probability-table-spec =
     tie.close
     (tie.spec
     Inv-loop
@@ -54,7 +54,7 @@ chance-table-spec =
     mul-c
     array-copy-out-c
     mul-at
-    with-chances-requires
+    with-probabilities-requires
     add-i
     loop-less
     loop-again

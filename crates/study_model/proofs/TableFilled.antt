@@ -1,4 +1,4 @@
--- What carries the table of chances: those of the components below i are written.
+-- What carries the table of probabilities: those of the components below i are written.
 use Prim.Native.Nat.{ℕ, _+_, _*_, _<_, _≤_}
 use mathlib.Core.Path.{_≡_, refl, sym, ap, _∙_}
 use mathlib.Core.List.{List, [], _∷_, _++_, map}
@@ -11,56 +11,56 @@ use Rattle.lists.proofs.Puts.{Due, due-start, due-room, due-more, due-done, put
 use Rattle.rules.specs.Limits.{mostComponents, mostStates}
 use Rattle.study.specs.declared.Component.{Component}
 use Rattle.study.specs.Zero.{zeroComponent}
-use Rattle.probability.specs.Chances.{stateChances, chanceTable}
+use Rattle.probability.specs.Probabilities.{stateProbabilities, probabilityTable}
 
--- the chances of the components from i on
+-- the probabilities of the components from i on
 abbrev from : List Component → ℕ → List ℕ
-from component i = joined (map stateChances (drop i component))
+from component i = joined (map stateProbabilities (drop i component))
 
-pub table-long : (component : List Component) → length (chanceTable component) ≡ length component * mostStates
-unfolding chanceTable joined
+pub table-long : (component : List Component) → length (probabilityTable component) ≡ length component * mostStates
+unfolding probabilityTable joined
 table-long [] = refl
 table-long (c ∷ cs) = omega (arith, table-long cs)
 
 from-next : (component : List Component) (i : ℕ) → i < length component
-    → from component i ≡ stateChances (getD component i zeroComponent) ++ from component (i + 1)
+    → from component i ≡ stateProbabilities (getD component i zeroComponent) ++ from component (i + 1)
 unfolding joined
 from-next component i h =
-    ap (λ (l : List Component). joined (map stateChances l)) (drop-cons component i zeroComponent h)
-    ∙ ap (λ (k : ℕ). stateChances (getD component i zeroComponent) ++ from component k) (sym (add-one i))
+    ap (λ (l : List Component). joined (map stateProbabilities l)) (drop-cons component i zeroComponent h)
+    ∙ ap (λ (k : ℕ). stateProbabilities (getD component i zeroComponent) ++ from component k) (sym (add-one i))
 
 pub record Charted (component : List Component) (d₀ : List ℕ) (i : ℕ) (table : List ℕ) : Type 0 where
   pub places : length component ≡ mostComponents
   pub whole : length d₀ ≡ mostComponents * mostStates
   pub inside : i ≤ mostComponents
-  pub due : Due d₀ 0 (chanceTable component) table (i * mostStates) (from component i)
+  pub due : Due d₀ 0 (probabilityTable component) table (i * mostStates) (from component i)
 
 module _ {component : List Component} {d₀ : List ℕ} where
   pub charted-start : length component ≡ mostComponents → length d₀ ≡ mostComponents * mostStates → Charted component d₀ 0 d₀
-  unfolding chanceTable
+  unfolding probabilityTable
   charted-start places whole =
       record { places = places; whole = whole; inside = omega arith; due = due-start (omega (arith, table-long component, places, whole)) }
 
   next : {i : ℕ} {table : List ℕ} → Charted component d₀ i table → i < mostComponents
-      → Due d₀ 0 (chanceTable component) table (i * mostStates) (stateChances (getD component i zeroComponent) ++ from component (i + 1))
+      → Due d₀ 0 (probabilityTable component) table (i * mostStates) (stateProbabilities (getD component i zeroComponent) ++ from component (i + 1))
   next {i} {table} c h = rw (from-next component i (omega (arith, c .places))) at (c .due)
 
   pub charted-room : {i : ℕ} {table : List ℕ} → Charted component d₀ i table → i < mostComponents → i * mostStates + mostStates ≤ length table
-  charted-room {i} {table} c h = due-room (stateChances (getD component i zeroComponent)) (from component (i + 1)) (next c h)
+  charted-room {i} {table} c h = due-room (stateProbabilities (getD component i zeroComponent)) (from component (i + 1)) (next c h)
 
   pub charted-more : {i : ℕ} {table r : List ℕ} → Charted component d₀ i table → i < mostComponents
-      → r ≡ put table (i * mostStates) (stateChances (getD component i zeroComponent)) → Charted component d₀ (i + 1) r
+      → r ≡ put table (i * mostStates) (stateProbabilities (getD component i zeroComponent)) → Charted component d₀ (i + 1) r
   charted-more {i} {table} {r} c h wrote =
       record {
         places = c .places;
         whole = c .whole;
         inside = omega arith;
-        due = due-more (stateChances (getD component i zeroComponent)) (from component (i + 1)) (next c h) wrote (omega arith);
+        due = due-more (stateProbabilities (getD component i zeroComponent)) (from component (i + 1)) (next c h) wrote (omega arith);
       }
 
-  pub charted-done : {i : ℕ} {table : List ℕ} → Charted component d₀ i table → mostComponents ≤ i → table ≡ chanceTable component
+  pub charted-done : {i : ℕ} {table : List ℕ} → Charted component d₀ i table → mostComponents ≤ i → table ≡ probabilityTable component
   unfolding joined
   charted-done {i} {table} c h =
       let none = drop-of-length-le component {i = i} (omega (arith, c .places)) in
-      let nothing : from component i ≡ [] = ap (λ (l : List Component). joined (map stateChances l)) none in
-      due-done (rw nothing at (c .due)) ∙ put-whole d₀ (chanceTable component) (omega (arith, table-long component, c .places, c .whole))
+      let nothing : from component i ≡ [] = ap (λ (l : List Component). joined (map stateProbabilities l)) none in
+      due-done (rw nothing at (c .due)) ∙ put-whole d₀ (probabilityTable component) (omega (arith, table-long component, c .places, c .whole))

@@ -1,8 +1,8 @@
--- `probability::chances::with_chances` meets its contract: four places are written, one behind the other (`Due`).
+-- `probability::probabilities::with_probabilities` meets its contract: four places are written, one behind the other (`Due`).
 use Rattle.lists.proofs.Puts.{due-start, due-set, due-done}
 use borrow.Author.Needs.{needs}
-use Rattle.probability.proofs.chances.with_chances.Statement.{statement}
-use Rattle.probability.proofs.chances.with_chances.Tie as tie
+use Rattle.probability.proofs.probabilities.with_probabilities.Statement.{statement}
+use Rattle.probability.proofs.probabilities.with_probabilities.Tie as tie
 
 add-more : tie.Need-add-more
 add-more c = search needs
@@ -49,8 +49,8 @@ array-write-more-4 c = search needs
 returns : tie.Need-returns
 returns c = due-done (due-set (due-set (due-set (due-set (due-start (c .before .before .pre .0))))))
 
-pub with-chances-spec : {M : Type 1} → statement M
-with-chances-spec =
+pub with-probabilities-spec : {M : Type 1} → statement M
+with-probabilities-spec =
     tie.close
     (tie.spec
     add-more

@@ -1,10 +1,10 @@
--- `probability::chances::chance_at` meets its contract: past the end of the table the definition gives 0.
+-- `probability::probabilities::probability_at` meets its contract: past the end of the table the definition gives 0.
 use mathlib.Core.Path.{sym}
 use lib.ListN.{List·getD-eq-default}
 use denote.Ref.{now}
 use borrow.Author.Needs.{needs}
-use Rattle.probability.proofs.chances.chance_at.Statement.{statement}
-use Rattle.probability.proofs.chances.chance_at.Tie as tie
+use Rattle.probability.proofs.probabilities.probability_at.Statement.{statement}
+use Rattle.probability.proofs.probabilities.probability_at.Tie as tie
 
 mul-at : tie.Need-mul-at
 mul-at c = search needs
@@ -22,8 +22,8 @@ returns : tie.Need-returns
 returns c = search needs
 
 returns-2 : tie.Need-returns-2
-returns-2 c = sym (List·getD-eq-default (now (c .before .args .chances)) 0 (c .if1 .left))
+returns-2 c = sym (List·getD-eq-default (now (c .before .args .probabilities)) 0 (c .if1 .left))
 
-pub chance-at-spec : {M : Type 1} → statement M
-chance-at-spec =
+pub probability-at-spec : {M : Type 1} → statement M
+probability-at-spec =
     tie.close (tie.spec mul-at add-at mul-result shared-slice-read-result returns returns-2)

@@ -1,0 +1,27 @@
+-- `probability::totals::counted_bit` meets its contract: the lowest bit is the remainder by two.
+use Prim.Native.Nat.{_/_, _^_}
+use mathlib.Core.Path.{_∙_}
+use lib.Bits.{and-mask}
+use Rattle.probability.proofs.Loaded.{bit-counted, bit-clear}
+use borrow.Author.Needs.{needs}
+use Rattle.probability.proofs.totals.counted_bit.Statement.{statement}
+use Rattle.probability.proofs.totals.counted_bit.Tie as tie
+
+cast-if1 : tie.Need-cast-if1
+cast-if1 c = search needs
+
+shr-if1 : tie.Need-shr-if1
+shr-if1 c = search needs
+
+returns : tie.Need-returns
+returns c =
+    let args = c .before .args in
+    bit-counted (args .class) (args .j) (args .bound) (rw (and-mask (args .class / 2 ^ args .j) 1) at (c .if1 .taken))
+
+returns-2 : tie.Need-returns-2
+returns-2 c =
+    let args = c .before .args in
+    bit-clear (args .class) (args .j) (args .bound) (λ e. c .if1 .left (and-mask (args .class / 2 ^ args .j) 1 ∙ e))
+
+pub counted-bit-spec : {M : Type 1} → statement M
+counted-bit-spec = tie.close (tie.spec cast-if1 shr-if1 returns returns-2)
