@@ -1,18 +1,17 @@
--- The exact chance of a set of joint states, component by component: the sum over the states of the first component of its chance times the
--- exact chance of what is left to the later ones.
+-- The exact probability of a set of joint states, component by component: the sum over the states of the first of its probability times the
+-- exact probability of what is left to the later ones.
 use Prim.Native.Nat.{ℕ, zero, suc, _+_, _*_}
-use mathlib.Core.Path.{_≡_, refl, ap, _∙_}
+use mathlib.Core.Path.{_≡_, refl, sym, ap, _∙_}
 use mathlib.Core.Bool.{Bool}
 use mathlib.Core.List.{List, [], _∷_}
 use native.Mathlib.Nat.{zero-add, add-zero}
 use native.Mathlib.Numerals.{add-one}
 use native.Mathlib.Omega.{arith}
+use lib.ListN.{getD}
 use Rattle.lists.specs.Counting.{sum, counted, sumOver}
-use Rattle.lists.proofs.SumOver.{counted-scaled, sum-over-append, sum-over-scaled, sum-over-map}
+use Rattle.lists.proofs.SumOver.{sum-over-those, counted-scaled, sum-over-append, sum-over-scaled, sum-over-map}
 use Rattle.joint_states.specs.JointStates.{divided, jointStates}
 use Rattle.paths.proofs.Ways.{headed}
-use Rattle.study.specs.declared.Component.{Component}
-use Rattle.probability.specs.Chances.{chance}
 use Rattle.probability.specs.Exact.{weight, exact}
 
 -- ---- rows of each state
@@ -42,26 +41,35 @@ module _ (marks : ℕ → ℕ) (rows : ℕ → List (List ℕ)) (f : List ℕ �
   unfolding sum
   sum-over-states n = omega (arith, sum-over-divided 0 n, ap (sum stateSum) (zero-add n))
 
+-- ---- every joint state in step, those concerned with their weight
+
+pub exact-terms : (rows : List (List ℕ)) (counts : List ℕ) (concerned : List ℕ → Bool)
+    → exact rows counts concerned ≡ sumOver (λ (x : List ℕ). counted (concerned x) (weight rows x)) (jointStates counts)
+unfolding exact
+exact-terms rows counts concerned = sum-over-those concerned (weight rows) (jointStates counts)
+
 -- ---- no component
 
-pub exact-last : (components : List Component) (concerned : List ℕ → Bool) → exact components [] concerned ≡ counted (concerned []) 1
-unfolding exact weight jointStates sumOver
-exact-last components concerned = add-zero (counted (concerned []) 1)
+pub exact-last : (rows : List (List ℕ)) (concerned : List ℕ → Bool) → exact rows [] concerned ≡ counted (concerned []) 1
+unfolding weight jointStates sumOver
+exact-last rows concerned = exact-terms rows [] concerned ∙ add-zero (counted (concerned []) 1)
 
 -- ---- the first component
 
-module _ (component : Component) (components : List Component) (c : ℕ) (cs : List ℕ) (concerned : List ℕ → Bool) where
-  -- the exact chance of what is concerned once the first component has state s
+module _ (row : List ℕ) (rows : List (List ℕ)) (c : ℕ) (cs : List ℕ) (concerned : List ℕ → Bool) where
+  -- the exact probability of what is concerned once the first component has state s
   abbrev later : ℕ → ℕ
-  later s = exact components cs (λ (x : List ℕ). concerned (s ∷ x))
+  later s = exact rows cs (λ (x : List ℕ). concerned (s ∷ x))
 
-  pub exact-first : exact (component ∷ components) (c ∷ cs) concerned ≡ sum (λ (s : ℕ). chance component s * later s) c
-  unfolding exact weight jointStates
+  pub exact-first : exact (row ∷ rows) (c ∷ cs) concerned ≡ sum (λ (s : ℕ). getD row s 0 * later s) c
+  unfolding weight jointStates
   exact-first =
-      sum-over-states (λ (s : ℕ). s) (λ (s : ℕ). jointStates cs) (λ (x : List ℕ). counted (concerned x) (weight (component ∷ components) x)) c
+      exact-terms (row ∷ rows) (c ∷ cs) concerned
+      ∙ sum-over-states (λ (s : ℕ). s) (λ (s : ℕ). jointStates cs) (λ (x : List ℕ). counted (concerned x) (weight (row ∷ rows) x)) c
       ∙ (λ i. sum (λ (s : ℕ). state s i) c)
     where
-      state : (s : ℕ) → sumOver (λ (x : List ℕ). counted (concerned (s ∷ x)) (chance component s * weight components x)) (jointStates cs) ≡ chance component s * later s
+      state : (s : ℕ) → sumOver (λ (x : List ℕ). counted (concerned (s ∷ x)) (getD row s 0 * weight rows x)) (jointStates cs) ≡ getD row s 0 * later s
       state s =
-          (λ i. sumOver (λ (x : List ℕ). counted-scaled (concerned (s ∷ x)) (chance component s) (weight components x) i) (jointStates cs))
-          ∙ sum-over-scaled (chance component s) (λ (x : List ℕ). counted (concerned (s ∷ x)) (weight components x)) (jointStates cs)
+          (λ i. sumOver (λ (x : List ℕ). counted-scaled (concerned (s ∷ x)) (getD row s 0) (weight rows x) i) (jointStates cs))
+          ∙ sum-over-scaled (getD row s 0) (λ (x : List ℕ). counted (concerned (s ∷ x)) (weight rows x)) (jointStates cs)
+          ∙ ap (λ (n : ℕ). getD row s 0 * n) (sym (exact-terms rows cs (λ (x : List ℕ). concerned (s ∷ x))))

@@ -1,6 +1,6 @@
-pub mod Chanced
 pub mod Exact
 pub mod Factors
 pub mod Marks
 pub mod PathBounds
+pub mod Sums
 pub mod Totals

@@ -1,5 +1,5 @@
 -- The bounds of a path enclose the product of its factors: by induction over the components. The first settled factor is exact, since one times
--- a chance is that chance; each further one rounds by less than a unit, and a blank one leaves the bounds as they are.
+-- a probability is that probability; each further one rounds by less than a unit, and a blank one leaves the bounds as they are.
 use Prim.Native.Nat.{ℕ, zero, suc, _+_, _-_, _*_, _^_, _<_, _≤_}
 use mathlib.Core.Path.{_≡_, refl, subst}
 use mathlib.Core.Bool.{Bool, true, false, not, cond}
@@ -18,13 +18,15 @@ use Rattle.units.proofs.Rounding.{up-most, down-exact, up-exact}
 use Rattle.units.proofs.Within.{within-one, within-first, within-expanded, within-product}
 use Rattle.entries.specs.Entries.{blankMark}
 use Rattle.paths.specs.Paths.{paths}
-use Rattle.study.specs.declared.Component.{Component}
-use Rattle.study.specs.Zero.{zeroComponent}
+use Rattle.lists.specs.Rows.{joined}
+use Rattle.rules.specs.Limits.{mostStates}
+use Rattle.model.specs.Good.{Counted, StateProbabilities}
+use Rattle.model.specs.Model.{classesOf, pathsOf, probabilityTable}
+use Rattle.model.proofs.Classes.{good-block}
+use Rattle.model.proofs.Table.{whole-most, table-place}
 use Rattle.probability.specs.Bounds.{factored, pathBound}
-use Rattle.probability.specs.Chances.{chance, chanceTable, chanceAt}
-use Rattle.probability.proofs.TableChance.{table-chance}
-use Rattle.accuracy.specs.Accuracy.{Chanced, settledCount, PathWithin}
-use Rattle.accuracy.proofs.Chanced.{chance-most}
+use Rattle.probability.specs.Probabilities.{probabilityAt}
+use Rattle.accuracy.specs.Accuracy.{settledCount, PathWithin}
 use Rattle.accuracy.proofs.Factors.{factor, factors, exact-fitting}
 use Rattle.accuracy.proofs.Marks.{Marked, paths-marked}
 
@@ -71,30 +73,33 @@ module _ {lower upper settled x w : ℕ} (bounded : Bounded lower upper settled 
         first-upper = bounded .first-upper;
       })
 
-  -- one more component: blank, or settled in a state of chance p, which the table holds
+  -- one more component: blank, or settled in a state of probability p, which the table holds
   bounded-more : (blank : Bool) (held p : ℕ) → (blank ≡ false → held ≡ p) → (blank ≡ false → p ≤ one)
       → Bounded (cond blank lower (scale down lower held)) (cond blank upper (scale up upper held)) (settled + truth (not blank)) (x * cond blank one p) (w * one)
   bounded-more true held p same h = bounded-blank
   bounded-more false held p same h = rw (same refl) (bounded-settled p (h refl))
 
-module _ (counts : List ℕ) (components : List Component) (entry : List ℕ) (chanced : Chanced counts components) (marked : Marked counts entry) where
+module _ (counts : List ℕ) (rows : List (List ℕ)) (entry : List ℕ) (few : Counted counts) (known : StateProbabilities counts rows)
+    (marked : Marked counts entry) where
   path-bounded : (i : ℕ) → i ≤ length counts
-      → Bounded (pathBound down (chanceTable components) i entry) (pathBound up (chanceTable components) i entry) (settledCount i entry)
-      (factors (factor components entry) i) (one ^ i)
+      → Bounded (pathBound down (joined rows) i entry) (pathBound up (joined rows) i entry) (settledCount i entry)
+      (factors (factor rows entry) i) (one ^ i)
   unfolding pathBound factored settledCount countTrue sum factors
   path-bounded zero h = bounded-start
   path-bounded (suc i) h =
       rw (pow-suc one i)
-      (bounded-more (path-bounded i (omega arith)) (eqb (getD entry i blankMark) blankMark) (chanceAt (chanceTable components) i (getD entry i blankMark))
-      (chance (getD components i zeroComponent) (getD entry i blankMark))
-      (λ settled. table-chance components i (getD entry i blankMark) (omega (arith, chanced .long)) (omega (arith, state settled, chanced .most i h)))
-      (λ settled. chance-most chanced i (getD entry i blankMark) h (state settled)))
+      (bounded-more (path-bounded i (omega arith)) (eqb (getD entry i blankMark) blankMark) (probabilityAt (joined rows) i (getD entry i blankMark))
+      (getD (getD rows i []) (getD entry i blankMark) 0)
+      (λ settled. table-place known i (getD entry i blankMark) h (omega (arith, state settled, few .most i h)))
+      (λ settled. whole-most (known .whole i h) (getD entry i blankMark)))
     where
       state : eqb (getD entry i blankMark) blankMark ≡ false → getD entry i blankMark < getD counts i 0
       state settled = marked .below i h (eqb-false (getD entry i blankMark) blankMark settled)
 
 pub path-within : PathWithin
-path-within counts block components b chanced i h =
-    let entry = getD (paths counts block) i [] in
-    let marked = paths-marked counts block b i h in
-    rw (exact-fitting counts components entry chanced marked) (path-bounded counts components entry chanced marked (length counts) (omega arith) .within)
+unfolding pathsOf probabilityTable
+path-within m good i h =
+    let entry = getD (pathsOf m) i [] in
+    let marked = paths-marked (m .counts) (classesOf m) (good-block m good) i h in
+    rw (exact-fitting (m .counts) (m .probabilities) entry (good .probabilities) marked)
+    (path-bounded (m .counts) (m .probabilities) entry (good .counts) (good .probabilities) marked (length (m .counts)) (omega arith) .within)

@@ -1,39 +1,39 @@
--- Sums over the paths whose class is counted enclose the exact chance of the joint states whose class is: each joint state fits one path only, which
--- bears its class, so the exact chance is the sum of those of the paths that are counted, and each of them is enclosed.
+-- Sums over those paths whose class is kept enclose the exact probability of the joint states whose class is: each joint state fits one path only,
+-- which bears its class, so the exact probability is the sum of those of the paths that are kept, and each of them is enclosed.
 use Prim.Native.Nat.{ℕ, suc, _+_, _^_}
 use mathlib.Core.Path.{_≡_, refl, sym, ap, subst, _∙_}
-use mathlib.Core.Bool.{Bool, true, false, cond}
+use mathlib.Core.Bool.{Bool, true, false}
 use mathlib.Core.List.{List, [], _∷_}
-use native.Mathlib.Nat.{zero-add, add-zero}
+use native.Mathlib.Nat.{add-zero}
 use native.Mathlib.Omega.{arith}
 use lib.ListN.{length, getD}
-use Rattle.lists.specs.Counting.{counted, sumOver}
+use Rattle.lists.specs.Counting.{counted, those, sumOver}
 use Rattle.lists.proofs.Elements.{Every}
-use Rattle.lists.proofs.SumOver.{sum-over-alike, sum-over-counted, sum-over-swapped}
+use Rattle.lists.proofs.SumOver.{sum-over-alike, sum-over-counted, sum-over-swapped, sum-over-those}
 use Rattle.units.specs.One.{one}
 use Rattle.units.specs.Rounding.{down, up}
 use Rattle.units.specs.Within.{Within}
 use Rattle.units.proofs.Within.{within-none, within-sum, within-cap}
 use Rattle.joint_states.specs.JointStates.{JointState, jointStates}
 use Rattle.joint_states.proofs.Numbered.{with-number, length-jointStates, numbered}
-use Rattle.paths.specs.Blocks.{Block, classAt}
-use Rattle.paths.specs.Paths.{paths}
-use Rattle.paths.specs.Words.{fits, fitting}
 use Rattle.entries.specs.Entries.{classBorne}
-use Rattle.paths.proofs.OnePath.{one-path-each}
-use Rattle.study.specs.declared.Component.{Component}
+use Rattle.paths.specs.Words.{fits, fitting}
+use Rattle.model.specs.Good.{Good}
+use Rattle.model.specs.Model.{Model, components, pathsOf, probabilityTable}
+use Rattle.model.proofs.Paths.{one-path}
 use Rattle.probability.specs.Bounds.{total, pathBound}
-use Rattle.probability.specs.Chances.{chanceTable}
 use Rattle.probability.specs.Exact.{weight, exact}
-use Rattle.accuracy.specs.Accuracy.{pathDistance, totalDistance, TotalWithin}
-use Rattle.accuracy.proofs.Chanced.{exact-most}
+use Rattle.probability.proofs.TotalTerms.{total-terms}
+use Rattle.accuracy.specs.Accuracy.{exactOf, pathDistance, totalDistance, TotalWithin}
+use Rattle.accuracy.proofs.Exact.{exact-terms}
 use Rattle.accuracy.proofs.PathBounds.{path-within}
+use Rattle.accuracy.proofs.Sums.{exact-most}
 
 -- ---- enclosed terms have enclosed sums
 
-within-kept : (b : Bool) {lower upper far x w : ℕ} → Within lower upper far x w → Within (counted b lower) (counted b upper) (counted b far) (counted b x) w
-within-kept true within = within
-within-kept false {w = w} within = within-none w
+within-counted : (b : Bool) {lower upper far x w : ℕ} → Within lower upper far x w → Within (counted b lower) (counted b upper) (counted b far) (counted b x) w
+within-counted true within = within
+within-counted false {w = w} within = within-none w
 
 within-sums : {A : Type 0} (lower upper far x : A → ℕ) (w : ℕ) (d : A) (l : List A) → Every (λ (a : A). Within (lower a) (upper a) (far a) (x a) w) d l
     → Within (sumOver lower l) (sumOver upper l) (sumOver far l) (sumOver x l) w
@@ -44,62 +44,68 @@ within-sums lower upper far x w d (a ∷ l) each =
 
 -- ---- each joint state is counted with the one path that it fits
 
--- the entries that x fits, and no others
-sum-fitting : (f : List ℕ → ℕ) (x : List ℕ) (entries : List (List ℕ)) → sumOver (λ (entry : List ℕ). counted (fits x entry) (f entry)) entries ≡ sumOver f (fitting x entries)
-unfolding sumOver fitting
-sum-fitting f x [] = refl
-sum-fitting f x (entry ∷ entries) = rw (sum-fitting f x entries) (go (fits x entry))
-  where
-    go : (b : Bool) → counted b (f entry) + sumOver f (fitting x entries) ≡ sumOver f (cond b (entry ∷ fitting x entries) (fitting x entries))
-    go true = refl
-    go false = zero-add (sumOver f (fitting x entries))
-
 -- what the list of all joint states holds
-pub all-joint : (counts : List ℕ) → Every (JointState counts) [] (jointStates counts)
+all-joint : (counts : List ℕ) → Every (JointState counts) [] (jointStates counts)
 all-joint counts k h =
     let w = with-number counts k (rw (length-jointStates counts) at h) in
     let place = sym (numbered counts (w .joint) (w .is-joint)) ∙ ap (λ (n : ℕ). getD (jointStates counts) n []) (w .number) in
     subst (JointState counts) place (w .is-joint)
 
-module _ (counts block : List ℕ) (components : List Component) (b : Block counts block) (keep : ℕ → Bool) where
-  -- the weight of joint state x where it fits an entry whose class is counted
-  abbrev fittingWeight : List ℕ → List ℕ → ℕ
-  fittingWeight x entry = counted (fits x entry) (counted (keep (classBorne (length counts) entry)) (weight components x))
+module _ (m : Model) (good : Good m) (keep : ℕ → Bool) where
+  abbrev kept : List ℕ → Bool
+  kept entry = keep (classBorne (components m) entry)
 
-  joint-weight : (x : List ℕ) → JointState counts x → counted (keep (classAt counts block x)) (weight components x) ≡ sumOver (fittingWeight x) (paths counts block)
+  -- the weight of joint state x where it fits an entry whose class is kept
+  abbrev fittingWeight : List ℕ → List ℕ → ℕ
+  fittingWeight x entry = counted (fits x entry) (counted (kept entry) (weight (m .probabilities) x))
+
+  joint-weight : (x : List ℕ) → JointState (m .counts) x → counted (keep (m .class x)) (weight (m .probabilities) x) ≡ sumOver (fittingWeight x) (pathsOf m)
   unfolding sumOver
   joint-weight x j =
-      let fit = one-path-each counts block b x j in
-      let f : List ℕ → ℕ = λ entry. counted (keep (classBorne (length counts) entry)) (weight components x) in
+      let fit = one-path m good x j in
+      let f : List ℕ → ℕ = λ entry. counted (kept entry) (weight (m .probabilities) x) in
       sym
-      (sum-fitting f x (paths counts block)
+      (sym (sum-over-those (fits x) f (pathsOf m))
       ∙ ap (sumOver f) (fit .only)
       ∙ add-zero (f (fit .path))
-      ∙ ap (λ (class : ℕ). counted (keep class) (weight components x)) (fit .bears))
+      ∙ ap (λ (class : ℕ). counted (keep class) (weight (m .probabilities) x)) (fit .bears))
 
-  exact-kept : exact components counts (λ (x : List ℕ). keep (classAt counts block x))
-      ≡ sumOver (λ (entry : List ℕ). counted (keep (classBorne (length counts) entry)) (exact components counts (λ (x : List ℕ). fits x entry))) (paths counts block)
-  unfolding exact
+  exact-kept : exactOf m (λ (x : List ℕ). keep (m .class x))
+      ≡ sumOver (λ (entry : List ℕ). counted (kept entry) (exactOf m (λ (x : List ℕ). fits x entry))) (pathsOf m)
   exact-kept =
-      sum-over-alike (λ (x : List ℕ). counted (keep (classAt counts block x)) (weight components x)) (λ (x : List ℕ). sumOver (fittingWeight x) (paths counts block)) []
-      (jointStates counts) (λ i h. joint-weight (getD (jointStates counts) i []) (all-joint counts i h))
-      ∙ sum-over-swapped fittingWeight (jointStates counts) (paths counts block)
-      ∙ (λ i.
-      sumOver
-      (λ (entry : List ℕ).
-      sum-over-counted (keep (classBorne (length counts) entry)) (λ (x : List ℕ). fits x entry) (weight components) (jointStates counts) i)
-      (paths counts block))
+      exact-terms (m .probabilities) (m .counts) (λ (x : List ℕ). keep (m .class x))
+      ∙ sum-over-alike (λ (x : List ℕ). counted (keep (m .class x)) (weight (m .probabilities) x)) (λ (x : List ℕ). sumOver (fittingWeight x) (pathsOf m)) []
+      (jointStates (m .counts)) (λ i h. joint-weight (getD (jointStates (m .counts)) i []) (all-joint (m .counts) i h))
+      ∙ sum-over-swapped fittingWeight (jointStates (m .counts)) (pathsOf m)
+      ∙ (λ i. sumOver (λ (entry : List ℕ). fitting-weights entry i) (pathsOf m))
+    where
+      fitting-weights : (entry : List ℕ) → sumOver (λ (x : List ℕ). fittingWeight x entry) (jointStates (m .counts))
+          ≡ counted (kept entry) (exactOf m (λ (x : List ℕ). fits x entry))
+      fitting-weights entry =
+          sum-over-counted (kept entry) (λ (x : List ℕ). fits x entry) (weight (m .probabilities)) (jointStates (m .counts))
+          ∙ ap (counted (kept entry)) (sym (exact-terms (m .probabilities) (m .counts) (λ (x : List ℕ). fits x entry)))
+
+  -- the distance of the paths that are kept
+  distance-terms : totalDistance (components m) keep (pathsOf m) ≡ sumOver (λ (entry : List ℕ). counted (kept entry) (pathDistance (components m) entry)) (pathsOf m)
+  unfolding totalDistance
+  distance-terms = sum-over-those kept (pathDistance (components m)) (pathsOf m)
 
 pub total-within : TotalWithin
-unfolding total totalDistance
-total-within counts block components b chanced keep =
-    let n = length counts in
-    let entries = paths counts block in
-    let table = chanceTable components in
+total-within m good keep =
+    let n = components m in
+    let entries = pathsOf m in
+    let table = probabilityTable m in
     let terms =
     within-sums (λ (entry : List ℕ). counted (keep (classBorne n entry)) (pathBound down table n entry))
     (λ (entry : List ℕ). counted (keep (classBorne n entry)) (pathBound up table n entry))
     (λ (entry : List ℕ). counted (keep (classBorne n entry)) (pathDistance n entry))
-    (λ (entry : List ℕ). counted (keep (classBorne n entry)) (exact components counts (λ (x : List ℕ). fits x entry)))
-    (one ^ n) [] entries (λ i h. within-kept (keep (classBorne n (getD entries i []))) (path-within counts block components b chanced i h)) in
-    within-cap (rw (sym (exact-kept counts block components b keep)) at terms) (exact-most counts components chanced (λ (x : List ℕ). keep (classAt counts block x)))
+    (λ (entry : List ℕ). counted (keep (classBorne n entry)) (exactOf m (λ (x : List ℕ). fits x entry)))
+    (one ^ n) [] entries (λ i h. within-counted (keep (classBorne n (getD entries i []))) (path-within m good i h)) in
+    within-cap
+    (rw (
+      sym (total-terms down table n keep entries),
+      sym (total-terms up table n keep entries),
+      sym (distance-terms m good keep),
+      sym (exact-kept m good keep),
+    ) at terms)
+    (exact-most (m .counts) (m .probabilities) (good .probabilities) (λ (x : List ℕ). keep (m .class x)))

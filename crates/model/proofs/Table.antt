@@ -14,7 +14,7 @@ use Rattle.lists.proofs.Rows.{row-place}
 use Rattle.lists.proofs.SumBelow.{term-most}
 use Rattle.units.specs.One.{one}
 use Rattle.rules.specs.Limits.{mostStates}
-use Rattle.model.specs.Good.{Whole, Chanced, Good}
+use Rattle.model.specs.Good.{Whole, StateProbabilities, Good}
 use Rattle.model.specs.Model.{Model, components, probabilityTable}
 
 -- no state of a component is above one
@@ -25,12 +25,12 @@ whole-most {states} {row} whole s = go (ltb s states) refl
     go true has = rw (whole .sums) at (term-most (λ (s : ℕ). getD row s 0) states s (ltb-true s states has))
     go false lacks = omega (arith, whole .lacking s (ltb-false s states lacks))
 
-module _ {counts : List ℕ} {rows : List (List ℕ)} (chanced : Chanced counts rows) where
+module _ {counts : List ℕ} {rows : List (List ℕ)} (known : StateProbabilities counts rows) where
   pub rows-wide : Every (λ (row : List ℕ). length row ≡ mostStates) [] rows
-  rows-wide k h = chanced .whole k (omega (arith, h, chanced .rows)) .places
+  rows-wide k h = known .whole k (omega (arith, h, known .rows)) .places
 
   pub table-place : (k s : ℕ) → k < length counts → s < mostStates → getD (joined rows) (k * mostStates + s) 0 ≡ getD (getD rows k []) s 0
-  table-place k s h less = row-place mostStates rows k s rows-wide (omega (arith, h, chanced .rows)) less
+  table-place k s h less = row-place mostStates rows k s rows-wide (omega (arith, h, known .rows)) less
 
 module _ (m : Model) (good : Good m) where
   pub table-long : length (probabilityTable m) ≡ components m * mostStates

@@ -25,7 +25,7 @@ pub record Counted (counts : List ℕ) : Type 0 where
   pub joint : product counts ≤ mostJointStates
 
 -- a row of probabilities for each component
-pub record Chanced (counts : List ℕ) (probabilities : List (List ℕ)) : Type 0 where
+pub record StateProbabilities (counts : List ℕ) (probabilities : List (List ℕ)) : Type 0 where
   pub rows : length probabilities ≡ length counts
   pub whole : (k : ℕ) → k < length counts → Whole (getD counts k 0) (getD probabilities k [])
 
@@ -37,5 +37,5 @@ pub record Sizes (loads : List Load) : Type 0 where
 
 pub record Good (m : Model) : Type 0 where
   pub counts : Counted (m .counts)
-  pub probabilities : Chanced (m .counts) (m .probabilities)
+  pub probabilities : StateProbabilities (m .counts) (m .probabilities)
   pub loads : Sizes (m .loads)
