@@ -15,16 +15,16 @@ use Rattle.rules.specs.Table.{sizeFault}
 use Rattle.rules.proofs.Kept.{list-kept}
 use Rattle.study.specs.declared.Component.{Component}
 use Rattle.study.specs.declared.Load.{Load}
-use Rattle.study.specs.declared.Outcome.the-variants.{Done, Refused}
+use Rattle.answers.specs.declared.outcome.Outcome.the-variants.{Done, Refused}
 use Rattle.study.specs.declared.Study.{Study}
-use Rattle.study.specs.declared.StudyAnswer.{StudyAnswer}
+use Rattle.answers.specs.declared.outcome.StudyAnswer.{StudyAnswer}
 use Rattle.study.specs.Edits.{withProbabilities, withCustomers, withMinutes, withComponent, withLoad}
 use Rattle.study.specs.Joint.{states, stateCounts}
 use Rattle.study.specs.Places.{componentAt, gateAt, loadAt}
 use Rattle.study.specs.Zero.{zeroComponent, zeroLoad}
 use Rattle.soundness.specs.Sound.{SoundComponent, SoundGate, SoundLoad, Sound}
 use Rattle.soundness.specs.Check.{probabilitiesFault}
-use Rattle.planning.specs.Answers.{refusalOf}
+use Rattle.answers.specs.Numbers.{refusalOf}
 use Rattle.editing.specs.Edits.{edited, componentEditFault, probabilitiesSet, loadEditFault, customersSet, minutesSet}
 use Rattle.soundness.proofs.Ranges.{components-most, loads-most}
 use Rattle.editing.proofs.Edited.{present, edited-done, edited-refused}

@@ -11,13 +11,13 @@ use borrow.Author.Tests.{eqb-true}
 use Rattle.units.specs.One.{one}
 use Rattle.rules.specs.Limits.{mostComponents}
 use Rattle.study.specs.declared.Study.{Study}
-use Rattle.indices.specs.declared.figures.Figures.{Figures as Triple}
+use Rattle.answers.specs.declared.figures.Figures.{Figures as Triple}
 use Rattle.indices.specs.Enclosed.{LossesEnclosed}
 use Rattle.indices.proofs.Enclosed.{saifi-encloses, saidi-encloses, caidi-encloses}
 use Rattle.soundness.specs.Sound.{Sound}
 use Rattle.soundness.proofs.Ranges.{loads-most}
-use Rattle.evaluation.specs.declared.three_figures.FiguresAnswer.the-variants.{Figures, Refused}
-use Rattle.planning.specs.Answers.{figuresRefusal}
+use Rattle.answers.specs.declared.figures.FiguresAnswer.the-variants.{Figures, Refused}
+use Rattle.answers.specs.Numbers.{figuresRefusal}
 use Rattle.evaluation.specs.Bounds.{componentsOf, lowerLoads, upperLoads}
 use Rattle.evaluation.specs.Figures.{studyFigures, figuresBy}
 use Rattle.planning.specs.Figures.{figuresFault, figuresGiven}

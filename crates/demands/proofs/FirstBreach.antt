@@ -23,7 +23,7 @@ use Rattle.opening.specs.Opening.{count, componentAfter, componentRecord, gateR
 use Rattle.study.specs.declared.Component.{Component}
 use Rattle.study.specs.declared.Gate.{Gate}
 use Rattle.study.specs.declared.Load.{Load}
-use Rattle.study.specs.declared.Outcome.the-variants.{Done, Refused}
+use Rattle.answers.specs.declared.outcome.Outcome.the-variants.{Done, Refused}
 use Rattle.study.specs.declared.Study.{Study}
 use Rattle.study.specs.Absent.{absentComponent, absentGate, absentLoad}
 use Rattle.study.specs.Inputs.{inputCount}

@@ -9,8 +9,8 @@ use lib.ListN.{length, getD}
 use borrow.Author.Tests.{eqb-true}
 use Rattle.lists.specs.Rows.{put, joined}
 use Rattle.lists.proofs.Fronts.{put-behind}
-use Rattle.evaluation.specs.declared.listing.Listing.the-variants.{Listed, Refused}
-use Rattle.planning.specs.Answers.{listRefusal}
+use Rattle.answers.specs.declared.counts.Listing.the-variants.{Listed, Refused}
+use Rattle.answers.specs.Numbers.{listRefusal}
 use Rattle.evaluation.specs.Listing.{pathList, listed, written}
 use Rattle.planning.specs.Listing.{listFault, pathsListed, bufferListed}
 use Rattle.evaluation.proofs.Listed.{written-refused}

@@ -24,8 +24,8 @@ use Rattle.soundness.specs.Sound.{Sound}
 use Rattle.soundness.proofs.Checked.{no-unsound}
 use Rattle.fault_tree.specs.Classes.{classOf, classes}
 use Rattle.fault_tree.proofs.Tables.{classes-long, class-at}
-use Rattle.evaluation.specs.declared.listing.Listing.the-variants.{Listed}
-use Rattle.planning.specs.Answers.{listRefusal}
+use Rattle.answers.specs.declared.counts.Listing.the-variants.{Listed}
+use Rattle.answers.specs.Numbers.{listRefusal}
 use Rattle.evaluation.specs.Listing.{pathList}
 use Rattle.planning.specs.Listing.{listFault, pathsListed, bufferListed}
 use Rattle.evaluation.proofs.Paged.{told}

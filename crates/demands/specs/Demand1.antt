@@ -6,13 +6,13 @@ use mathlib.Core.List.{List, [], _++_}
 use lib.ListN.{length, getD}
 use Rattle.lists.specs.Rows.{joined}
 use Rattle.rules.specs.Limits.{mostComponents, mostLoads}
-use Rattle.study.specs.declared.Outcome.the-variants.{Done, Refused}
+use Rattle.answers.specs.declared.outcome.Outcome.the-variants.{Done, Refused}
 use Rattle.study.specs.declared.Study.{Study}
 use Rattle.study.specs.Zero.{zeroStudy}
 use Rattle.opening.specs.Opening.{opened}
 use Rattle.soundness.specs.Sound.{Sound}
 use Rattle.soundness.specs.Check.{sound}
-use Rattle.planning.specs.Answers.{refusalOf, listRefusal, figuresRefusal}
+use Rattle.answers.specs.Numbers.{refusalOf, listRefusal, figuresRefusal}
 use Rattle.planning.specs.Figures.{figuresFault, figuresGiven}
 use Rattle.evaluation.specs.Listing.{pathList}
 use Rattle.planning.specs.Listing.{listFault, pathsListed, bufferListed}

@@ -14,7 +14,7 @@ use Rattle.soundness.specs.Sound.{Sound}
 use Rattle.fault_tree.specs.Classes.{classOf}
 use Rattle.evaluation.specs.Listing.{pathList}
 use Rattle.planning.specs.Listing.{pathsListed, bufferListed}
-use Rattle.evaluation.specs.declared.listing.Listing.the-variants.{Listed}
+use Rattle.answers.specs.declared.counts.Listing.the-variants.{Listed}
 
 -- "loses": bit j of the joint state's class stands
 abbrev pub loses : Study → List ℕ → ℕ → Bool

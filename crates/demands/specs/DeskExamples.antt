@@ -15,16 +15,16 @@ use Rattle.rules.specs.Table.{customersFault}
 use Rattle.study.specs.declared.Component.{Component}
 use Rattle.study.specs.declared.Gate.{Gate}
 use Rattle.study.specs.declared.Load.{Load}
-use Rattle.study.specs.declared.Outcome.the-variants.{Done}
+use Rattle.answers.specs.declared.outcome.Outcome.the-variants.{Done}
 use Rattle.study.specs.declared.Study.{Study}
-use Rattle.study.specs.declared.StudyAnswer.{StudyAnswer}
+use Rattle.answers.specs.declared.outcome.StudyAnswer.{StudyAnswer}
 use Rattle.study.specs.Zero.{zeroComponent, zeroGate, zeroLoad}
 use Rattle.opening.specs.Opening.{opened, refusedOpening}
-use Rattle.indices.specs.declared.figures.Caidi.{Caidi}
-use Rattle.indices.specs.declared.figures.Caidi.the-variants.{Bounds, NotStated}
-use Rattle.indices.specs.declared.figures.Enclosure.{Enclosure}
-use Rattle.evaluation.specs.declared.three_figures.FiguresAnswer.{FiguresAnswer}
-use Rattle.evaluation.specs.declared.three_figures.FiguresAnswer.the-variants.{Figures, Refused}
+use Rattle.answers.specs.declared.figures.Caidi.{Caidi}
+use Rattle.answers.specs.declared.figures.Caidi.the-variants.{Bounds, NotStated}
+use Rattle.answers.specs.declared.bounds.Enclosure.{Enclosure}
+use Rattle.answers.specs.declared.figures.FiguresAnswer.{FiguresAnswer}
+use Rattle.answers.specs.declared.figures.FiguresAnswer.the-variants.{Figures, Refused}
 use Rattle.evaluation.specs.Figures.{customersOf, studyFigures, figuresBy}
 use Rattle.evaluation.specs.Listing.{pathList}
 use Rattle.evaluation.specs.Bounds.{lowerBounds, upperBounds, lowerOf, upperOf}

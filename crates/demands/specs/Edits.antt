@@ -7,7 +7,7 @@ use Rattle.rules.specs.Limits.{mostCustomers, mostMinutes}
 use Rattle.study.specs.declared.Component.{Component}
 use Rattle.study.specs.declared.Load.{Load}
 use Rattle.study.specs.declared.Study.{Study}
-use Rattle.study.specs.declared.StudyAnswer.{StudyAnswer}
+use Rattle.answers.specs.declared.outcome.StudyAnswer.{StudyAnswer}
 use Rattle.study.specs.Edits.{withProbabilities, withCustomers, withMinutes}
 use Rattle.study.specs.Places.{componentAt, loadAt}
 use Rattle.editing.specs.Edits.{componentEditFault, probabilitiesSet, loadEditFault, customersSet, minutesSet}

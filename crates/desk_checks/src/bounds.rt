@@ -8,7 +8,7 @@ use desk_tools::places::show_touched;
 use desk_tools::places::untouched_places;
 use planning::LoadBounded;
 use planning::PathsBounded;
-use study::Outcome;
+use answers::Outcome;
 use study::Study;
 ghost use Prim.Native.Nat.{_≤_};
 ghost use lib.ListN.{length};

@@ -38,9 +38,9 @@ use desk_tools::hexadecimal::number_at;
 use desk_tools::hexadecimal::size_at;
 use desk_tools::numbers;
 use desk_tools::show::show;
-use study::Outcome;
+use answers::Outcome;
 use study::Study;
-use study::StudyAnswer;
+use answers::StudyAnswer;
 ghost use Rattle.io.specs.Counts.{Counts};
 
 // The number by which a call was refused, and 0 for one that was done.

@@ -7,8 +7,8 @@ use Rattle.rules.specs.Breach.{firstBreach}
 use Rattle.rules.specs.Limits.{mostCustomers, mostMinutes}
 use Rattle.rules.specs.Table.{unsoundFault, itemFault, sizeFault}
 use Rattle.study.specs.declared.Study.{Study}
-use Rattle.study.specs.declared.Outcome.the-variants.{Done, Refused}
-use Rattle.study.specs.declared.StudyAnswer.{StudyAnswer}
+use Rattle.answers.specs.declared.outcome.Outcome.the-variants.{Done, Refused}
+use Rattle.answers.specs.declared.outcome.StudyAnswer.{StudyAnswer}
 use Rattle.study.specs.Edits.{withProbabilities, withCustomers, withMinutes, withComponent, withLoad}
 use Rattle.study.specs.Places.{componentAt, loadAt}
 use Rattle.soundness.specs.Check.{sound, probabilitiesFault}

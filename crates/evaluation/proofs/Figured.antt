@@ -10,11 +10,11 @@ use Rattle.rules.specs.Table.{customersFault}
 use Rattle.rules.proofs.Kept.{refuse-kept}
 use Rattle.study.specs.declared.Study.{Study}
 use Rattle.study.specs.Places.{loadAt}
-use Rattle.indices.specs.declared.figures.Figures.{Figures as Triple}
+use Rattle.answers.specs.declared.figures.Figures.{Figures as Triple}
 use Rattle.indices.specs.Figures.{figuresOf}
 use Rattle.indices.specs.Reading.{Sizes}
 use Rattle.soundness.specs.Sound.{Sound}
-use Rattle.evaluation.specs.declared.three_figures.FiguresAnswer.the-variants.{Figures, Refused}
+use Rattle.answers.specs.declared.figures.FiguresAnswer.the-variants.{Figures, Refused}
 use Rattle.evaluation.specs.Bounds.{lowerLoads, upperLoads}
 use Rattle.evaluation.specs.Figures.{customersOf, studyFigures, figuresBy}
 

@@ -22,7 +22,7 @@ use Rattle.soundness.specs.Sound.{Sound}
 use Rattle.soundness.proofs.Ranges.{counts-few, count-least, count-most}
 use Rattle.fault_tree.specs.Classes.{classes}
 use Rattle.fault_tree.proofs.Tables.{classes-long}
-use Rattle.evaluation.specs.declared.listing.Listing.the-variants.{Listed, Refused}
+use Rattle.answers.specs.declared.counts.Listing.the-variants.{Listed, Refused}
 use Rattle.evaluation.specs.Listing.{listed, written}
 
 -- the classes of a sound study are a block

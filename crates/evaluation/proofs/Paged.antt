@@ -24,9 +24,9 @@ use Rattle.study.specs.Joint.{stateCounts}
 use Rattle.soundness.specs.Sound.{Sound}
 use Rattle.soundness.proofs.Ranges.{components-most, counts-few, joint-most}
 use Rattle.fault_tree.specs.Classes.{classes}
-use Rattle.event_tree.specs.declared.count.PathCount.{PathCount}
-use Rattle.evaluation.specs.declared.listing.Listing.{Listing}
-use Rattle.evaluation.specs.declared.listing.Listing.the-variants.{Listed, Refused}
+use Rattle.answers.specs.declared.counts.PathCount.{PathCount}
+use Rattle.answers.specs.declared.counts.Listing.{Listing}
+use Rattle.answers.specs.declared.counts.Listing.the-variants.{Listed, Refused}
 use Rattle.evaluation.specs.Listing.{pathList, listed, written}
 use Rattle.evaluation.specs.Page.{pageBytes, Paged}
 use Rattle.evaluation.proofs.Listed.{study-block, list-need, need-most, listed-done, written-done}

@@ -3,10 +3,10 @@ use Prim.Native.Nat.{ℕ}
 use mathlib.Core.Bool.{cond}
 use lib.Dec.{eqb}
 use Rattle.study.specs.declared.Study.{Study}
-use Rattle.indices.specs.declared.figures.Figures.{Figures as Triple}
+use Rattle.answers.specs.declared.figures.Figures.{Figures as Triple}
 use Rattle.indices.specs.Figures.{customersSum, figuresOf}
-use Rattle.evaluation.specs.declared.three_figures.FiguresAnswer.{FiguresAnswer}
-use Rattle.evaluation.specs.declared.three_figures.FiguresAnswer.the-variants.{Figures, Refused}
+use Rattle.answers.specs.declared.figures.FiguresAnswer.{FiguresAnswer}
+use Rattle.answers.specs.declared.figures.FiguresAnswer.the-variants.{Figures, Refused}
 use Rattle.evaluation.specs.Bounds.{lowerLoads, upperLoads}
 
 -- the customers of all loads of a study

@@ -9,8 +9,8 @@ use Rattle.paths.specs.Paths.{paths}
 use Rattle.study.specs.declared.Study.{Study}
 use Rattle.study.specs.Joint.{stateCounts}
 use Rattle.fault_tree.specs.Classes.{classes}
-use Rattle.evaluation.specs.declared.listing.Listing.{Listing}
-use Rattle.evaluation.specs.declared.listing.Listing.the-variants.{Listed, Refused}
+use Rattle.answers.specs.declared.counts.Listing.{Listing}
+use Rattle.answers.specs.declared.counts.Listing.the-variants.{Listed, Refused}
 
 -- the paths of a study, an entry each
 unfoldable pub pathList : Study → List (List ℕ)

@@ -1,5 +1,5 @@
 // The list of a sound study's paths, in a lent buffer.
-use event_tree::PathCount;
+use answers::PathCount;
 use event_tree::count_paths;
 use fault_tree::class_table;
 use rules::room_fault;

@@ -1,6 +1,6 @@
 // The three figures of a study, from the bounds for its loads' losses.
 use crate::losses::Losses;
-use indices::Figures;
+use answers::Figures;
 use indices::customers_sum;
 use indices::figures_of;
 use rules::customers_fault;

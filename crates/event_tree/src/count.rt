@@ -1,6 +1,7 @@
 // How many paths a block has.
 use crate::blank::part;
 use crate::blank::ways_at;
+use answers::PathCount;
 use entries::Class;
 ghost use Prim.Native.Nat.{_≤_};
 ghost use mathlib.Core.Path.{_≡_};
@@ -8,11 +9,6 @@ ghost use lib.ListN.{length};
 ghost use Rattle.rules.specs.Limits.{mostJointStates};
 ghost use Rattle.paths.specs.Blocks.{Block};
 ghost use Rattle.paths.specs.Paths.{paths};
-
-// What is counted of a listing.
-pub struct PathCount {
-    pub paths: u32,
-}
 
 // The number of paths of a block, before any of them is written.
 pub fn count_paths(counts: &[u8], block: &[Class]) -> PathCount

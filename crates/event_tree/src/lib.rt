@@ -5,6 +5,5 @@ mod count;
 mod list;
 mod marks;
 
-pub use count::PathCount;
 pub use count::count_paths;
 pub use list::list_paths;

@@ -9,9 +9,9 @@ use Rattle.rules.specs.Table.{unsoundFault, roomFault}
 use Rattle.rules.proofs.Kept.{Neither, first-last, first-some, first-next, list-kept}
 use Rattle.study.specs.declared.Study.{Study}
 use Rattle.soundness.specs.Check.{sound}
-use Rattle.indices.specs.declared.figures.Caidi.{Caidi}
-use Rattle.indices.specs.declared.figures.Caidi.the-variants.{Bounds, NotStated}
-use Rattle.evaluation.specs.declared.three_figures.FiguresAnswer.the-variants.{Refused}
+use Rattle.answers.specs.declared.figures.Caidi.{Caidi}
+use Rattle.answers.specs.declared.figures.Caidi.the-variants.{Bounds, NotStated}
+use Rattle.answers.specs.declared.figures.FiguresAnswer.the-variants.{Refused}
 use Rattle.evaluation.proofs.Figured.{figures-refused}
 use Rattle.evaluation.proofs.Listed.{room-kept}
 use Rattle.planning.specs.Figures.{figuresGiven}

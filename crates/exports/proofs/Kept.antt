@@ -13,13 +13,13 @@ use Rattle.rules.specs.Breach.{refuse, first, firstBreach, outside}
 use Rattle.rules.specs.Table.{unsoundFault, roomFault}
 use Rattle.rules.proofs.Kept.{first-last, first-some, first-next, list-kept}
 use Rattle.study.specs.declared.Study.{Study}
-use Rattle.study.specs.declared.StudyAnswer.{StudyAnswer}
+use Rattle.answers.specs.declared.outcome.StudyAnswer.{StudyAnswer}
 use Rattle.study.specs.Zero.{zeroStudy}
 use Rattle.soundness.specs.Check.{frontFault, sound}
 use Rattle.study_image.specs.Places.{imageBytes}
 use Rattle.study_image.specs.Image.{studyIn}
 use Rattle.evaluation.proofs.Listed.{room-kept}
-use Rattle.planning.specs.Answers.{refusalOf}
+use Rattle.answers.specs.Numbers.{refusalOf}
 use Rattle.editing.specs.Edits.{edited}
 use Rattle.exports.specs.Images.{openFault, Keeps, Opens, Edits}
 

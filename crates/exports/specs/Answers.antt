@@ -1,8 +1,8 @@
 -- What a call answers in C: a count or 0, or the number of its refusal below 0.
 use Prim.Native.Nat.{ℕ}
 use lib.IntN.{ℤ, pos, negℤ}
-use Rattle.evaluation.specs.declared.listing.Listing.{Listing}
-use Rattle.evaluation.specs.declared.listing.Listing.the-variants.{Listed, Refused as NotListed}
+use Rattle.answers.specs.declared.counts.Listing.{Listing}
+use Rattle.answers.specs.declared.counts.Listing.the-variants.{Listed, Refused as NotListed}
 use Rattle.planning.specs.declared.bounds.PathsBounded.{PathsBounded}
 use Rattle.planning.specs.declared.bounds.PathsBounded.the-variants.{Bounded, Refused as NotBounded}
 use Rattle.planning.specs.declared.loads.LoadBounded.{LoadBounded}

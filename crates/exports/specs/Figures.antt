@@ -8,12 +8,12 @@ use Rattle.rules.specs.Breach.{firstBreach}
 use Rattle.rules.specs.Table.{unsoundFault, roomFault, customersFault}
 use Rattle.study.specs.declared.Study.{Study}
 use Rattle.soundness.specs.Check.{sound}
-use Rattle.indices.specs.declared.figures.Enclosure.{Enclosure}
-use Rattle.indices.specs.declared.figures.Caidi.{Caidi}
-use Rattle.indices.specs.declared.figures.Caidi.the-variants.{Bounds, NotStated}
-use Rattle.indices.specs.declared.figures.Figures.{Figures as Triple}
-use Rattle.evaluation.specs.declared.three_figures.FiguresAnswer.{FiguresAnswer}
-use Rattle.evaluation.specs.declared.three_figures.FiguresAnswer.the-variants.{Figures, Refused}
+use Rattle.answers.specs.declared.bounds.Enclosure.{Enclosure}
+use Rattle.answers.specs.declared.figures.Caidi.{Caidi}
+use Rattle.answers.specs.declared.figures.Caidi.the-variants.{Bounds, NotStated}
+use Rattle.answers.specs.declared.figures.Figures.{Figures as Triple}
+use Rattle.answers.specs.declared.figures.FiguresAnswer.{FiguresAnswer}
+use Rattle.answers.specs.declared.figures.FiguresAnswer.the-variants.{Figures, Refused}
 use Rattle.evaluation.specs.Figures.{customersOf, studyFigures, figuresBy}
 use Rattle.exports.specs.Answers.{below}
 

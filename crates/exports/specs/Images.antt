@@ -7,10 +7,10 @@ use lib.ListN.{length}
 use Rattle.rules.specs.Breach.{firstBreach}
 use Rattle.rules.specs.Table.{roomFault}
 use Rattle.study.specs.declared.Study.{Study}
-use Rattle.study.specs.declared.StudyAnswer.{StudyAnswer}
+use Rattle.answers.specs.declared.outcome.StudyAnswer.{StudyAnswer}
 use Rattle.study_image.specs.Places.{imageBytes}
 use Rattle.study_image.specs.Image.{imageOf, studyIn}
-use Rattle.planning.specs.Answers.{refusalOf}
+use Rattle.answers.specs.Numbers.{refusalOf}
 use Rattle.planning.specs.Bounds.{filled}
 use Rattle.exports.specs.Answers.{below}
 

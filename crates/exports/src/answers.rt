@@ -2,10 +2,10 @@
 use planning::Listing;
 use planning::PathsBounded;
 use report_text::ReportAnswer;
-use study::Outcome;
+use answers::Outcome;
 ghost use mathlib.Core.Path.{_≡_};
 ghost use lib.IntN.{pos};
-ghost use Rattle.planning.specs.Answers.{refusalOf};
+ghost use Rattle.answers.specs.Numbers.{refusalOf};
 ghost use Rattle.exports.specs.Answers.{below, listAnswered, pathsAnswered, reportAnswered};
 
 // A count.

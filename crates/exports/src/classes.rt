@@ -7,7 +7,7 @@ use study_image::read_image;
 ghost use mathlib.Core.Path.{_≡_};
 ghost use lib.IntN.{pos};
 ghost use Rattle.fault_tree.specs.Classes.{loadsLost};
-ghost use Rattle.planning.specs.Answers.{refusalOf};
+ghost use Rattle.answers.specs.Numbers.{refusalOf};
 ghost use Rattle.planning.specs.Bounds.{classesBounded, loadBounded};
 ghost use Rattle.study_image.specs.Image.{studyIn};
 ghost use Rattle.exports.specs.Answers.{below, lossAnswered};

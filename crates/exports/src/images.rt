@@ -3,7 +3,7 @@ use crate::answers::refusal;
 use crate::answers::refused;
 use rules::first;
 use rules::room_fault;
-use study::StudyAnswer;
+use answers::StudyAnswer;
 use study_image::IMAGE_BYTES;
 use study_image::write_image;
 ghost use Rattle.opening.specs.Opening.{opened};

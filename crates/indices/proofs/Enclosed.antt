@@ -5,15 +5,15 @@ use mathlib.Core.Path.{subst}
 use mathlib.Core.List.{List}
 use native.Mathlib.Nat.{pos-of-ne-zero, mul-pos, mul-le-mul-left, mul-le-mul-right}
 use native.Mathlib.Omega.{arith}
-use lib.ListN.{getD}
+use lib.ListN.{length, getD}
 use Rattle.lists.specs.Counting.{sum}
 use Rattle.units.specs.One.{one}
 use Rattle.units.specs.Rounding.{quotientDown, quotientUp}
 use Rattle.units.proofs.Quotients.{quotient-below, quotient-above}
 use Rattle.study.specs.declared.Load.{Load}
 use Rattle.study.specs.Zero.{zeroLoad}
-use Rattle.indices.specs.declared.figures.Enclosure.{Enclosure}
-use Rattle.indices.specs.Figures.{customersSum, lossSum, minutesSum, enclosure, figuresOf}
+use Rattle.answers.specs.declared.bounds.Enclosure.{Enclosure}
+use Rattle.indices.specs.Figures.{customersSum, lossSum, minutesSum, figuresOf}
 use Rattle.indices.specs.Enclosed.{Encloses, LossesEnclosed, exactLoss, exactMinutes, SaifiEncloses, SaidiEncloses, CaidiEncloses}
 use Rattle.indices.proofs.Stated.{stated-some, stated-bounds}
 
@@ -39,7 +39,7 @@ sums-between low high x w (suc n) each =
 -- ---- quotients, rounded down and up
 
 -- over one divisor that is exact
-over-exact : {low high x w : ℕ} (c : ℕ) → 0 < c → 0 < w → Between low high x w → Encloses (enclosure low c high c) (one * x) (w * c)
+over-exact : {low high x w : ℕ} (c : ℕ) → 0 < c → 0 < w → Between low high x w → Encloses (record { lower = quotientDown low c; upper = quotientUp high c }) (one * x) (w * c)
 over-exact {low} {high} {x} {w} c some whole b =
     record {
       divisor = mul-pos whole some;
@@ -48,43 +48,44 @@ over-exact {low} {high} {x} {w} c some whole b =
     }
 
 -- over a divisor that has bounds itself: the lower quotient divides by its upper bound, and the upper quotient by its lower one
-over-bounds : {low high x under over y w : ℕ} → 0 < over → 0 < w → Between low high x w → Between over under y w → Encloses (enclosure low under high over) x y
-over-bounds {low} {high} {x} {under} {over} {y} {w} some whole b d =
-    let lower = quotientDown low under in
-    let upper = quotientUp high over in
+over-bounds : {low high x least most y w : ℕ} → 0 < least → 0 < w → Between low high x w → Between least most y w
+    → Encloses (record { lower = quotientDown low most; upper = quotientUp high least }) x y
+over-bounds {low} {high} {x} {least} {most} {y} {w} some whole b d =
+    let lower = quotientDown low most in
+    let upper = quotientUp high least in
     record {
       divisor = omega (arith, mul-pos some whole, d .below);
-      below = omega (arith, mul-le-mul-left lower (d .above), mul-le-mul-right w (quotient-below low under), b .below);
-      above = omega (arith, mul-le-mul-left upper (d .below), mul-le-mul-right w (quotient-above high over some), b .above);
+      below = omega (arith, mul-le-mul-left lower (d .above), mul-le-mul-right w (quotient-below low most), b .below);
+      above = omega (arith, mul-le-mul-left upper (d .below), mul-le-mul-right w (quotient-above high least some), b .above);
     }
 
 -- ---- the figures
 
-module _ {lower upper : List ℕ} {x : ℕ → ℕ} {w n : ℕ} (loads : List Load) (enclosed : LossesEnclosed lower upper x w n) where
+module _ {lower upper : List ℕ} {x : ℕ → ℕ} {w : ℕ} (loads : List Load) (enclosed : LossesEnclosed lower upper x w (length loads)) where
   -- P × C of one load
-  loss-of : (j : ℕ) → j < n
+  loss-of : (j : ℕ) → j < length loads
       → Between (getD lower j 0 * getD loads j zeroLoad .customers) (getD upper j 0 * getD loads j zeroLoad .customers)
       (x j * getD loads j zeroLoad .customers) w
   loss-of j h = times (getD loads j zeroLoad .customers) (record { below = enclosed .below j h; above = enclosed .above j h })
 
-  loss-between : Between (lossSum lower loads n) (lossSum upper loads n) (exactLoss x loads n) w
+  loss-between : Between (lossSum lower loads) (lossSum upper loads) (exactLoss x loads) w
   unfolding lossSum
-  loss-between = sums-between _ _ _ w n loss-of
+  loss-between = sums-between _ _ _ w (length loads) loss-of
 
-  minutes-between : Between (minutesSum lower loads n) (minutesSum upper loads n) (exactMinutes x loads n) w
+  minutes-between : Between (minutesSum lower loads) (minutesSum upper loads) (exactMinutes x loads) w
   unfolding minutesSum
-  minutes-between = sums-between _ _ _ w n (λ j h. times (getD loads j zeroLoad .minutes) (loss-of j h))
+  minutes-between = sums-between _ _ _ w (length loads) (λ j h. times (getD loads j zeroLoad .minutes) (loss-of j h))
 
-  pub saifi-encloses : 0 < customersSum loads n → SaifiEncloses (figuresOf lower upper loads n) x w loads n
+  pub saifi-encloses : 0 < customersSum loads → SaifiEncloses (figuresOf lower upper loads) x w loads
   unfolding figuresOf
-  saifi-encloses some = over-exact (customersSum loads n) some (enclosed .whole) loss-between
+  saifi-encloses some = over-exact (customersSum loads) some (enclosed .whole) loss-between
 
-  pub saidi-encloses : 0 < customersSum loads n → SaidiEncloses (figuresOf lower upper loads n) x w loads n
+  pub saidi-encloses : 0 < customersSum loads → SaidiEncloses (figuresOf lower upper loads) x w loads
   unfolding figuresOf
-  saidi-encloses some = over-exact (customersSum loads n) some (enclosed .whole) minutes-between
+  saidi-encloses some = over-exact (customersSum loads) some (enclosed .whole) minutes-between
 
-  pub caidi-encloses : CaidiEncloses (figuresOf lower upper loads n) x loads n
+  pub caidi-encloses : CaidiEncloses (figuresOf lower upper loads) x loads
   unfolding figuresOf
   caidi-encloses bounds stated =
-      subst (λ (b : Enclosure). Encloses b (exactMinutes x loads n) (exactLoss x loads n)) (stated-bounds lower upper loads n stated)
-      (over-bounds (pos-of-ne-zero (stated-some lower upper loads n stated)) (enclosed .whole) minutes-between loss-between)
+      subst (λ (b : Enclosure). Encloses b (exactMinutes x loads) (exactLoss x loads)) (stated-bounds lower upper loads stated)
+      (over-bounds (pos-of-ne-zero (stated-some lower upper loads stated)) (enclosed .whole) minutes-between loss-between)

@@ -1,5 +1,5 @@
 pub mod Enclosed
-pub mod Limits
+pub mod Front
 pub mod Ordering
 pub mod Stated
 pub mod Summed

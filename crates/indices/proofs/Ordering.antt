@@ -1,21 +1,23 @@
--- What follows where each lower bound is at most its upper one.
+-- What follows where each lower bound is at most its upper one: it is at most one too, and so is the lower sum of P × C at most the upper one.
 use Prim.Native.Nat.{ℕ, _≤_}
 use mathlib.Core.List.{List}
-use native.Mathlib.Nat.{mul-le-mul-right}
+use native.Mathlib.Nat.{mul-le-mul-right, min-le-left}
 use native.Mathlib.Omega.{arith}
-use lib.ListN.{getD}
+use lib.ListN.{length, getD, take, length-take}
 use Rattle.lists.proofs.SumBelow.{sum-most}
 use Rattle.study.specs.declared.Load.{Load}
 use Rattle.study.specs.Zero.{zeroLoad}
 use Rattle.indices.specs.Figures.{lossSum}
-use Rattle.indices.specs.Reading.{Losses, Ordered}
+use Rattle.indices.specs.Losses.{AtMostOne, LossBounds}
 
-module _ {lower upper : List ℕ} {n : ℕ} (ordered : Ordered lower upper n) where
-  -- the lower bounds are at most one, as the upper ones are
-  pub lower-losses : Losses upper n → Losses lower n
-  lower-losses losses = record { most = λ j h. omega (arith, ordered .each j h, losses .most j h) }
+module _ {lower upper : List ℕ} {n : ℕ} (bounds : LossBounds lower upper n) where
+  pub lower-most : AtMostOne lower n
+  lower-most = record { most = λ j h. omega (arith, bounds .ordered j h, bounds .uppers .most j h) }
 
-  -- and the lower sum of P × C is at most the upper one
-  pub loss-ordered : (loads : List Load) → lossSum lower loads n ≤ lossSum upper loads n
+  pub loss-ordered : (load : List Load) → lossSum lower (take n load) ≤ lossSum upper (take n load)
   unfolding lossSum
-  loss-ordered loads = sum-most _ _ n (λ j h. mul-le-mul-right (getD loads j zeroLoad .customers) (ordered .each j h))
+  loss-ordered load =
+      sum-most _ _ (length (take n load))
+      (λ j h.
+      mul-le-mul-right (getD (take n load) j zeroLoad .customers)
+      (bounds .ordered j (omega (arith, h, length-take n load, min-le-left n (length load)))))

@@ -5,25 +5,40 @@ use native.Mathlib.Nat.{mul-le-mul-right}
 use native.Mathlib.Numerals.{add-one}
 use native.Mathlib.Omega.{arith}
 use Rattle.lists.specs.Counting.{sum}
+use Rattle.rules.specs.Limits.{mostLoads}
+use Rattle.indices.specs.Sums.{SumIs}
 
 pub record Summed (f : ℕ → ℕ) (most n j s : ℕ) : Type 0 where
+  pub few : n ≤ mostLoads
+  pub limit : (k : ℕ) → k < n → f k ≤ most
   pub inside : j ≤ n
   pub summed : s ≡ sum f j
   pub below : s ≤ j * most
 
 module _ {f : ℕ → ℕ} {most n : ℕ} where
-  pub summed-start : Summed f most n 0 0
+  pub summed-start : n ≤ mostLoads → ((k : ℕ) → k < n → f k ≤ most) → Summed f most n 0 0
   unfolding sum
-  summed-start = record { inside = omega arith; summed = refl; below = omega arith }
+  summed-start few limit = record { few = few; limit = limit; inside = omega arith; summed = refl; below = omega arith }
 
-  pub summed-more : {j s : ℕ} → Summed f most n j s → j < n → f j ≤ most → Summed f most n (j + 1) (s + f j)
+  pub summed-more : {j s : ℕ} → Summed f most n j s → j < n → Summed f most n (j + 1) (s + f j)
   unfolding sum
-  summed-more {j} {s} c h limit = record { inside = omega arith; summed = rw (add-one, c .summed) refl; below = omega (arith, c .below, limit) }
+  summed-more {j} {s} c h =
+      record {
+        few = c .few;
+        limit = c .limit;
+        inside = omega arith;
+        summed = rw (add-one, c .summed) refl;
+        below = omega (arith, c .below, c .limit j h);
+      }
 
-  pub summed-done : {j s : ℕ} → Summed f most n j s → n ≤ j → s ≡ sum f n
-  summed-done {j} {s} c h =
+  most-sum : {j s : ℕ} → Summed f most n j s → s ≤ mostLoads * most
+  most-sum {j} {s} c = omega (arith, c .below, mul-le-mul-right most (c .inside), mul-le-mul-right most (c .few))
+
+  -- the next sum fits
+  pub summed-fits : {j s : ℕ} → Summed f most n j s → j < n → s + f j ≤ mostLoads * most
+  summed-fits c h = most-sum (summed-more c h)
+
+  pub summed-done : {j s total : ℕ} → Summed f most n j s → n ≤ j → sum f n ≡ total → SumIs total most s
+  summed-done {j} {s} c h e =
       let all : j ≡ n = omega (arith, c .inside) in
-      c .summed ∙ ap (sum f) all
-
-  pub summed-most : {j s places : ℕ} → Summed f most n j s → n ≤ places → s ≤ places * most
-  summed-most {j} {s} {places} c h = omega (arith, c .below, mul-le-mul-right most (c .inside), mul-le-mul-right most h)
+      record { is = c .summed ∙ ap (sum f) all ∙ e; fits = most-sum c }

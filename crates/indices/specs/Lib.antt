@@ -1,3 +1,4 @@
 pub mod Enclosed
 pub mod Figures
-pub mod Reading
+pub mod Losses
+pub mod Sums

@@ -2,46 +2,34 @@
 use crate::sums::customers_sum;
 use crate::sums::loss_sum;
 use crate::sums::minutes_sum;
+use answers::Caidi;
+use answers::Enclosure;
+use answers::Figures;
 use rules::LOAD_PLACES;
 use study::Load;
 use units::quotient_down;
 use units::quotient_up;
-ghost use Prim.Native.Nat.{_<_, _≤_};
+ghost use Prim.Native.Nat.{_*_, _<_, _≤_};
 ghost use mathlib.Core.Path.{_≡_};
-ghost use Rattle.rules.specs.Limits.{mostLoads};
-ghost use Rattle.indices.specs.Figures.{customersSum, enclosure, caidi, figuresOf};
-ghost use Rattle.indices.specs.Reading.{Sizes, Losses, Ordered};
+ghost use lib.ListN.{take};
+ghost use Rattle.units.specs.One.{one};
+ghost use Rattle.units.specs.Rounding.{quotientDown, quotientUp};
+ghost use Rattle.rules.specs.Limits.{mostLoads, mostCustomers, mostMinutes};
+ghost use Rattle.model.specs.Good.{Sizes};
+ghost use Rattle.indices.specs.Figures.{customersSum, caidi, figuresOf};
+ghost use Rattle.indices.specs.Losses.{LossBounds};
 
-// A lower and an upper bound.
-pub struct Enclosure {
-    pub lower: u64,
-    pub upper: u64,
-}
-
-// CAIDI in whole minutes: a pair of bounds, or not stated.
-pub enum Caidi {
-    Bounds(Enclosure),
-    NotStated,
-}
-
-// The three figures: SAIFI in units, SAIDI in billionths of a minute, CAIDI.
-pub struct Figures {
-    pub saifi: Enclosure,
-    pub saidi: Enclosure,
-    pub caidi: Caidi,
-}
-
-// A lower sum over a divisor, rounded down, and an upper sum over another, rounded up.
-fn enclosure_of(low: u64, under: u64, high: u64, over: u64) -> Enclosure
-    requires { ⌜ 0 < under ⌝ }
-    requires { ⌜ high ≤ 16000000000000000000 ⌝ }
-    requires { ⌜ 0 < over ⌝ }
-    requires { ⌜ over ≤ 1000000000000000 ⌝ }
-    ensures { λ r. ⌜ r ≡ enclosure low under high over ⌝ }
+// A lower sum over its divisor, rounded down, and an upper sum over its own, rounded up.
+fn quotients(low: u64, low_divisor: u64, high: u64, high_divisor: u64) -> Enclosure
+    requires { ⌜ 0 < «low_divisor» ⌝ }
+    requires { ⌜ high ≤ mostLoads * (one * mostCustomers * mostMinutes) ⌝ }
+    requires { ⌜ 0 < «high_divisor» ⌝ }
+    requires { ⌜ «high_divisor» ≤ mostLoads * (one * mostCustomers) ⌝ }
+    ensures { λ r. ⌜ r ≡ record { lower = quotientDown low «low_divisor»; upper = quotientUp high «high_divisor» } ⌝ }
 {
     Enclosure {
-        lower: quotient_down(low, under),
-        upper: quotient_up(high, over),
+        lower: quotient_down(low, low_divisor),
+        upper: quotient_up(high, high_divisor),
     }
 }
 
@@ -53,19 +41,18 @@ fn caidi_of(
     n: u8,
 ) -> Caidi
     requires { ⌜ n ≤ mostLoads ⌝ }
-    requires { ⌜ Sizes load n ⌝ }
-    requires { ⌜ Losses upper n ⌝ }
-    requires { ⌜ Ordered lower upper n ⌝ }
-    ensures { λ r. ⌜ r ≡ caidi lower upper load n ⌝ }
+    requires { ⌜ Sizes (take n load) ⌝ }
+    requires { ⌜ LossBounds lower upper n ⌝ }
+    ensures { λ r. ⌜ r ≡ caidi lower upper (take n load) ⌝ }
 {
-    let over = loss_sum(lower, load, n);
-    if over == 0 {
+    let low_loss = loss_sum(lower, load, n);
+    if low_loss == 0 {
         return Caidi::NotStated;
     }
-    let under = loss_sum(upper, load, n);
+    let high_loss = loss_sum(upper, load, n);
     let low = minutes_sum(lower, load, n);
     let high = minutes_sum(upper, load, n);
-    Caidi::Bounds(enclosure_of(low, under, high, over))
+    Caidi::Bounds(quotients(low, high_loss, high, low_loss))
 }
 
 // The figures of n loads, from lower and upper bounds for the loss of each.
@@ -76,19 +63,18 @@ pub fn figures_of(
     n: u8,
 ) -> Figures
     requires { ⌜ n ≤ mostLoads ⌝ }
-    requires { ⌜ Sizes load n ⌝ }
-    requires { ⌜ Losses upper n ⌝ }
-    requires { ⌜ Ordered lower upper n ⌝ }
-    requires { ⌜ 0 < customersSum load n ⌝ }
-    ensures { λ r. ⌜ r ≡ figuresOf lower upper load n ⌝ }
+    requires { ⌜ Sizes (take n load) ⌝ }
+    requires { ⌜ LossBounds lower upper n ⌝ }
+    requires { ⌜ 0 < customersSum (take n load) ⌝ }
+    ensures { λ r. ⌜ r ≡ figuresOf lower upper (take n load) ⌝ }
 {
     let customers = customers_sum(load, n);
     let low = loss_sum(lower, load, n);
     let high = loss_sum(upper, load, n);
-    let saifi = enclosure_of(low, customers, high, customers);
+    let saifi = quotients(low, customers, high, customers);
     let low_minutes = minutes_sum(lower, load, n);
     let high_minutes = minutes_sum(upper, load, n);
-    let saidi = enclosure_of(low_minutes, customers, high_minutes, customers);
+    let saidi = quotients(low_minutes, customers, high_minutes, customers);
     let caidi = caidi_of(lower, upper, load, n);
     Figures {
         saifi,

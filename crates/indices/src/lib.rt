@@ -1,10 +1,7 @@
-// The three interruption figures, from bounds for the loss of each load, its customers and its minutes. Paths are not known here. Not for callers
+// The interruption figures, from bounds for the loss of each load, its customers and its minutes. Paths are not known here. Not for callers
 // from outside: those call `planning`.
 mod figures;
 mod sums;
 
-pub use figures::Caidi;
-pub use figures::Enclosure;
-pub use figures::Figures;
 pub use figures::figures_of;
 pub use sums::customers_sum;

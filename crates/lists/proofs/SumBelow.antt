@@ -36,3 +36,9 @@ sum-only f zero k h others = absurd (not-suc-le-zero h)
 sum-only f (suc n) k h others =
     ⊎-elim (λ (last : k ≡ n). omega (arith, ap f last, sum-none f n (λ j less. others j (λ same. omega arith))))
     (λ (lower : k < n). omega (arith, sum-only f n k lower others, others n (λ same. omega arith))) (eq-or-lt-of-le (le-of-suc-le-suc h))
+
+-- terms that are the same below n
+pub sum-alike : (f g : ℕ → ℕ) (n : ℕ) → ((k : ℕ) → k < n → f k ≡ g k) → sum f n ≡ sum g n
+unfolding sum
+sum-alike f g zero same = refl
+sum-alike f g (suc n) same = omega (arith, sum-alike f g n (λ k h. same k (omega arith)), same n (omega arith))

@@ -10,7 +10,7 @@ use Rattle.rules.specs.Table.{unsoundFault, roomFault}
 use Rattle.rules.proofs.Kept.{first-last}
 use Rattle.study.specs.declared.Study.{Study}
 use Rattle.soundness.specs.Check.{sound}
-use Rattle.evaluation.specs.declared.listing.Listing.the-variants.{Refused}
+use Rattle.answers.specs.declared.counts.Listing.the-variants.{Refused}
 use Rattle.evaluation.specs.Listing.{pathList}
 use Rattle.planning.specs.Listing.{listFault, pathsListed, bufferListed}
 use Rattle.evaluation.proofs.Listed.{listed-refused, written-refused}

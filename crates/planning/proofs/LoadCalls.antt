@@ -7,7 +7,7 @@ use Rattle.rules.specs.Table.{unsoundFault, itemFault}
 use Rattle.rules.proofs.Kept.{list-kept, first-last}
 use Rattle.study.specs.declared.Study.{Study}
 use Rattle.soundness.specs.Check.{sound}
-use Rattle.indices.specs.declared.figures.Enclosure.{Enclosure}
+use Rattle.answers.specs.declared.bounds.Enclosure.{Enclosure}
 use Rattle.planning.specs.declared.loads.LoadBounded.the-variants.{Bounds, Refused}
 use Rattle.planning.specs.Bounds.{lossFault, lossOf}
 use Rattle.editing.proofs.Edited.{Present, present}

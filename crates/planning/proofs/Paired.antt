@@ -8,7 +8,7 @@ use Rattle.lists.specs.Rows.{put}
 use Rattle.rules.specs.Breach.{first, firstBreach}
 use Rattle.rules.specs.Table.{unsoundFault, roomFault}
 use Rattle.rules.proofs.Kept.{list-kept, first-last}
-use Rattle.study.specs.declared.Outcome.the-variants.{Done, Refused as NotDone}
+use Rattle.answers.specs.declared.outcome.Outcome.the-variants.{Done, Refused as NotDone}
 use Rattle.study.specs.declared.Study.{Study}
 use Rattle.soundness.specs.Check.{sound}
 use Rattle.soundness.specs.Sound.{Sound}

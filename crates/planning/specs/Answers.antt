@@ -1,11 +1,11 @@
 -- What an answer says: its number in the refusal table, 0 where the call was done.
 use Prim.Native.Nat.{ℕ}
-use Rattle.study.specs.declared.Outcome.{Outcome}
-use Rattle.study.specs.declared.Outcome.the-variants.{Done, Refused}
-use Rattle.evaluation.specs.declared.listing.Listing.{Listing}
-use Rattle.evaluation.specs.declared.listing.Listing.the-variants.{Listed, Refused as NotListed}
-use Rattle.evaluation.specs.declared.three_figures.FiguresAnswer.{FiguresAnswer}
-use Rattle.evaluation.specs.declared.three_figures.FiguresAnswer.the-variants.{Figures, Refused as NoFigures}
+use Rattle.answers.specs.declared.outcome.Outcome.{Outcome}
+use Rattle.answers.specs.declared.outcome.Outcome.the-variants.{Done, Refused}
+use Rattle.answers.specs.declared.counts.Listing.{Listing}
+use Rattle.answers.specs.declared.counts.Listing.the-variants.{Listed, Refused as NotListed}
+use Rattle.answers.specs.declared.figures.FiguresAnswer.{FiguresAnswer}
+use Rattle.answers.specs.declared.figures.FiguresAnswer.the-variants.{Figures, Refused as NoFigures}
 
 abbrev pub refusalOf : Outcome → ℕ
 refusalOf Done = 0

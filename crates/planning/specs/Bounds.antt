@@ -10,10 +10,10 @@ use Rattle.rules.specs.Breach.{firstBreach}
 use Rattle.rules.specs.Table.{unsoundFault, itemFault, roomFault}
 use Rattle.entries.specs.Entries.{classPlaces}
 use Rattle.study.specs.declared.Study.{Study}
-use Rattle.study.specs.declared.Outcome.{Outcome}
-use Rattle.study.specs.declared.Outcome.the-variants.{Done, Refused}
+use Rattle.answers.specs.declared.outcome.Outcome.{Outcome}
+use Rattle.answers.specs.declared.outcome.Outcome.the-variants.{Done, Refused}
 use Rattle.soundness.specs.Check.{sound}
-use Rattle.indices.specs.declared.figures.Enclosure.{Enclosure}
+use Rattle.answers.specs.declared.bounds.Enclosure.{Enclosure}
 use Rattle.evaluation.specs.Bounds.{lowerOf, upperOf}
 use Rattle.evaluation.specs.Listing.{pathList}
 use Rattle.planning.specs.declared.bounds.PathsBounded.{PathsBounded}

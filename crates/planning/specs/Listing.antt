@@ -7,7 +7,7 @@ use Rattle.rules.specs.Breach.{firstBreach}
 use Rattle.rules.specs.Table.{unsoundFault, roomFault}
 use Rattle.study.specs.declared.Study.{Study}
 use Rattle.soundness.specs.Check.{sound}
-use Rattle.evaluation.specs.declared.listing.Listing.{Listing}
+use Rattle.answers.specs.declared.counts.Listing.{Listing}
 use Rattle.evaluation.specs.Listing.{pathList, listed, written}
 
 -- 16, then 18 where the entries need more than the room that is lent

@@ -7,7 +7,7 @@ use rules::CLASS_PLACES;
 use rules::first;
 use rules::unsound_fault;
 use soundness::is_sound;
-use study::Outcome;
+use answers::Outcome;
 use study::Study;
 ghost use Prim.Native.Nat.{_≤_};
 ghost use mathlib.Core.Path.{_≡_};

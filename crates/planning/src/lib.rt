@@ -23,7 +23,7 @@ pub use indices::Figures;
 pub use listing::list_paths;
 pub use loads::LoadBounded;
 pub use loads::load_bounds;
-use study::StudyAnswer;
+use answers::StudyAnswer;
 pub use three_figures::figures;
 ghost use mathlib.Core.Path.{_≡_};
 ghost use Rattle.opening.specs.Opening.{opened};

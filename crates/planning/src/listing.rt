@@ -1,5 +1,5 @@
 // The call for the list of a study's paths.
-use evaluation::Listing;
+use answers::Listing;
 use evaluation::list_sound;
 use rules::unsound_fault;
 use soundness::is_sound;

@@ -1,6 +1,6 @@
 // Bounds for the loss of a load.
 use evaluation::losses_of;
-use indices::Enclosure;
+use answers::Enclosure;
 use rules::first;
 use rules::item_fault;
 use rules::unsound_fault;

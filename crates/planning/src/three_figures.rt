@@ -1,5 +1,5 @@
 // The call for the three figures of a study.
-use evaluation::FiguresAnswer;
+use answers::FiguresAnswer;
 use evaluation::figures_from;
 use evaluation::losses_of;
 use rules::unsound_fault;

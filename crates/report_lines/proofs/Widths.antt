@@ -17,10 +17,10 @@ use Rattle.entries.specs.Entries.{classBorne, classPlaces, entriesOf}
 use Rattle.probability.specs.Bounds.{pathBound}
 use Rattle.probability.specs.Probabilities.{AtMostOne}
 use Rattle.probability.proofs.Most.{path-most}
-use Rattle.indices.specs.declared.figures.Caidi.{Caidi}
-use Rattle.indices.specs.declared.figures.Caidi.the-variants.{Bounds, NotStated}
-use Rattle.indices.specs.declared.figures.Enclosure.{Enclosure}
-use Rattle.indices.specs.declared.figures.Figures.{Figures as Triple}
+use Rattle.answers.specs.declared.figures.Caidi.{Caidi}
+use Rattle.answers.specs.declared.figures.Caidi.the-variants.{Bounds, NotStated}
+use Rattle.answers.specs.declared.bounds.Enclosure.{Enclosure}
+use Rattle.answers.specs.declared.figures.Figures.{Figures as Triple}
 use Rattle.report_lines.specs.Classes.{classLine, classLines}
 use Rattle.report_lines.specs.Figures.{caidiLine, tripleLines}
 use Rattle.report_lines.specs.Loads.{loadLine, loadLines}

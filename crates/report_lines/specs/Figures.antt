@@ -4,11 +4,11 @@ use mathlib.Core.List.{List, [], _∷_}
 use Rattle.lists.specs.Rows.{joined}
 use Rattle.text.specs.Letters.{letters}
 use Rattle.text.specs.Lines.{numberLine, boundsLine}
-use Rattle.indices.specs.declared.figures.Caidi.{Caidi}
-use Rattle.indices.specs.declared.figures.Caidi.the-variants.{Bounds, NotStated}
-use Rattle.indices.specs.declared.figures.Figures.{Figures as Triple}
-use Rattle.evaluation.specs.declared.three_figures.FiguresAnswer.{FiguresAnswer}
-use Rattle.evaluation.specs.declared.three_figures.FiguresAnswer.the-variants.{Figures, Refused}
+use Rattle.answers.specs.declared.figures.Caidi.{Caidi}
+use Rattle.answers.specs.declared.figures.Caidi.the-variants.{Bounds, NotStated}
+use Rattle.answers.specs.declared.figures.Figures.{Figures as Triple}
+use Rattle.answers.specs.declared.figures.FiguresAnswer.{FiguresAnswer}
+use Rattle.answers.specs.declared.figures.FiguresAnswer.the-variants.{Figures, Refused}
 
 unfoldable pub caidiLine : Caidi → List ℕ
 caidiLine (Bounds b) = boundsLine (letters "CAIDI") (b .lower) (b .upper)

@@ -1,7 +1,7 @@
 // The lines of the three figures.
-use evaluation::FiguresAnswer;
-use indices::Caidi;
-use indices::Figures;
+use answers::FiguresAnswer;
+use answers::Caidi;
+use answers::Figures;
 use text::bounds_line;
 use text::copy;
 use text::number_line;

@@ -14,7 +14,7 @@ use Rattle.rules.specs.Limits.{mostComponents, mostLoads, mostCustomers, mostMi
 use Rattle.study.specs.declared.Load.{Load}
 use Rattle.study.specs.declared.Study.{Study}
 use Rattle.study.specs.Zero.{zeroLoad}
-use Rattle.indices.specs.declared.figures.Caidi.the-variants.{Bounds, NotStated}
+use Rattle.answers.specs.declared.figures.Caidi.the-variants.{Bounds, NotStated}
 use Rattle.indices.specs.Figures.{customersSum, lossSum, minutesSum, enclosure, caidi, figuresOf}
 use Rattle.indices.specs.Reading.{Sizes, Losses}
 use Rattle.indices.proofs.Limits.{loss-limit, minutes-limit}

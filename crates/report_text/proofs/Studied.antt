@@ -10,10 +10,10 @@ use Rattle.lists.proofs.Tabulated.{length-tabulate}
 use Rattle.rules.specs.Table.{unsoundFault, customersFault}
 use Rattle.rules.specs.Breach.{refuse}
 use Rattle.entries.specs.Entries.{classPlaces, entriesOf}
-use Rattle.study.specs.declared.Outcome.{Outcome}
-use Rattle.study.specs.declared.Outcome.the-variants.{Done, Refused}
+use Rattle.answers.specs.declared.outcome.Outcome.{Outcome}
+use Rattle.answers.specs.declared.outcome.Outcome.the-variants.{Done, Refused}
 use Rattle.study.specs.declared.Study.{Study}
-use Rattle.study.specs.declared.StudyAnswer.{StudyAnswer}
+use Rattle.answers.specs.declared.outcome.StudyAnswer.{StudyAnswer}
 use Rattle.study.specs.Joint.{stateCounts}
 use Rattle.soundness.specs.Check.{sound}
 use Rattle.soundness.specs.Sound.{Sound}

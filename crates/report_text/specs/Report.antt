@@ -9,8 +9,8 @@ use Rattle.text.specs.Letters.{letters}
 use Rattle.text.specs.Lines.{field, numberLine}
 use Rattle.words.specs.Words.{refusalWord}
 use Rattle.rules.specs.Table.{roomFault}
-use Rattle.study.specs.declared.Outcome.{Outcome}
-use Rattle.study.specs.declared.Outcome.the-variants.{Done, Refused}
+use Rattle.answers.specs.declared.outcome.Outcome.{Outcome}
+use Rattle.answers.specs.declared.outcome.Outcome.the-variants.{Done, Refused}
 use Rattle.study.specs.declared.Study.{Study}
 use Rattle.opening.specs.Opening.{opened}
 use Rattle.evaluation.specs.Bounds.{chancesOf, componentsOf, lowerClasses, upperClasses, lowerLoads, upperLoads}

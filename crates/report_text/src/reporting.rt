@@ -4,7 +4,7 @@ use crate::study_text::study_text;
 use evaluation::blank_page;
 use evaluation::list_page;
 use rules::room_fault;
-use study::Outcome;
+use answers::Outcome;
 use study::Study;
 use text::copy;
 use text::field;

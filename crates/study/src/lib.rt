@@ -51,18 +51,6 @@ pub struct Study {
     pub load: [Load; LOAD_PLACES],
 }
 
-// Whether a call was done, or the number of the refusal table by which it was refused.
-pub enum Outcome {
-    Done,
-    Refused(u8),
-}
-
-// What a call that makes a study answers: the outcome beside the study.
-pub struct StudyAnswer {
-    pub outcome: Outcome,
-    pub study: Study,
-}
-
 // Places that no record uses, and fields that a record does not give.
 
 pub fn no_components() -> [Component; COMPONENT_PLACES]

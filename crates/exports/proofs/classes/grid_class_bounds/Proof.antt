@@ -1,6 +1,6 @@
 -- `exports::classes::grid_class_bounds` meets its contract: the call's own, for the study that the image holds.
 use mathlib.Core.Path.{ap, _∙_}
-use Rattle.planning.specs.Answers.{refusalOf}
+use Rattle.answers.specs.Numbers.{refusalOf}
 use Rattle.exports.specs.Answers.{below}
 use Rattle.exports.proofs.Signed.{handed}
 use borrow.Author.Needs.{needs}

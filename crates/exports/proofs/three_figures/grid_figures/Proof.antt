@@ -2,7 +2,7 @@
 use mathlib.Core.Path.{ap, _∙_}
 use lib.ListN.{length}
 use Rattle.study_image.specs.Image.{studyIn}
-use Rattle.evaluation.specs.declared.three_figures.FiguresAnswer.{FiguresAnswer}
+use Rattle.answers.specs.declared.figures.FiguresAnswer.{FiguresAnswer}
 use Rattle.exports.specs.Figures.{figuresAnswered, figuresWritten}
 use Rattle.exports.proofs.Figured.{three-refused, places-room, three-given}
 use Rattle.exports.proofs.Signed.{handed}

@@ -1,7 +1,7 @@
 -- `exports::three_figures::hand_on` meets its contract: each kind of answer by its own clause.
 use mathlib.Core.Path.{sym, ap, _∙_}
 use lib.IntN.{pos}
-use Rattle.evaluation.specs.declared.three_figures.FiguresAnswer.{FiguresAnswer}
+use Rattle.answers.specs.declared.figures.FiguresAnswer.{FiguresAnswer}
 use Rattle.exports.specs.Figures.{figuresAnswered, figuresWritten}
 use Rattle.exports.proofs.Signed.{handed}
 use borrow.Author.Needs.{needs}

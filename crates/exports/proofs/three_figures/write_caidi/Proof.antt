@@ -6,7 +6,7 @@ use native.Mathlib.Omega.{arith}
 use lib.ListN.{length}
 use Rattle.lists.specs.Rows.{put}
 use Rattle.lists.proofs.Puts.{due-start, due-done}
-use Rattle.indices.specs.declared.figures.Caidi.{Caidi}
+use Rattle.answers.specs.declared.figures.Caidi.{Caidi}
 use Rattle.exports.specs.Figures.{stated, caidiRow}
 use borrow.Author.Needs.{needs}
 use Rattle.exports.proofs.three_figures.write_caidi.Statement.{statement}

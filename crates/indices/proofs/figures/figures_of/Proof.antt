@@ -1,7 +1,7 @@
 -- `indices::figures::figures_of` meets its contract: the sums and the quotients are the callees'.
-use borrow.Author.Needs.{needs}
 use Rattle.indices.specs.Figures.{figuresOf}
-use Rattle.indices.proofs.Ordering.{lower-losses}
+use Rattle.indices.proofs.Ordering.{lower-most}
+use borrow.Author.Needs.{needs}
 use Rattle.indices.proofs.figures.figures_of.Statement.{statement}
 use Rattle.indices.proofs.figures.figures_of.Tie as tie
 
@@ -11,24 +11,24 @@ customers-sum-requires c κs = search needs
 loss-sum-requires : tie.Need-loss-sum-requires
 loss-sum-requires c κs =
     let pre = c .before .pre in
-    (pre .0, (pre .1 .0, lower-losses (pre .1 .1 .1 .0) (pre .1 .1 .0)))
+    (pre .0, (pre .1 .0, lower-most (pre .1 .1 .0)))
 
 loss-sum-requires-2 : tie.Need-loss-sum-requires-2
 loss-sum-requires-2 c κs = search needs
 
-enclosure-of-requires : tie.Need-enclosure-of-requires
-enclosure-of-requires c κs = search needs
+quotients-requires : tie.Need-quotients-requires
+quotients-requires c κs = search needs
 
 minutes-sum-requires : tie.Need-minutes-sum-requires
 minutes-sum-requires c κs =
     let pre = c .before .before .before .before .pre in
-    (pre .0, (pre .1 .0, lower-losses (pre .1 .1 .1 .0) (pre .1 .1 .0)))
+    (pre .0, (pre .1 .0, lower-most (pre .1 .1 .0)))
 
 minutes-sum-requires-2 : tie.Need-minutes-sum-requires-2
 minutes-sum-requires-2 c κs = search needs
 
-enclosure-of-requires-2 : tie.Need-enclosure-of-requires-2
-enclosure-of-requires-2 c κs = search needs
+quotients-requires-2 : tie.Need-quotients-requires-2
+quotients-requires-2 c κs = search needs
 
 caidi-of-requires : tie.Need-caidi-of-requires
 caidi-of-requires c κs = search needs
@@ -39,13 +39,13 @@ returns c =
     let sums = c .before .before .before .before .before in
     cc (
       c .caidi-of .ensures,
-      c .before .enclosure-of2 .ensures,
-      c .before .before .minutes-sum2 .ensures .0,
-      c .before .before .before .minutes-sum .ensures .0,
-      c .before .before .before .before .enclosure-of .ensures,
-      sums .loss-sum2 .ensures .0,
-      sums .before .loss-sum .ensures .0,
-      sums .before .before .customers-sum .ensures .0,
+      c .before .quotients2 .ensures,
+      c .before .before .minutes-sum2 .ensures .is,
+      c .before .before .before .minutes-sum .ensures .is,
+      c .before .before .before .before .quotients .ensures,
+      sums .loss-sum2 .ensures .is,
+      sums .before .loss-sum .ensures .is,
+      sums .before .before .customers-sum .ensures .is,
     )
 
 pub figures-of-spec : {M : Type 1} → statement M
@@ -55,9 +55,9 @@ figures-of-spec =
     customers-sum-requires
     loss-sum-requires
     loss-sum-requires-2
-    enclosure-of-requires
+    quotients-requires
     minutes-sum-requires
     minutes-sum-requires-2
-    enclosure-of-requires-2
+    quotients-requires-2
     caidi-of-requires
     returns)

@@ -1,39 +1,40 @@
--- `indices::sums::customers_sum` meets its contract. The customers of the loads below j are added (`Summed`).
-use Prim.Native.Nat.{ℕ, _-_}
-use native.Mathlib.Omega.{arith}
-use lib.ListN.{getD}
+-- `indices::sums::customers_sum` meets its contract. The customers of the loads below j are added (`Summed`); the loads left fall.
 use borrow.Author.Needs.{needs}
-use Rattle.rules.specs.Limits.{mostCustomers}
+use Prim.Native.Nat.{ℕ, _-_}
+use mathlib.Core.Path.{_≡_}
+use native.Mathlib.Omega.{arith}
+use lib.ListN.{length, getD}
+use Rattle.rules.specs.Limits.{mostLoads, mostCustomers}
+use Rattle.study.specs.declared.Load.{Load}
 use Rattle.study.specs.Zero.{zeroLoad}
 use Rattle.indices.specs.Figures.{customersSum}
-use Rattle.indices.proofs.Summed.{Summed, summed-start, summed-more, summed-done, summed-most}
+use Rattle.indices.proofs.Front.{front-sum, customers-limit}
+use Rattle.indices.proofs.Summed.{Summed, summed-start, summed-more, summed-fits, summed-done}
 use Rattle.indices.proofs.sums.customers_sum.Statement.{statement}
 use Rattle.indices.proofs.sums.customers_sum.Tie as tie
 
 abbrev Inv-loop : tie.InvT-loop
-Inv-loop n load loads sum₀ j₀ sum j = Summed (λ (j : ℕ). getD load j zeroLoad .customers) mostCustomers loads j sum
+Inv-loop n load loads sum₀ j₀ sum j = Summed (λ (j : ℕ). getD load j zeroLoad .customers) (mostCustomers) loads j sum
 
 abbrev μ-loop : tie.MeasureT-loop
 μ-loop n load loads sum₀ j₀ sum j = loads - j
 
 loop-holds : tie.Need-loop-holds Inv-loop μ-loop
-loop-holds c = summed-start
+loop-holds c =
+    let places : length (c .args .t1) ≡ mostLoads = search needs in
+    summed-start (c .pre .0) (λ k h. customers-limit (c .args .t1) (c .args .n) places (c .pre .0) (c .pre .1) k h)
 
 mul-l : tie.Need-mul-l Inv-loop μ-loop
 mul-l c = omega arith
 
 array-copy-out-l : tie.Need-array-copy-out-l Inv-loop μ-loop
-array-copy-out-l c = omega (arith, c .before .before .pre .0)
+array-copy-out-l c = omega (arith, c .before .loop .inv .few)
 
 cast-sum : tie.Need-cast-sum Inv-loop μ-loop
 cast-sum c = search needs
 
 add-sum : tie.Need-add-sum Inv-loop μ-loop
-add-sum c =
-    let pre = c .before .before .before .before .pre in
-    let less = c .before .before .loop-test .taken in
-    let more = summed-more (c .before .before .before .loop .inv) less (pre .1 .customers _ less) in
-    record { fits = omega (arith, summed-most more (pre .0)) }
+add-sum c = record { fits = omega (arith, summed-fits (c .before .before .before .loop .inv) (c .before .before .loop-test .taken)) }
 
 add-j : tie.Need-add-j Inv-loop μ-loop
 add-j c = omega arith
@@ -42,14 +43,14 @@ loop-less : tie.Need-loop-less Inv-loop μ-loop
 loop-less c = omega (arith, c .before .before .loop-test .taken)
 
 loop-again : tie.Need-loop-again Inv-loop μ-loop
-loop-again c =
-    let pre = c .before .before .before .before .pre in
-    let less = c .before .before .loop-test .taken in
-    summed-more (c .before .before .before .loop .inv) less (pre .1 .customers _ less)
+loop-again c = summed-more (c .before .before .before .loop .inv) (c .before .before .loop-test .taken)
 
 returns : tie.Need-returns Inv-loop μ-loop
 unfolding customersSum
-returns c = (summed-done (c .before .loop .inv) (c .loop-test .left), summed-most (c .before .loop .inv) (c .before .before .pre .0))
+returns c =
+    let start = c .before .before in
+    let places : length (start .args .t1) ≡ mostLoads = search needs in
+    summed-done (c .before .loop .inv) (c .loop-test .left) (front-sum (start .args .t1) (start .args .n) places (start .pre .0) (λ (j : ℕ) (l : Load). l .customers))
 
 pub customers-sum-spec : {M : Type 1} → statement M
 customers-sum-spec =

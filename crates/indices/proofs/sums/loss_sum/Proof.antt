@@ -1,14 +1,16 @@
--- `indices::sums::loss_sum` meets its contract. The losses of the loads below j, times their customers, are added (`Summed`).
-use Prim.Native.Nat.{ℕ, _-_, _*_}
-use native.Mathlib.Omega.{arith}
-use lib.ListN.{getD}
+-- `indices::sums::loss_sum` meets its contract. The losses of the loads below j, times their customers, are added (`Summed`); the loads left fall.
 use borrow.Author.Needs.{needs}
+use Prim.Native.Nat.{ℕ, _-_, _*_}
+use mathlib.Core.Path.{_≡_}
+use native.Mathlib.Omega.{arith}
+use lib.ListN.{length, getD}
 use Rattle.units.specs.One.{one}
-use Rattle.rules.specs.Limits.{mostCustomers}
+use Rattle.rules.specs.Limits.{mostLoads, mostCustomers}
+use Rattle.study.specs.declared.Load.{Load}
 use Rattle.study.specs.Zero.{zeroLoad}
 use Rattle.indices.specs.Figures.{lossSum}
-use Rattle.indices.proofs.Limits.{loss-limit}
-use Rattle.indices.proofs.Summed.{Summed, summed-start, summed-more, summed-done, summed-most}
+use Rattle.indices.proofs.Front.{front-sum, loss-limit}
+use Rattle.indices.proofs.Summed.{Summed, summed-start, summed-more, summed-fits, summed-done}
 use Rattle.indices.proofs.sums.loss_sum.Statement.{statement}
 use Rattle.indices.proofs.sums.loss_sum.Tie as tie
 
@@ -19,34 +21,30 @@ abbrev μ-loop : tie.MeasureT-loop
 μ-loop n losses load loads sum₀ j₀ sum j = loads - j
 
 loop-holds : tie.Need-loop-holds Inv-loop μ-loop
-loop-holds c = summed-start
+loop-holds c =
+    let places : length (c .args .t2) ≡ mostLoads = search needs in
+    summed-start (c .pre .0) (λ k h. loss-limit (c .args .t2) (c .args .n) places (c .pre .0) (c .pre .1 .0) k h (c .pre .1 .1))
 
 mul-l : tie.Need-mul-l Inv-loop μ-loop
 mul-l c = omega arith
 
 array-copy-out-l : tie.Need-array-copy-out-l Inv-loop μ-loop
-array-copy-out-l c = omega (arith, c .before .before .pre .0)
+array-copy-out-l c = omega (arith, c .before .loop .inv .few)
 
 mul-sum : tie.Need-mul-sum Inv-loop μ-loop
 mul-sum c = search needs
 
 array-read-sum : tie.Need-array-read-sum Inv-loop μ-loop
-array-read-sum c = omega (arith, c .before .loop-test .taken, c .before .before .before .pre .0)
+array-read-sum c = omega (arith, c .before .loop-test .taken, c .before .before .loop .inv .few)
 
 cast-sum : tie.Need-cast-sum Inv-loop μ-loop
 cast-sum c = search needs
 
 mul-sum-2 : tie.Need-mul-sum-2 Inv-loop μ-loop
-mul-sum-2 c =
-    let pre = c .before .before .before .before .pre in
-    record { fits = omega (arith, loss-limit (pre .1 .0) (pre .1 .1) (c .before .before .loop-test .taken)) }
+mul-sum-2 c = record { fits = omega (arith, c .before .before .before .loop .inv .limit _ (c .before .before .loop-test .taken)) }
 
 add-sum : tie.Need-add-sum Inv-loop μ-loop
-add-sum c =
-    let pre = c .before .before .before .before .pre in
-    let less = c .before .before .loop-test .taken in
-    let more = summed-more (c .before .before .before .loop .inv) less (loss-limit (pre .1 .0) (pre .1 .1) less) in
-    record { fits = omega (arith, summed-most more (pre .0)) }
+add-sum c = record { fits = omega (arith, summed-fits (c .before .before .before .loop .inv) (c .before .before .loop-test .taken)) }
 
 add-j : tie.Need-add-j Inv-loop μ-loop
 add-j c = omega arith
@@ -55,14 +53,14 @@ loop-less : tie.Need-loop-less Inv-loop μ-loop
 loop-less c = omega (arith, c .before .before .loop-test .taken)
 
 loop-again : tie.Need-loop-again Inv-loop μ-loop
-loop-again c =
-    let pre = c .before .before .before .before .pre in
-    let less = c .before .before .loop-test .taken in
-    summed-more (c .before .before .before .loop .inv) less (loss-limit (pre .1 .0) (pre .1 .1) less)
+loop-again c = summed-more (c .before .before .before .loop .inv) (c .before .before .loop-test .taken)
 
 returns : tie.Need-returns Inv-loop μ-loop
 unfolding lossSum
-returns c = (summed-done (c .before .loop .inv) (c .loop-test .left), summed-most (c .before .loop .inv) (c .before .before .pre .0))
+returns c =
+    let start = c .before .before in
+    let places : length (start .args .t2) ≡ mostLoads = search needs in
+    summed-done (c .before .loop .inv) (c .loop-test .left) (front-sum (start .args .t2) (start .args .n) places (start .pre .0) (λ (j : ℕ) (l : Load). getD (start .args .t1) j 0 * l .customers))
 
 pub loss-sum-spec : {M : Type 1} → statement M
 loss-sum-spec =

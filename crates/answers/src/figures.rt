@@ -1,0 +1,21 @@
+// The interruption figures.
+use crate::bounds::Enclosure;
+
+// CAIDI in whole minutes: a pair of bounds, or not stated.
+pub enum Caidi {
+    Bounds(Enclosure),
+    NotStated,
+}
+
+// SAIFI in units, SAIDI in billionths of a minute, CAIDI.
+pub struct Figures {
+    pub saifi: Enclosure,
+    pub saidi: Enclosure,
+    pub caidi: Caidi,
+}
+
+// The figures, or the refusal.
+pub enum FiguresAnswer {
+    Figures(Figures),
+    Refused(u8),
+}
