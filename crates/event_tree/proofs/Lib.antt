@@ -3,3 +3,4 @@ pub mod Compared
 pub mod Counted
 pub mod Fork
 pub mod Listed
+pub mod Need

@@ -2,8 +2,9 @@
 // here. Not for callers from outside: those call `planning`.
 mod blank;
 mod count;
+mod lent;
 mod list;
 mod marks;
 
-pub use count::count_paths;
-pub use list::list_paths;
+pub use lent::list_all;
+pub use lent::list_lent;

@@ -9,6 +9,7 @@ use Rattle.lists.proofs.Maps.{getD-map-inside}
 use Rattle.lists.proofs.Writing.{Writing, writing-start, writing-more, writing-room, writing-done}
 use Rattle.probability.specs.Bounded.{Boundable, Bounded}
 use Rattle.probability.specs.Bounds.{pathBound}
+use Rattle.units.specs.Rounding.{up}
 use Rattle.entries.specs.Entries.{entryAt, entriesOf}
 use Rattle.probability.specs.Totals.{pathBounds}
 use Rattle.entries.proofs.Entries.{entries-long, entry-is}
@@ -31,12 +32,13 @@ module _ (rounding : ℕ) (probabilities : List ℕ) (n : ℕ) (list : List ℕ)
       ∙ sym (getD-map-inside (pathBound rounding probabilities n) (entriesOf n paths list) k [] 0 (rw (entries-long n paths list) h))
 
 pub record Bounding (rounding : ℕ) (probabilities : List ℕ) (n : ℕ) (list : List ℕ) (paths : ℕ) (d₀ : List ℕ) (k : ℕ) (d : List ℕ) : Type 0 where
-  pub known : Boundable rounding probabilities n list paths
+  pub rounds : rounding ≤ up
+  pub known : Boundable probabilities n list paths
   pub writing : Writing (bounds rounding probabilities n list paths) d₀ 0 k d k
 
 module _ {rounding : ℕ} {probabilities : List ℕ} {n : ℕ} {list : List ℕ} {paths : ℕ} {d₀ : List ℕ} where
-  pub bounding-start : Boundable rounding probabilities n list paths → paths ≤ length d₀ → Bounding rounding probabilities n list paths d₀ 0 d₀
-  bounding-start known room = record { known = known; writing = writing-start (omega (arith, bounds-long rounding probabilities n list paths, room)) }
+  pub bounding-start : rounding ≤ up → Boundable probabilities n list paths → paths ≤ length d₀ → Bounding rounding probabilities n list paths d₀ 0 d₀
+  bounding-start rounds known room = record { rounds = rounds; known = known; writing = writing-start (omega (arith, bounds-long rounding probabilities n list paths, room)) }
 
   pub bounding-room : {k : ℕ} {d : List ℕ} → Bounding rounding probabilities n list paths d₀ k d → k < paths → k < length d
   bounding-room w h = writing-room (w .writing) (omega (arith, bounds-long rounding probabilities n list paths, h))
@@ -44,7 +46,7 @@ module _ {rounding : ℕ} {probabilities : List ℕ} {n : ℕ} {list : List ℕ}
   pub bounding-more : {k r : ℕ} {d : List ℕ} → Bounding rounding probabilities n list paths d₀ k d → k < paths
       → Bounded rounding probabilities n (entryAt n list k) r → Bounding rounding probabilities n list paths d₀ (k + 1) (set d k r)
   bounding-more w h bounded =
-      record { known = w .known; writing = writing-more (w .writing) (omega (arith, bounds-long rounding probabilities n list paths, h)) (bound-is rounding probabilities n list paths h bounded) }
+      record { rounds = w .rounds; known = w .known; writing = writing-more (w .writing) (omega (arith, bounds-long rounding probabilities n list paths, h)) (bound-is rounding probabilities n list paths h bounded) }
 
   pub bounding-done : {k : ℕ} {d : List ℕ} → Bounding rounding probabilities n list paths d₀ k d → paths ≤ k → d ≡ put d₀ 0 (bounds rounding probabilities n list paths)
   bounding-done w h = writing-done (w .writing) (omega (arith, bounds-long rounding probabilities n list paths, h))

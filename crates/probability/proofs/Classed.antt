@@ -13,6 +13,7 @@ use Rattle.lists.specs.Rows.{put}
 use Rattle.lists.proofs.Fronts.{getD-put, put-over}
 use Rattle.lists.proofs.Puts.{put-set, put-size}
 use Rattle.lists.proofs.Tabulated.{length-tabulate, getD-tabulate, tabulate-alike, tabulate-set}
+use Rattle.units.specs.Rounding.{up}
 use Rattle.entries.specs.Entries.{classPlaces, classBorne, entryAt, entriesOf}
 use Rattle.probability.specs.Bounded.{Boundable, Bounded}
 use Rattle.probability.specs.Bounds.{pathBound, total}
@@ -66,7 +67,8 @@ module _ (rounding most : ℕ) (probabilities : List ℕ) (n : ℕ) where
       there c other = rw (next c, ne-eqb class c (λ e. other (sym e)), add-zero) refl
 
 pub record Classed (rounding most : ℕ) (probabilities : List ℕ) (n : ℕ) (list : List ℕ) (paths : ℕ) (d₀ : List ℕ) (k : ℕ) (d : List ℕ) : Type 0 where
-  pub known : Boundable rounding probabilities n list paths
+  pub rounds : rounding ≤ up
+  pub known : Boundable probabilities n list paths
   pub limit : most ≤ sumsMost
   pub inside : k ≤ paths
   pub room : classPlaces ≤ length d₀
@@ -77,8 +79,8 @@ unfolding classTotals
 totals-long rounding most probabilities n entries = length-tabulate (at rounding most probabilities n entries) classPlaces
 
 module _ {rounding most : ℕ} {probabilities : List ℕ} {n : ℕ} {list : List ℕ} {paths : ℕ} {d₀ : List ℕ} where
-  pub classed-start : {d : List ℕ} → Boundable rounding probabilities n list paths → most ≤ sumsMost → classPlaces ≤ length d₀ → d ≡ put d₀ 0 noTotals → Classed rounding most probabilities n list paths d₀ 0 d
-  classed-start {d} known limit room e = record { known = known; limit = limit; inside = omega arith; room = room; made = rw (totals-none rounding most probabilities n) e }
+  pub classed-start : {d : List ℕ} → rounding ≤ up → Boundable probabilities n list paths → most ≤ sumsMost → classPlaces ≤ length d₀ → d ≡ put d₀ 0 noTotals → Classed rounding most probabilities n list paths d₀ 0 d
+  classed-start {d} rounds known limit room e = record { rounds = rounds; known = known; limit = limit; inside = omega arith; room = room; made = rw (totals-none rounding most probabilities n) e }
 
   pub classed-size : {k : ℕ} {d : List ℕ} → Classed rounding most probabilities n list paths d₀ k d → length d ≡ length d₀
   classed-size {k} {d} c =
@@ -112,6 +114,7 @@ module _ {rounding most : ℕ} {probabilities : List ℕ} {n : ℕ} {list : List
       let totals = classTotals rounding most probabilities n (take k entries) in
       let value : r ≡ min most (at rounding most probabilities n (take k entries) class + bound) = e ∙ ap (λ (v : ℕ). min most (v + bound)) (classed-at class c small) in
       record {
+        rounds = c .rounds;
         known = c .known;
         limit = c .limit;
         inside = omega arith;

@@ -11,6 +11,7 @@ use Rattle.lists.specs.Bits.{digit, bit}
 use Rattle.lists.specs.Counting.{counted}
 use Rattle.lists.proofs.Tabulated.{length-tabulate, getD-tabulate, tabulated, tabulate-alike}
 use Rattle.rules.specs.Limits.{mostLoads}
+use Rattle.units.specs.Rounding.{up}
 use Rattle.entries.specs.Entries.{classBorne, entryAt, entriesOf}
 use Rattle.probability.specs.Bounded.{Boundable, Bounded}
 use Rattle.probability.specs.Bounds.{pathBound, total}
@@ -64,14 +65,15 @@ module _ (rounding most : ℕ) (probabilities : List ℕ) (n : ℕ) where
           ∙ ap (min most) (sym (rw (← is-class, ← is-bound) at (total-next rounding probabilities n (λ (c : ℕ). bit c j) entries k h)))
 
 pub record Loaded (rounding most : ℕ) (probabilities : List ℕ) (n : ℕ) (list : List ℕ) (paths k : ℕ) (totals : List ℕ) : Type 0 where
-  pub known : Boundable rounding probabilities n list paths
+  pub rounds : rounding ≤ up
+  pub known : Boundable probabilities n list paths
   pub limit : most ≤ sumsMost
   pub inside : k ≤ paths
   pub made : totals ≡ loadTotals rounding most probabilities n (take k (entriesOf n paths list))
 
 module _ {rounding most : ℕ} {probabilities : List ℕ} {n : ℕ} {list : List ℕ} {paths : ℕ} where
-  pub loaded-start : Boundable rounding probabilities n list paths → most ≤ sumsMost → Loaded rounding most probabilities n list paths 0 (replicate mostLoads 0)
-  loaded-start known limit = record { known = known; limit = limit; inside = omega arith; made = sym (loads-none rounding most probabilities n) }
+  pub loaded-start : rounding ≤ up → Boundable probabilities n list paths → most ≤ sumsMost → Loaded rounding most probabilities n list paths 0 (replicate mostLoads 0)
+  loaded-start rounds known limit = record { rounds = rounds; known = known; limit = limit; inside = omega arith; made = sym (loads-none rounding most probabilities n) }
 
   pub loaded-most : {k : ℕ} {totals : List ℕ} → Loaded rounding most probabilities n list paths k totals → (j : ℕ) → j < mostLoads → getD totals j 0 ≤ sumsMost
   unfolding loadTotals
@@ -89,7 +91,7 @@ module _ {rounding most : ℕ} {probabilities : List ℕ} {n : ℕ} {list : List
       let next =
       loads-next rounding most probabilities n entries k class bound (rw (entries-long n paths list) h) (is-class ∙ ap (classBorne n) same)
       (bounded .is ∙ ap (pathBound rounding probabilities n) same) in
-      record { known = l .known; limit = l .limit; inside = omega arith; made = e ∙ ap (λ (x : List ℕ). withPath most x class bound) (l .made) ∙ next }
+      record { rounds = l .rounds; known = l .known; limit = l .limit; inside = omega arith; made = e ∙ ap (λ (x : List ℕ). withPath most x class bound) (l .made) ∙ next }
 
   pub loaded-done : {k : ℕ} {totals : List ℕ} → Loaded rounding most probabilities n list paths k totals → paths ≤ k
       → totals ≡ loadTotals rounding most probabilities n (entriesOf n paths list)

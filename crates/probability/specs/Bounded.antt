@@ -3,14 +3,12 @@ use Prim.Native.Nat.{ℕ, _≤_}
 use mathlib.Core.Path.{_≡_}
 use mathlib.Core.List.{List}
 use Rattle.units.specs.One.{one}
-use Rattle.units.specs.Rounding.{up}
 use Rattle.entries.specs.Lists.{PathList}
 use Rattle.probability.specs.Bounds.{pathBound}
 use Rattle.probability.specs.Probabilities.{AtMostOne}
 
 -- a table of probabilities beside a list of so many paths
-pub record Boundable (rounding : ℕ) (probabilities : List ℕ) (n : ℕ) (list : List ℕ) (paths : ℕ) : Type 0 where
-  pub rounds : rounding ≤ up
+pub record Boundable (probabilities : List ℕ) (n : ℕ) (list : List ℕ) (paths : ℕ) : Type 0 where
   pub table : AtMostOne probabilities
   pub room : PathList n paths list
 

@@ -6,6 +6,7 @@ mod totals;
 
 pub use path::bound_at;
 pub use path::path_bound;
+pub use probabilities::first_components;
 pub use totals::SUMS_MOST;
 pub use totals::class_totals;
 pub use totals::load_totals;

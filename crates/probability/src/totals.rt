@@ -11,6 +11,7 @@ ghost use Rattle.lists.specs.Bits.{bit};
 ghost use Rattle.lists.specs.Counting.{counted};
 ghost use Rattle.lists.specs.Rows.{put};
 ghost use Rattle.units.specs.One.{one};
+ghost use Rattle.units.specs.Rounding.{up};
 ghost use Rattle.rules.specs.Limits.{mostLoads};
 ghost use Rattle.probability.specs.Bounded.{Boundable};
 ghost use Rattle.entries.specs.Entries.{classPlaces, entriesOf};
@@ -28,7 +29,8 @@ pub fn path_bounds(
     paths: usize,
     out: &mut [u64],
 )
-    requires { ⌜ Boundable rounding (now probabilities) n (now list) paths ⌝ }
+    requires { ⌜ rounding ≤ up ⌝ }
+    requires { ⌜ Boundable (now probabilities) n (now list) paths ⌝ }
     requires { ⌜ paths ≤ length (now out) ⌝ }
     ensures { λ r. ⌜ now (out .exit) ≡ put (now (out .entry)) 0 (pathBounds rounding (now (probabilities .entry)) n (entriesOf n paths (now (list .entry)))) ⌝ }
 {
@@ -74,7 +76,8 @@ fn add_paths(
     paths: usize,
     out: &mut [u64],
 )
-    requires { ⌜ Boundable rounding (now probabilities) n (now list) paths ⌝ }
+    requires { ⌜ rounding ≤ up ⌝ }
+    requires { ⌜ Boundable (now probabilities) n (now list) paths ⌝ }
     requires { ⌜ most ≤ sumsMost ⌝ }
     requires { ⌜ classPlaces ≤ length (now out) ⌝ }
     requires { ⌜ now out ≡ put (now out) 0 noTotals ⌝ }
@@ -99,7 +102,8 @@ pub fn class_totals(
     paths: usize,
     out: &mut [u64],
 )
-    requires { ⌜ Boundable rounding (now probabilities) n (now list) paths ⌝ }
+    requires { ⌜ rounding ≤ up ⌝ }
+    requires { ⌜ Boundable (now probabilities) n (now list) paths ⌝ }
     requires { ⌜ most ≤ sumsMost ⌝ }
     requires { ⌜ classPlaces ≤ length (now out) ⌝ }
     ensures { λ r. ⌜ now (out .exit) ≡ put (now (out .entry)) 0 (classTotals rounding most (now (probabilities .entry)) n (entriesOf n paths (now (list .entry)))) ⌝ }
@@ -143,7 +147,8 @@ pub fn load_totals(
     list: &[u8],
     paths: usize,
 ) -> [u64; LOAD_PLACES]
-    requires { ⌜ Boundable rounding (now probabilities) n (now list) paths ⌝ }
+    requires { ⌜ rounding ≤ up ⌝ }
+    requires { ⌜ Boundable (now probabilities) n (now list) paths ⌝ }
     requires { ⌜ most ≤ sumsMost ⌝ }
     ensures { λ r. ⌜ r ≡ loadTotals rounding most (now (probabilities .entry)) n (entriesOf n paths (now (list .entry))) ⌝ }
 {

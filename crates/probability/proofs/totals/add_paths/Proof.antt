@@ -16,7 +16,7 @@ abbrev μ-loop : tie.MeasureT-loop
 loop-holds : tie.Need-loop-holds Inv-loop μ-loop
 loop-holds c =
     let pre = c .before .before .before .pre in
-    classed-start (pre .0) (pre .1 .0) (pre .1 .1 .0) (pre .1 .1 .1)
+    classed-start (pre .0) (pre .1 .0) (pre .1 .1 .0) (pre .1 .1 .1 .0) (pre .1 .1 .1 .1)
 
 class-at-requires : tie.Need-class-at-requires Inv-loop μ-loop
 class-at-requires c κs = entry-in (c .before .loop .inv .known .room) (c .loop-test .taken)
@@ -25,7 +25,7 @@ cast-class : tie.Need-cast-class Inv-loop μ-loop
 cast-class c = omega arith
 
 bound-at-requires : tie.Need-bound-at-requires Inv-loop μ-loop
-bound-at-requires c κs = boundable-at (c .before .before .loop .inv .known) (c .before .loop-test .taken)
+bound-at-requires c κs = boundable-at (c .before .before .loop .inv .rounds) (c .before .before .loop .inv .known) (c .before .loop-test .taken)
 
 mul-sum-at-most : tie.Need-mul-sum-at-most Inv-loop μ-loop
 mul-sum-at-most c = record { fits = omega arith }

@@ -11,8 +11,8 @@ add-paths-requires : tie.Need-add-paths-requires
 add-paths-requires c κs =
     let begin = c .before .before .before in
     let pre = begin .before .before .before .before .before .pre in
-    let none = cleared _ _ (pre .1 .1) (begin .clear .ensures) in
-    (pre .0, (pre .1 .0, (none .room, none .none)))
+    let none = cleared _ _ (pre .1 .1 .1) (begin .clear .ensures) in
+    (pre .0, (pre .1 .0, (pre .1 .1 .0, (none .room, none .none))))
 
 same-length : tie.Need-same-length
 same-length c = search needs

@@ -14,13 +14,13 @@ abbrev μ-loop : tie.MeasureT-loop
 μ-loop rounding most probabilities n list paths totals₀ k₀ totals k = paths - k
 
 loop-holds : tie.Need-loop-holds Inv-loop μ-loop
-loop-holds c = loaded-start (c .before .before .pre .0) (c .before .before .pre .1)
+loop-holds c = loaded-start (c .before .before .pre .0) (c .before .before .pre .1 .0) (c .before .before .pre .1 .1)
 
 class-at-requires : tie.Need-class-at-requires Inv-loop μ-loop
 class-at-requires c κs = entry-in (c .before .loop .inv .known .room) (c .loop-test .taken)
 
 bound-at-requires : tie.Need-bound-at-requires Inv-loop μ-loop
-bound-at-requires c κs = boundable-at (c .before .before .loop .inv .known) (c .before .loop-test .taken)
+bound-at-requires c κs = boundable-at (c .before .before .loop .inv .rounds) (c .before .before .loop .inv .known) (c .before .loop-test .taken)
 
 with-path-requires : tie.Need-with-path-requires Inv-loop μ-loop
 with-path-requires c κs = (loaded-most (c .before .before .before .loop .inv), c .bound-at .ensures .most)

@@ -13,10 +13,12 @@ abbrev μ-loop : tie.MeasureT-loop
 μ-loop rounding probabilities n list paths out₀ k₀ out k = paths - k
 
 loop-holds : tie.Need-loop-holds Inv-loop μ-loop
-loop-holds c = bounding-start (c .before .before .before .pre .0) (c .before .before .before .pre .1)
+loop-holds c = 
+    let pre = c .before .before .before .pre in
+    bounding-start (pre .0) (pre .1 .0) (pre .1 .1)
 
 bound-at-requires : tie.Need-bound-at-requires Inv-loop μ-loop
-bound-at-requires c κs = boundable-at (c .before .loop .inv .known) (c .loop-test .taken)
+bound-at-requires c κs = boundable-at (c .before .loop .inv .rounds) (c .before .loop .inv .known) (c .loop-test .taken)
 
 mul-out : tie.Need-mul-out Inv-loop μ-loop
 mul-out c = omega (arith, c .before .loop-test .taken, c .before .before .loop .inv .known .room .few)
