@@ -2,17 +2,12 @@
 -- lacks has probability 0.
 use Prim.Native.Nat.{ℕ, zero, suc, _+_, _<_, _≤_}
 use mathlib.Core.Path.{_≡_, refl}
-use mathlib.Core.Bool.{Bool, true, false}
 use native.Mathlib.Omega.{arith}
-use lib.Dec.{leb, eqb}
 use lib.ListN.{length, getD}
-use borrow.Author.Tests.{leb-false, eqb-true}
 use Rattle.lists.specs.Counting.{sum}
 use Rattle.units.specs.One.{one}
-use Rattle.rules.specs.Breach.{given}
 use Rattle.rules.specs.Limits.{mostComponents, fewestStates, mostStates}
-use Rattle.rules.specs.Table.{noStateFault}
-use Rattle.rules.proofs.Kept.{refuse-kept}
+use Rattle.rules.proofs.Rows.{lacked-kept}
 use Rattle.study.specs.declared.Component.{Component}
 use Rattle.study.specs.declared.Study.{Study}
 use Rattle.study.specs.Joint.{stateCounts}
@@ -21,15 +16,6 @@ use Rattle.probability.specs.Chances.{chance}
 use Rattle.accuracy.specs.Accuracy.{Chanced}
 use Rattle.soundness.specs.Sound.{Sound}
 use Rattle.soundness.proofs.Ranges.{components-most, counts-few, count-at, count-least, count-most, chances-sum}
-
--- a state that a component lacks has probability 0
-lacking : (states state p : ℕ) → given 0 p (noStateFault states state) ≡ 0 → states ≤ state → p ≡ 0
-unfolding given
-lacking states state p rule lacks = go (eqb p 0) refl
-  where
-    go : (b : Bool) → eqb p 0 ≡ b → p ≡ 0
-    go true none = eqb-true p 0 none
-    go false some = absurd (omega (arith, leb-false states state (refuse-kept 4 (leb states state) (rw some at rule))))
 
 -- the chances of n states sum to one where the others have probability 0
 states-whole : (c : Component) (n : ℕ) → fewestStates ≤ n → n ≤ mostStates → c .p1 + c .p2 + c .p3 ≤ one → (n ≤ 2 → c .p2 ≡ 0) → (n ≤ 3 → c .p3 ≡ 0)
@@ -59,5 +45,5 @@ study-chanced t s twelve =
         let rules = s .component k h in
         let count = count-at t s k h in
         states-whole c (getD (stateCounts t) k 0) (count-least t s k h) (count-most t s k h) (chances-sum t s k (omega (arith, components-most t s)))
-        (λ few. lacking (c .states) 2 (c .p2) (rules .state2) (omega (arith, count)))
-        (λ few. lacking (c .states) 3 (c .p3) (rules .state3) (omega (arith, count)))
+        (λ few. lacked-kept (c .states) 2 (c .p2) (rules .state2) (omega (arith, count)))
+        (λ few. lacked-kept (c .states) 3 (c .p3) (rules .state3) (omega (arith, count)))

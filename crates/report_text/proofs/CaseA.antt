@@ -6,7 +6,7 @@ use Rattle.lists.specs.Run.{each}
 use Rattle.lists.specs.Tabulate.{tabulate}
 use Rattle.units.specs.Rounding.{scale, quotientDown, quotientUp}
 use Rattle.lists.specs.Product.{product}
-use Rattle.rules.specs.Breach.{refuse, outside, first, firstBreach, firstOf, given}
+use Rattle.rules.specs.Breach.{refuse, outside, first, firstBreach, firstOf, unlessAbsent}
 use Rattle.soundness.specs.Check.{probabilitiesFault, componentFault, unusedComponentFault, testPlaceFault, testsFault, inputPlaceFault, gateInputsFault, inputPlacesFault, gateFault, unusedGateFault, loadFault, unusedLoadFault, componentPlaceFault, componentsFault, gatePlaceFault, gatesFault, loadPlaceFault, loadsFault, frontFault, restFault, sound}
 use Rattle.reading.specs.Reader.{byte, word}
 use Rattle.reading.specs.Fields.{mapByte}
@@ -39,7 +39,7 @@ use Rattle.report_text.specs.Report.{studyPaths, studyClasses, studyLoss
 use Rattle.report_text.specs.CaseA.{CaseA, OverOne}
 
 pub case-a : CaseA
-unfolding each product refuse outside byte word mapByte stateCount probability componentField component threshold inputsByte test tests input inputs gateField gate lossGate size customers minutes loadField load count componentAfter componentRecord records study refusedOpening answer opened absentGate zeroGate noComponents noGates noLoads zeroStudy sum allBelow countTrue same divided jointStates isBlank mark ways branches paths trueTests trueGates gateTrue withTruth gateTruths lost classBy classOf classes pathList sumOver joined tabulate scale chanceTable factored pathBound total pathBounds quotientDown quotientUp customersSum lossSum minutesSum caidi figuresOf figuresBy field numberLine boundsEnd boundsLine itemLine decimalWithin decimal refusalWords refusalWord first firstBreach figuresFault figuresGiven markBytes entryLine pathLine pathLines bearing allBearing classLine classLines loadLine loadLines caidiLine tripleLines figureLines studyPaths studyClasses studyLosses studyText refusedText textBy reportText firstOf given probabilitiesFault componentFault unusedComponentFault testPlaceFault testsFault inputPlaceFault gateInputsFault inputPlacesFault gateFault unusedGateFault loadFault unusedLoadFault componentPlaceFault componentsFault gatePlaceFault gatesFault loadPlaceFault loadsFault frontFault restFault sound
+unfolding each product refuse outside byte word mapByte stateCount probability componentField component threshold inputsByte test tests input inputs gateField gate lossGate size customers minutes loadField load count componentAfter componentRecord records study refusedOpening answer opened absentGate zeroGate noComponents noGates noLoads zeroStudy sum allBelow countTrue same divided jointStates isBlank mark ways branches paths trueTests trueGates gateTrue withTruth gateTruths lost classBy classOf classes pathList sumOver joined tabulate scale chanceTable factored pathBound total pathBounds quotientDown quotientUp customersSum lossSum minutesSum caidi figuresOf figuresBy field numberLine boundsEnd boundsLine itemLine decimalWithin decimal refusalWords refusalWord first firstBreach figuresFault figuresGiven markBytes entryLine pathLine pathLines bearing allBearing classLine classLines loadLine loadLines caidiLine tripleLines figureLines studyPaths studyClasses studyLosses studyText refusedText textBy reportText firstOf unlessAbsent probabilitiesFault componentFault unusedComponentFault testPlaceFault testsFault inputPlaceFault gateInputsFault inputPlacesFault gateFault unusedGateFault loadFault unusedLoadFault componentPlaceFault componentsFault gatePlaceFault gatesFault loadPlaceFault loadsFault frontFault restFault sound
 case-a = refl
 
 pub over-one : OverOne

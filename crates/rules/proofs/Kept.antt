@@ -1,13 +1,13 @@
 -- What a breach of 0 tells: the rule behind it is kept. These carry a rule from the refusal table to the facts that a proof needs.
 use Prim.Native.Nat.{ℕ, suc, _<_, _≤_}
-use mathlib.Core.Path.{_≡_, refl, sym}
+use mathlib.Core.Path.{_≡_, refl, sym, _∙_}
 use mathlib.Core.Bool.{Bool, true, false, cond, true≢false}
 use mathlib.Core.List.{List, [], _∷_}
+use mathlib.Core.Logic.{_⊎_, inl, inr}
 use native.Mathlib.Omega.{arith}
 use lib.Dec.{eqb, ltb}
 use borrow.Author.Tests.{eq-eqb, ne-eqb, lt-ltb, le-ltb, ltb-true, ltb-false, eqb-true, eqb-false}
-use Rattle.rules.specs.Breach.{refuse, first, firstBreach, outside, given, inUse}
-use Rattle.rules.specs.Table.{unusedFault}
+use Rattle.rules.specs.Breach.{refuse, first, firstBreach, outside, unlessAbsent, inUse}
 
 -- neither of two is a breach
 pub record Neither (a b : ℕ) : Type 0 where
@@ -45,6 +45,17 @@ first-assoc a b c = go (eqb a 0) refl
     go true t = rw t
     go false t = rw (t, t)
 
+-- nothing is judged after the last
+pub first-last : (a : ℕ) → first a 0 ≡ a
+unfolding first
+first-last a = go (eqb a 0) refl
+  where
+    go : (t : Bool) → eqb a 0 ≡ t → first a 0 ≡ a
+    go true t = rw t (sym (eqb-true a 0 t))
+    go false t = rw t
+
+-- ---- lists of breaches
+
 -- no breach in a list: none at its front, and none behind it
 pub list-kept : (b : ℕ) (bs : List ℕ) → firstBreach (b ∷ bs) ≡ 0 → Neither b (firstBreach bs)
 unfolding firstBreach
@@ -58,14 +69,38 @@ pub none-none : firstBreach [] ≡ 0
 unfolding firstBreach
 none-none = refl
 
--- nothing is judged after the last
-pub first-last : (a : ℕ) → first a 0 ≡ a
-unfolding first
-first-last a = go (eqb a 0) refl
-  where
-    go : (t : Bool) → eqb a 0 ≡ t → first a 0 ≡ a
-    go true t = rw t (sym (eqb-true a 0 t))
-    go false t = rw t
+-- a list as code judges it: each breach before those behind it, up to the last; `simp (list-more, list-last)` writes any list so
+pub list-more : (a b : ℕ) (bs : List ℕ) → firstBreach (a ∷ b ∷ bs) ≡ first a (firstBreach (b ∷ bs))
+unfolding firstBreach
+list-more a b bs = refl
+
+pub list-last : (a : ℕ) → firstBreach (a ∷ []) ≡ a
+unfolding firstBreach
+list-last a = first-last a
+
+-- a breach found at the front is the first of the list, whatever follows
+pub front-broken : {fault b : ℕ} (bs : List ℕ) → fault ≡ b → (fault ≡ 0 → ⊥) → fault ≡ firstBreach (b ∷ bs)
+unfolding firstBreach
+front-broken {fault} {b} bs e some = e ∙ sym (first-some b (firstBreach bs) (λ none. some (e ∙ none)))
+
+-- with none at the front, the rest decides
+pub front-kept : (b : ℕ) (bs : List ℕ) → b ≡ 0 → firstBreach (b ∷ bs) ≡ firstBreach bs
+unfolding firstBreach
+front-kept b bs none = first-next b (firstBreach bs) none
+
+-- two breaches: the first of both as code finds them, the second where the first is none, and none at all
+pub two-judged : {fault front back a b : ℕ} → fault ≡ first front back → front ≡ a → back ≡ b → fault ≡ firstBreach (a ∷ b ∷ [])
+two-judged {fault} {front} {back} {a} {b} e is-front is-back = rw (list-more, list-last, ← is-front, ← is-back) e
+
+pub second-decides : (a b : ℕ) → a ≡ 0 → firstBreach (a ∷ b ∷ []) ≡ b
+second-decides a b none = front-kept a (b ∷ []) none ∙ list-last b
+
+pub both-kept : (a b : ℕ) → firstBreach (a ∷ b ∷ []) ≡ 0 → Neither a b
+both-kept a b none =
+    let front = list-kept a (b ∷ []) none in
+    record { left = front .left; right = sym (list-last b) ∙ front .right }
+
+-- ---- rules
 
 -- the rule of a row is kept
 pub refuse-kept : (n : ℕ) (broken : Bool) → refuse (suc n) broken ≡ 0 → broken ≡ false
@@ -90,18 +125,27 @@ outside-kept lowest highest n e = go (ltb n lowest) refl
 pub range-kept : (row lowest highest n : ℕ) → refuse (suc row) (outside lowest highest n) ≡ 0 → Within lowest highest n
 range-kept row lowest highest n e = outside-kept lowest highest n (refuse-kept row (outside lowest highest n) e)
 
--- a field at its absent value breaks no rule, and neither does one that keeps its own
-pub given-absent : (absent breach : ℕ) → given absent absent breach ≡ 0
-unfolding given
-given-absent absent breach = rw (eq-eqb absent absent refl)
+-- a field that holds its absent value breaks no rule, and neither does one that keeps the rule
+pub absent-none : (absent breach : ℕ) → unlessAbsent absent absent breach ≡ 0
+unfolding unlessAbsent
+absent-none absent breach = rw (eq-eqb absent absent refl)
 
-pub given-kept : (absent value breach : ℕ) → breach ≡ 0 → given absent value breach ≡ 0
-unfolding given
-given-kept absent value breach e = rw e (both (eqb value absent))
+pub unless-none : (absent value breach : ℕ) → breach ≡ 0 → unlessAbsent absent value breach ≡ 0
+unfolding unlessAbsent
+unless-none absent value breach e = rw e (both (eqb value absent))
   where
     both : (b : Bool) → _≡_ {A = ℕ} (cond b 0 0) 0
     both true = refl
     both false = refl
+
+-- without a breach it is the one or the other
+pub unless-kept : (absent value breach : ℕ) → unlessAbsent absent value breach ≡ 0 → (value ≡ absent) ⊎ (breach ≡ 0)
+unfolding unlessAbsent
+unless-kept absent value breach e = go (eqb value absent) refl
+  where
+    go : (b : Bool) → eqb value absent ≡ b → (value ≡ absent) ⊎ (breach ≡ 0)
+    go true same = inl (eqb-true value absent same)
+    go false other = inr (rw other at e)
 
 -- a place in use, and one that is not
 pub used-kept : (count place used unused : ℕ) → place < count → inUse count place used unused ≡ 0 → used ≡ 0
@@ -116,11 +160,3 @@ in-use-none count place used unused below behind = go (ltb place count) refl
     go : (b : Bool) → ltb place count ≡ b → cond b used unused ≡ 0
     go true e = below (ltb-true place count e)
     go false e = behind (ltb-false place count e)
-
--- a place that no record uses holds 0
-pub zero-kept : (n : ℕ) → unusedFault n ≡ 0 → n ≡ 0
-zero-kept n e = omega (arith, ltb-false 0 n (refuse-kept 15 (ltb 0 n) e))
-
-pub zero-none : (n : ℕ) → n ≡ 0 → unusedFault n ≡ 0
-unfolding refuse
-zero-none n e = rw e

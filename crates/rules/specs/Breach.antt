@@ -31,6 +31,6 @@ outside lowest highest n = ltb n lowest || ltb highest n
 abbrev pub inUse : ℕ → ℕ → ℕ → ℕ → ℕ
 inUse count place used unused = cond (ltb place count) used unused
 
--- a field that holds its absent value breaks no rule of a field that is given
-unfoldable pub given : ℕ → ℕ → ℕ → ℕ
-given absent value breach = cond (eqb value absent) 0 breach
+-- the breach, unless the field holds the value that it has where a record leaves it out
+unfoldable pub unlessAbsent : ℕ → ℕ → ℕ → ℕ
+unlessAbsent absent value breach = cond (eqb value absent) 0 breach

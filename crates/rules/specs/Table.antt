@@ -3,8 +3,8 @@ use Prim.Native.Nat.{ℕ, _+_, _-_, _^_}
 use mathlib.Core.Bool.{Bool, not}
 use lib.Dec.{ltb, leb, eqb}
 use Rattle.units.specs.One.{one}
-use Rattle.rules.specs.Limits.{fewestStates, mostStates, mostJointStates}
-use Rattle.rules.specs.Breach.{refuse, outside}
+use Rattle.rules.specs.Limits.{fewestStates, mostStates, mostJointStates, never}
+use Rattle.rules.specs.Breach.{refuse, outside, unlessAbsent}
 
 -- 1 short: the bytes end inside or before a due field
 abbrev pub short : ℕ
@@ -26,6 +26,10 @@ statesFault states = refuse 4 (outside fewestStates mostStates states)
 abbrev pub noStateFault : ℕ → ℕ → ℕ
 noStateFault states state = refuse 5 (leb states state)
 
+-- 5 in a study and in an edit: a probability above 0 for a state that the component lacks
+abbrev pub lackedStateFault : ℕ → ℕ → ℕ → ℕ
+lackedStateFault states state p = unlessAbsent 0 p (noStateFault states state)
+
 -- 6 over one: states 1 to 3 sum above one
 abbrev pub sumFault : ℕ → ℕ → ℕ → ℕ
 sumFault p1 p2 p3 = refuse 6 (ltb one (p1 + p2 + p3))
@@ -37,6 +41,10 @@ widthFault jointStates = refuse 7 (ltb mostJointStates jointStates)
 -- 8 inputs: a count of tests or gates is not 1 to its limit
 abbrev pub inputsFault : ℕ → ℕ → ℕ
 inputsFault most n = refuse 8 (outside 1 most n)
+
+-- 8 in a study, where a gate may have no tests, or no gate inputs: the count is not 0 to its limit
+abbrev pub inputCountFault : ℕ → ℕ → ℕ
+inputCountFault most n = unlessAbsent 0 n (inputsFault most n)
 
 -- 9 no component: a test of a component that is not in the study
 abbrev pub noComponentFault : ℕ → ℕ → ℕ
@@ -57,6 +65,10 @@ thresholdFault inputs threshold = refuse 12 (outside 1 inputs threshold)
 -- 13 no gate: the loss gate is not in the study
 abbrev pub noGateFault : ℕ → ℕ → ℕ
 noGateFault gates gate = refuse 13 (leb gates gate)
+
+-- 13 in a study, where a load may have no loss gate, so that it is never lost: it has one, and that is not in the study
+abbrev pub lossGateFault : ℕ → ℕ → ℕ
+lossGateFault gates gate = unlessAbsent never gate (noGateFault gates gate)
 
 -- 14 load size: customers or minutes above their limit
 abbrev pub sizeFault : ℕ → ℕ → ℕ

@@ -1,7 +1,7 @@
 // A breach is the number of a row of the refusal table, or 0; the first breach decides.
 ghost use mathlib.Core.Path.{_≡_};
-ghost use Rattle.rules.specs.Breach.{outside, inUse};
-ghost use Rattle.rules.specs.Breach.{refuse as Breach·refuse, first as Breach·first, given as Breach·given};
+ghost use Rattle.rules.specs.Breach.{outside, inUse, unlessAbsent};
+ghost use Rattle.rules.specs.Breach.{refuse as Breach·refuse, first as Breach·first};
 
 // The row's number where its rule is broken.
 pub fn refuse(number: u8, broken: bool) -> u8
@@ -17,9 +17,9 @@ pub fn first(a: u8, b: u8) -> u8
     if a == 0 { b } else { a }
 }
 
-// A field that holds its absent value breaks no rule of a field that is given.
-pub fn given(absent: u32, value: u32, breach: u8) -> u8
-    ensures { λ r. ⌜ r ≡ Breach·given absent value breach ⌝ }
+// The breach, unless the field holds the value that it has where a record leaves it out.
+pub fn unless_absent(absent: u32, value: u32, breach: u8) -> u8
+    ensures { λ r. ⌜ r ≡ unlessAbsent absent value breach ⌝ }
 {
     if value == absent { 0 } else { breach }
 }

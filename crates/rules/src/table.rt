@@ -1,13 +1,16 @@
 // The rows of the refusal table from 2 on, one function each: the row's number where its rule is broken, else 0.
 use crate::breach::refuse;
 use crate::breach::refuse_outside;
+use crate::breach::unless_absent;
 use crate::limits::FEWEST_STATES;
 use crate::limits::MOST_JOINT_STATES;
 use crate::limits::MOST_STATES;
+use crate::limits::NEVER;
 ghost use mathlib.Core.Path.{_≡_};
 ghost use Rattle.rules.specs.Table.{countFault, strayFault, statesFault, noStateFault, sumFault, widthFault, inputsFault};
 ghost use Rattle.rules.specs.Table.{noComponentFault, maskFault, aheadFault, thresholdFault, noGateFault, sizeFault, leftFault};
 ghost use Rattle.rules.specs.Table.{unsoundFault, unusedFault, itemFault, roomFault, customersFault};
+ghost use Rattle.rules.specs.Table.{lackedStateFault, inputCountFault, lossGateFault};
 
 // 2 counts
 pub fn count_fault(most: u8, n: u8) -> u8
@@ -37,6 +40,13 @@ pub fn no_state_fault(states: u8, state: u8) -> u8
     refuse(5, states <= state)
 }
 
+// 5 no state, in a study and in an edit
+pub fn lacked_state_fault(states: u8, state: u8, p: u32) -> u8
+    ensures { λ r. ⌜ r ≡ lackedStateFault states state p ⌝ }
+{
+    unless_absent(0, p, no_state_fault(states, state))
+}
+
 // 6 over one: the sum of three numbers of four bytes needs more than four.
 pub fn sum_fault(p1: u32, p2: u32, p3: u32) -> u8
     ensures { λ r. ⌜ r ≡ sumFault p1 p2 p3 ⌝ }
@@ -56,6 +66,13 @@ pub fn inputs_fault(most: u8, n: u8) -> u8
     ensures { λ r. ⌜ r ≡ inputsFault most n ⌝ }
 {
     refuse_outside(8, 1, most as u32, n as u32)
+}
+
+// 8 inputs, in a study
+pub fn input_count_fault(most: u8, n: u8) -> u8
+    ensures { λ r. ⌜ r ≡ inputCountFault most n ⌝ }
+{
+    unless_absent(0, n as u32, inputs_fault(most, n))
 }
 
 // 9 no component
@@ -94,6 +111,13 @@ pub fn no_gate_fault(gates: u8, gate: u8) -> u8
     ensures { λ r. ⌜ r ≡ noGateFault gates gate ⌝ }
 {
     refuse(13, gates <= gate)
+}
+
+// 13 no gate, in a study
+pub fn loss_gate_fault(gates: u8, gate: u8) -> u8
+    ensures { λ r. ⌜ r ≡ lossGateFault gates gate ⌝ }
+{
+    unless_absent(NEVER as u32, gate as u32, no_gate_fault(gates, gate))
 }
 
 // 14 load size

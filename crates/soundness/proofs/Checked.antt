@@ -9,7 +9,8 @@ use lib.ListN.{getD}
 use borrow.Author.Tests.{eqb-true, eq-eqb, not-false}
 use Rattle.rules.specs.Limits.{mostComponents, mostGates, mostLoads, mostTests, mostGateInputs}
 use Rattle.rules.specs.Table.{unsoundFault}
-use Rattle.rules.proofs.Kept.{refuse-kept, first-kept, first-none, list-kept, list-none, none-none, used-kept, unused-kept, in-use-none, zero-kept, zero-none, range-kept}
+use Rattle.rules.proofs.Kept.{refuse-kept, first-kept, first-none, list-kept, list-none, none-none, used-kept, unused-kept, in-use-none, range-kept}
+use Rattle.rules.proofs.Rows.{input-count-kept, zero-kept, zero-none}
 use Rattle.rules.proofs.Firsts.{firstOf-kept, firstOf-none}
 use Rattle.study.specs.declared.Component.{Component}
 use Rattle.study.specs.declared.Gate.{Gate}
@@ -88,15 +89,6 @@ behind-kept counts i g p =
       input = λ j from less. zero-kept _ (unused-kept _ _ _ _ from (p .inputs j less));
     }
 
--- the counts of a gate in use are within its places
-tests-most : (n most : ℕ) → Rattle.rules.specs.Breach.given 0 n (Rattle.rules.specs.Table.inputsFault most n) ≡ 0 → n ≤ most
-unfolding Rattle.rules.specs.Breach.given
-tests-most n most e = go (lib.Dec.eqb n 0) refl
-  where
-    go : (b : Bool) → lib.Dec.eqb n 0 ≡ b → n ≤ most
-    go true z = omega (arith, eqb-true n 0 z)
-    go false z = range-kept 7 1 most n (rw z at e) .most
-
 gate-kept : (counts : List ℕ) (i : ℕ) (g : Gate) → gateFault counts i g ≡ 0 → SoundGate counts i g
 unfolding gateFault testPlaceFault inputPlaceFault
 gate-kept counts i g e =
@@ -104,8 +96,8 @@ gate-kept counts i g e =
     let gates = list-kept _ _ (tests .right) in
     let threshold = list-kept _ _ (gates .right) in
     let places = places-kept counts i g (list-kept _ _ (threshold .right) .left) in
-    let test-room = tests-most (g .tests) mostTests (tests .left) in
-    let gate-room = tests-most (g .gates) mostGateInputs (gates .left) in
+    let test-room = input-count-kept mostTests (g .tests) (tests .left) in
+    let gate-room = input-count-kept mostGateInputs (g .gates) (gates .left) in
     record {
       tests = tests .left;
       gates = gates .left;

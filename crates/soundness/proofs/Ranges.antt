@@ -4,16 +4,14 @@ use mathlib.Core.Path.{_≡_, refl, sym, subst, _∙_}
 use mathlib.Core.Bool.{Bool, true, false}
 use native.Mathlib.Nat.{min-le-left}
 use native.Mathlib.Omega.{arith}
-use lib.Dec.{leb, ltb, eqb}
+use lib.Dec.{ltb}
 use lib.ListN.{length, getD, length-take, length-map, List·getD-map}
 use lib.Seq.{getD-take, length-take-le}
-use borrow.Author.Tests.{leb-false, ltb-true, ltb-false, eqb-true}
+use borrow.Author.Tests.{ltb-true, ltb-false}
 use Rattle.units.specs.One.{one}
 use Rattle.lists.specs.Product.{product}
-use Rattle.rules.specs.Breach.{given}
 use Rattle.rules.specs.Limits.{mostComponents, mostGates, mostLoads, fewestStates, mostStates, mostJointStates, mostTests, mostGateInputs}
-use Rattle.rules.specs.Table.{inputsFault}
-use Rattle.rules.proofs.Kept.{refuse-kept, range-kept}
+use Rattle.rules.proofs.Rows.{count-kept, states-kept, sum-kept, width-kept, input-count-kept, component-kept, ahead-kept}
 use Rattle.study.specs.declared.Component.{Component}
 use Rattle.study.specs.declared.Study.{Study}
 use Rattle.study.specs.Joint.{states, stateCounts}
@@ -21,27 +19,18 @@ use Rattle.study.specs.Places.{componentAt, gateAt}
 use Rattle.study.specs.Zero.{zeroComponent}
 use Rattle.soundness.specs.Sound.{Sound}
 
--- a count of inputs that is in use, or 0
-inputs-most : (most n : ℕ) → given 0 n (inputsFault most n) ≡ 0 → n ≤ most
-unfolding given
-inputs-most most n e = go (eqb n 0) refl
-  where
-    go : (b : Bool) → eqb n 0 ≡ b → n ≤ most
-    go true none = omega (arith, eqb-true n 0 none)
-    go false some = range-kept 7 1 most n (rw some at e) .most
-
 module _ (t : Study) (s : Sound t) where
   pub components-most : t .components ≤ mostComponents
-  components-most = range-kept 1 1 12 (t .components) (s .components) .most
+  components-most = count-kept mostComponents (t .components) (s .components) .most
 
   pub gates-most : t .gates ≤ mostGates
-  gates-most = range-kept 1 1 32 (t .gates) (s .gates) .most
+  gates-most = count-kept mostGates (t .gates) (s .gates) .most
 
   pub loads-most : t .loads ≤ mostLoads
-  loads-most = range-kept 1 1 8 (t .loads) (s .loads) .most
+  loads-most = count-kept mostLoads (t .loads) (s .loads) .most
 
   pub joint-most : product (stateCounts t) ≤ mostJointStates
-  joint-most = ltb-false mostJointStates (product (stateCounts t)) (refuse-kept 6 (ltb mostJointStates (product (stateCounts t))) (s .width))
+  joint-most = width-kept (product (stateCounts t)) (s .width)
 
   pub counts-few : length (stateCounts t) ≤ t .components
   counts-few = rw (length-take (t .components) (states (t .component))) (min-le-left (t .components) (length (states (t .component))))
@@ -55,10 +44,10 @@ module _ (t : Study) (s : Sound t) where
   count-at k h = getD-take (t .components) (states (t .component)) k 0 h ∙ List·getD-map (λ (c : Component). c .states) (t .component) k zeroComponent
 
   pub count-least : (k : ℕ) → k < t .components → fewestStates ≤ getD (stateCounts t) k 0
-  count-least k h = rw (count-at k h) (range-kept 3 2 4 (componentAt t k .states) (s .component k h .states) .least)
+  count-least k h = rw (count-at k h) (states-kept (componentAt t k .states) (s .component k h .states) .least)
 
   pub count-most : (k : ℕ) → k < t .components → getD (stateCounts t) k 0 ≤ mostStates
-  count-most k h = rw (count-at k h) (range-kept 3 2 4 (componentAt t k .states) (s .component k h .states) .most)
+  count-most k h = rw (count-at k h) (states-kept (componentAt t k .states) (s .component k h .states) .most)
 
   -- states 1 to 3 of every component place, in use or not, sum to one at most
   pub chances-sum : (i : ℕ) → i < mostComponents → componentAt t i .p1 + componentAt t i .p2 + componentAt t i .p3 ≤ one
@@ -68,22 +57,19 @@ module _ (t : Study) (s : Sound t) where
       go true used =
           let c = componentAt t i in
           let rule = s .component i (ltb-true i (t .components) used) .sum in
-          ltb-false one (c .p1 + c .p2 + c .p3) (refuse-kept 5 (ltb one (c .p1 + c .p2 + c .p3)) rule)
+          sum-kept (c .p1) (c .p2) (c .p3) rule
       go false unused =
           subst (λ (c : Component). c .p1 + c .p2 + c .p3 ≤ one) (sym (s .no-component i (ltb-false i (t .components) unused) less)) (omega arith)
 
   module _ (i : ℕ) (h : i < t .gates) where
     pub tests-most : gateAt t i .tests ≤ mostTests
-    tests-most = inputs-most mostTests (gateAt t i .tests) (s .gate i h .tests)
+    tests-most = input-count-kept mostTests (gateAt t i .tests) (s .gate i h .tests)
 
     pub gate-inputs-most : gateAt t i .gates ≤ mostGateInputs
-    gate-inputs-most = inputs-most mostGateInputs (gateAt t i .gates) (s .gate i h .gates)
+    gate-inputs-most = input-count-kept mostGateInputs (gateAt t i .gates) (s .gate i h .gates)
 
     pub test-component : (j : ℕ) → j < gateAt t i .tests → getD (gateAt t i .component) j 0 < length (stateCounts t)
-    test-component j less =
-        leb-false (length (stateCounts t)) (getD (gateAt t i .component) j 0)
-        (refuse-kept 8 (leb (length (stateCounts t)) (getD (gateAt t i .component) j 0)) (s .gate i h .component j less))
+    test-component j less = component-kept (length (stateCounts t)) (getD (gateAt t i .component) j 0) (s .gate i h .component j less)
 
     pub input-lower : (j : ℕ) → j < gateAt t i .gates → getD (gateAt t i .input) j 0 < i
-    input-lower j less =
-        leb-false i (getD (gateAt t i .input) j 0) (refuse-kept 10 (leb i (getD (gateAt t i .input) j 0)) (s .gate i h .input j less))
+    input-lower j less = ahead-kept i (getD (gateAt t i .input) j 0) (s .gate i h .input j less)

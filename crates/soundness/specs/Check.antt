@@ -6,10 +6,10 @@ use mathlib.Core.List.{List, [], _∷_}
 use lib.Dec.{eqb}
 use lib.ListN.{length, getD}
 use Rattle.lists.specs.Product.{product}
-use Rattle.rules.specs.Breach.{firstBreach, first, firstOf, given, inUse}
-use Rattle.rules.specs.Limits.{mostComponents, mostGates, mostLoads, mostTests, mostGateInputs, mostCustomers, mostMinutes, never}
-use Rattle.rules.specs.Table.{countFault, statesFault, noStateFault, sumFault, widthFault, inputsFault, noComponentFault, maskFault}
-use Rattle.rules.specs.Table.{aheadFault, thresholdFault, noGateFault, sizeFault, unusedFault}
+use Rattle.rules.specs.Breach.{firstBreach, first, firstOf, inUse}
+use Rattle.rules.specs.Limits.{mostComponents, mostGates, mostLoads, mostTests, mostGateInputs, mostCustomers, mostMinutes}
+use Rattle.rules.specs.Table.{countFault, statesFault, lackedStateFault, sumFault, widthFault, inputCountFault, noComponentFault, maskFault}
+use Rattle.rules.specs.Table.{aheadFault, thresholdFault, lossGateFault, sizeFault, unusedFault}
 use Rattle.study.specs.declared.Component.{Component}
 use Rattle.study.specs.declared.Gate.{Gate}
 use Rattle.study.specs.declared.Load.{Load}
@@ -23,9 +23,9 @@ use Rattle.study.specs.Zero.{zeroComponent, zeroLoad}
 unfoldable pub probabilitiesFault : ℕ → ℕ → ℕ → ℕ → ℕ
 probabilitiesFault states p1 p2 p3 =
     firstBreach (
-    given 0 p1 (noStateFault states 1)
-    ∷ given 0 p2 (noStateFault states 2)
-    ∷ given 0 p3 (noStateFault states 3)
+    lackedStateFault states 1 p1
+    ∷ lackedStateFault states 2 p2
+    ∷ lackedStateFault states 3 p3
     ∷ sumFault p1 p2 p3
     ∷ []
     )
@@ -62,8 +62,8 @@ inputPlacesFault counts i g = first (testsFault counts (g .tests) (g .component)
 unfoldable pub gateFault : List ℕ → ℕ → Gate → ℕ
 gateFault counts i g =
     firstBreach (
-    given 0 (g .tests) (inputsFault mostTests (g .tests))
-    ∷ given 0 (g .gates) (inputsFault mostGateInputs (g .gates))
+    inputCountFault mostTests (g .tests)
+    ∷ inputCountFault mostGateInputs (g .gates)
     ∷ thresholdFault (inputCount g) (g .threshold)
     ∷ inputPlacesFault counts i g
     ∷ []
@@ -76,7 +76,7 @@ unusedGateFault counts i g =
 unfoldable pub loadFault : ℕ → Load → ℕ
 loadFault gates l =
     firstBreach (
-    given never (l .gate) (noGateFault gates (l .gate))
+    lossGateFault gates (l .gate)
     ∷ sizeFault mostCustomers (l .customers)
     ∷ sizeFault mostMinutes (l .minutes)
     ∷ []

@@ -5,10 +5,9 @@ use mathlib.Core.Path.{_≡_}
 use mathlib.Core.List.{List}
 use lib.ListN.{length, getD}
 use Rattle.lists.specs.Product.{product}
-use Rattle.rules.specs.Breach.{given}
-use Rattle.rules.specs.Limits.{mostComponents, mostGates, mostLoads, mostTests, mostGateInputs, mostCustomers, mostMinutes, never}
-use Rattle.rules.specs.Table.{countFault, statesFault, noStateFault, sumFault, widthFault, inputsFault, noComponentFault, maskFault}
-use Rattle.rules.specs.Table.{aheadFault, thresholdFault, noGateFault, sizeFault}
+use Rattle.rules.specs.Limits.{mostComponents, mostGates, mostLoads, mostTests, mostGateInputs, mostCustomers, mostMinutes}
+use Rattle.rules.specs.Table.{countFault, statesFault, lackedStateFault, sumFault, widthFault, inputCountFault, noComponentFault, maskFault}
+use Rattle.rules.specs.Table.{aheadFault, thresholdFault, lossGateFault, sizeFault}
 use Rattle.study.specs.declared.Component.{Component}
 use Rattle.study.specs.declared.Gate.{Gate}
 use Rattle.study.specs.declared.Load.{Load}
@@ -21,9 +20,9 @@ use Rattle.study.specs.Zero.{zeroComponent, zeroLoad}
 pub record SoundComponent (c : Component) : Type 0 where
   pub states : statesFault (c .states) ≡ 0
   -- a state that the component lacks has probability 0
-  pub state1 : given 0 (c .p1) (noStateFault (c .states) 1) ≡ 0
-  pub state2 : given 0 (c .p2) (noStateFault (c .states) 2) ≡ 0
-  pub state3 : given 0 (c .p3) (noStateFault (c .states) 3) ≡ 0
+  pub state1 : lackedStateFault (c .states) 1 (c .p1) ≡ 0
+  pub state2 : lackedStateFault (c .states) 2 (c .p2) ≡ 0
+  pub state3 : lackedStateFault (c .states) 3 (c .p3) ≡ 0
   pub sum : sumFault (c .p1) (c .p2) (c .p3) ≡ 0
 
 -- the places of a gate behind its counts hold 0
@@ -34,8 +33,8 @@ pub record ZeroBehind (g : Gate) : Type 0 where
 
 -- gate i of a study whose components have these state counts
 pub record SoundGate (counts : List ℕ) (i : ℕ) (g : Gate) : Type 0 where
-  pub tests : given 0 (g .tests) (inputsFault mostTests (g .tests)) ≡ 0
-  pub gates : given 0 (g .gates) (inputsFault mostGateInputs (g .gates)) ≡ 0
+  pub tests : inputCountFault mostTests (g .tests) ≡ 0
+  pub gates : inputCountFault mostGateInputs (g .gates) ≡ 0
   pub component : (j : ℕ) → j < g .tests → noComponentFault (length counts) (getD (g .component) j 0) ≡ 0
   pub mask : (j : ℕ) → j < g .tests → maskFault (getD counts (getD (g .component) j 0) 0) (getD (g .mask) j 0) ≡ 0
   pub input : (j : ℕ) → j < g .gates → aheadFault i (getD (g .input) j 0) ≡ 0
@@ -50,7 +49,7 @@ pub record UnusedGate (g : Gate) : Type 0 where
 
 -- a load of a study with so many gates
 pub record SoundLoad (gates : ℕ) (l : Load) : Type 0 where
-  pub gate : given never (l .gate) (noGateFault gates (l .gate)) ≡ 0
+  pub gate : lossGateFault gates (l .gate) ≡ 0
   pub customers : sizeFault mostCustomers (l .customers) ≡ 0
   pub minutes : sizeFault mostMinutes (l .minutes) ≡ 0
 

@@ -1,9 +1,8 @@
 // The component places of a study.
 use rules::COMPONENT_PLACES;
 use rules::first;
-use rules::given;
 use rules::in_use;
-use rules::no_state_fault;
+use rules::lacked_state_fault;
 use rules::states_fault;
 use rules::sum_fault;
 use rules::unused_fault;
@@ -15,9 +14,9 @@ ghost use Rattle.soundness.specs.Check.{probabilitiesFault, componentFau
 pub fn probabilities_fault(states: u8, p1: u32, p2: u32, p3: u32) -> u8
     ensures { λ r. ⌜ r ≡ probabilitiesFault states p1 p2 p3 ⌝ }
 {
-    let state1 = given(0, p1, no_state_fault(states, 1));
-    let state2 = given(0, p2, no_state_fault(states, 2));
-    let state3 = given(0, p3, no_state_fault(states, 3));
+    let state1 = lacked_state_fault(states, 1, p1);
+    let state2 = lacked_state_fault(states, 2, p2);
+    let state3 = lacked_state_fault(states, 3, p3);
     first(state1, first(state2, first(state3, sum_fault(p1, p2, p3))))
 }
 

@@ -4,9 +4,8 @@ use rules::GATE_PLACES;
 use rules::MOST_GATE_INPUTS;
 use rules::MOST_TESTS;
 use rules::first;
-use rules::given;
 use rules::in_use;
-use rules::inputs_fault;
+use rules::input_count_fault;
 use rules::threshold_fault;
 use rules::unused_fault;
 use study::Gate;
@@ -18,8 +17,8 @@ ghost use Rattle.soundness.specs.Check.{gateFault, unusedGateFault, gate
 fn gate_fault(counts: &[u8], i: usize, g: Gate) -> u8
     ensures { λ r. ⌜ r ≡ gateFault (now (counts .entry)) i g ⌝ }
 {
-    let tests = given(0, g.tests as u32, inputs_fault(MOST_TESTS, g.tests));
-    let gates = given(0, g.gates as u32, inputs_fault(MOST_GATE_INPUTS, g.gates));
+    let tests = input_count_fault(MOST_TESTS, g.tests);
+    let gates = input_count_fault(MOST_GATE_INPUTS, g.gates);
     let threshold = threshold_fault(input_count(g), g.threshold);
     first(
         tests,

@@ -2,11 +2,9 @@
 use rules::LOAD_PLACES;
 use rules::MOST_CUSTOMERS;
 use rules::MOST_MINUTES;
-use rules::NEVER;
 use rules::first;
-use rules::given;
 use rules::in_use;
-use rules::no_gate_fault;
+use rules::loss_gate_fault;
 use rules::size_fault;
 use rules::unused_fault;
 use study::Load;
@@ -17,7 +15,7 @@ ghost use Rattle.soundness.specs.Check.{loadFault, unusedLoadFault, load
 fn load_fault(gates: u8, l: Load) -> u8
     ensures { λ r. ⌜ r ≡ loadFault gates l ⌝ }
 {
-    let gate = given(NEVER as u32, l.gate as u32, no_gate_fault(gates, l.gate));
+    let gate = loss_gate_fault(gates, l.gate);
     first(
         gate,
         first(

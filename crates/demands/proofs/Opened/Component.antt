@@ -6,10 +6,10 @@ use mathlib.Core.Bool.{Bool, true, false, cond}
 use native.Mathlib.Omega.{arith}
 use lib.Dec.{eqb}
 use borrow.Author.Tests.{eqb-true}
-use Rattle.rules.specs.Breach.{given}
+use Rattle.rules.specs.Breach.{unlessAbsent}
 use Rattle.rules.specs.Limits.{componentMaps}
-use Rattle.rules.specs.Table.{statesFault, noStateFault, sumFault}
-use Rattle.rules.proofs.Kept.{given-absent, given-kept}
+use Rattle.rules.specs.Table.{statesFault, noStateFault, lackedStateFault, sumFault}
+use Rattle.rules.proofs.Kept.{absent-none, unless-none}
 use Rattle.reading.specs.Reader.{byte, word}
 use Rattle.reading.proofs.Held.{Gives, gives-any, gives-then, gives-judge, gives-return, gives-cond, gives-fields}
 use Rattle.component_record.specs.Component.{stateCount, probability, componentField, component}
@@ -20,15 +20,15 @@ use Rattle.soundness.specs.Sound.{SoundComponent}
 -- The fields below bit k are read: the rules but that of the sum are kept, and before bit 0 no probability is given.
 record SoFar (k : ℕ) (c : Component) : Type 0 where
   states : statesFault (c .states) ≡ 0
-  state1 : given 0 (c .p1) (noStateFault (c .states) 1) ≡ 0
-  state2 : given 0 (c .p2) (noStateFault (c .states) 2) ≡ 0
-  state3 : given 0 (c .p3) (noStateFault (c .states) 3) ≡ 0
+  state1 : lackedStateFault (c .states) 1 (c .p1) ≡ 0
+  state2 : lackedStateFault (c .states) 2 (c .p2) ≡ 0
+  state3 : lackedStateFault (c .states) 3 (c .p3) ≡ 0
   none1 : k ≡ 0 → c .p1 ≡ 0
   none2 : k ≡ 0 → c .p2 ≡ 0
   none3 : k ≡ 0 → c .p3 ≡ 0
 
 start : SoFar 0 absentComponent
-unfolding given Rattle.rules.specs.Breach.refuse Rattle.rules.specs.Breach.outside
+unfolding unlessAbsent Rattle.rules.specs.Breach.refuse Rattle.rules.specs.Breach.outside
 start = record { states = refl; state1 = refl; state2 = refl; state3 = refl; none1 = λ e. refl; none2 = λ e. refl; none3 = λ e. refl }
 
 -- a bit that is clear
@@ -45,8 +45,8 @@ clear k c s =
     }
 
 -- the rule of a state whose probability is 0, or whose bit was judged
-unread : (p breach : ℕ) → p ≡ 0 → given 0 p breach ≡ 0
-unread p breach e = rw e (given-absent 0 breach)
+unread : (p breach : ℕ) → p ≡ 0 → unlessAbsent 0 p breach ≡ 0
+unread p breach e = rw e (absent-none 0 breach)
 
 states-sound : (c : Component) → SoFar 0 c → Gives (stateCount c) (SoFar 1)
 unfolding stateCount
@@ -68,12 +68,12 @@ states-sound c s =
     )))
 
 -- the probability of state n is the one just read, or stays
-chosen : (states k n p old : ℕ) → noStateFault states k ≡ 0 → given 0 old (noStateFault states n) ≡ 0
-    → given 0 (cond (eqb k n) p old) (noStateFault states n) ≡ 0
+chosen : (states k n p old : ℕ) → noStateFault states k ≡ 0 → lackedStateFault states n old ≡ 0
+    → lackedStateFault states n (cond (eqb k n) p old) ≡ 0
 chosen states k n p old judged was = go (eqb k n) refl
   where
-    go : (b : Bool) → eqb k n ≡ b → given 0 (cond b p old) (noStateFault states n) ≡ 0
-    go true e = given-kept 0 p (noStateFault states n) (rw (eqb-true k n e) at judged)
+    go : (b : Bool) → eqb k n ≡ b → lackedStateFault states n (cond b p old) ≡ 0
+    go true e = unless-none 0 p (noStateFault states n) (rw (eqb-true k n e) at judged)
     go false e = was
 
 probability-sound : (k : ℕ) (c : Component) → SoFar k c → Gives (probability k c) (SoFar (k + 1))

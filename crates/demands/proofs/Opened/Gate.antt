@@ -13,10 +13,9 @@ use lib.Pow.{pow-mono}
 use lib.Seq.{getD-set-same, getD-set-other}
 use borrow.Author.Tests.{eqb-true, eqb-false}
 use Rattle.lists.proofs.Filled.{Filled, filled-none, filled-more}
-use Rattle.rules.specs.Breach.{given}
 use Rattle.rules.specs.Limits.{gateMaps, mostTests, mostGateInputs}
-use Rattle.rules.specs.Table.{inputsFault, noComponentFault, maskFault, aheadFault, thresholdFault}
-use Rattle.rules.proofs.Kept.{given-absent, given-kept, range-kept}
+use Rattle.rules.specs.Table.{inputsFault, inputCountFault, noComponentFault, maskFault, aheadFault, thresholdFault}
+use Rattle.rules.proofs.Kept.{absent-none, unless-none, range-kept}
 use Rattle.reading.specs.Reader.{byte}
 use Rattle.reading.proofs.Held.{Gives, gives-any, gives-then, gives-judge, gives-return, gives-cond, gives-repeat, gives-fields, gives-weaker}
 use Rattle.gate_record.specs.Gate.{threshold, inputsByte, test, tests, input, inputs, gateField, gate, withTests, withGates}
@@ -61,8 +60,8 @@ InputsFilled number j input = Filled (λ (k n : ℕ). aheadFault number n ≡ 0)
 module _ (counts : List ℕ) (number : ℕ) where
   -- The fields below bit k are read: all rules but that of the threshold are kept.
   record SoFar (k : ℕ) (g : Gate) : Type 0 where
-    tests : given 0 (g .tests) (inputsFault mostTests (g .tests)) ≡ 0
-    gates : given 0 (g .gates) (inputsFault mostGateInputs (g .gates)) ≡ 0
+    tests : inputCountFault mostTests (g .tests) ≡ 0
+    gates : inputCountFault mostGateInputs (g .gates) ≡ 0
     tests-filled : TestsFilled counts (g .tests) (g .component) (g .mask)
     gates-filled : InputsFilled number (g .gates) (g .input)
     no-tests : k ≤ 1 → g .tests ≡ 0
@@ -75,8 +74,8 @@ module _ (counts : List ℕ) (number : ℕ) where
   unfolding absentGate zeroGate
   start =
       record {
-        tests = given-absent 0 (inputsFault mostTests 0);
-        gates = given-absent 0 (inputsFault mostGateInputs 0);
+        tests = absent-none 0 (inputsFault mostTests 0);
+        gates = absent-none 0 (inputsFault mostGateInputs 0);
         tests-filled =
             record { components = filled-none refl (zero-places mostTests); masks = filled-none refl (zero-places mostTests); fit = λ k h. absurd (omega arith) };
         gates-filled = filled-none refl (zero-places mostGateInputs);
@@ -163,8 +162,8 @@ module _ (counts : List ℕ) (number : ℕ) where
       after-loop : (n : ℕ) (h : Gate) → inputsFault mostTests n ≡ 0 → TestLoop n n h → SoFar 2 h
       after-loop n h kept l =
           record {
-            tests = rw (l .tests) (given-kept 0 n (inputsFault mostTests n) kept);
-            gates = rw (l .no-gates) (given-absent 0 (inputsFault mostGateInputs 0));
+            tests = rw (l .tests) (unless-none 0 n (inputsFault mostTests n) kept);
+            gates = rw (l .no-gates) (absent-none 0 (inputsFault mostGateInputs 0));
             tests-filled = subst (λ (k : ℕ). TestsFilled counts k (h .component) (h .mask)) (sym (l .tests)) (l .filled);
             gates-filled = subst (λ (k : ℕ). InputsFilled number k (h .input)) (sym (l .no-gates)) (l .gates-filled);
             no-tests = λ e. absurd (omega arith);
@@ -175,7 +174,7 @@ module _ (counts : List ℕ) (number : ℕ) where
   record InputLoop (n j : ℕ) (g : Gate) : Type 0 where
     gates : g .gates ≡ n
     filled : InputsFilled number j (g .input)
-    tests : given 0 (g .tests) (inputsFault mostTests (g .tests)) ≡ 0
+    tests : inputCountFault mostTests (g .tests) ≡ 0
     tests-filled : TestsFilled counts (g .tests) (g .component) (g .mask)
 
   input-sound : (n j : ℕ) (g : Gate) → n ≤ mostGateInputs → j < n → InputLoop n j g → Gives (input number j g) (InputLoop n (j + 1))
@@ -209,7 +208,7 @@ module _ (counts : List ℕ) (number : ℕ) where
       after-loop n h kept l =
           record {
             tests = l .tests;
-            gates = rw (l .gates) (given-kept 0 n (inputsFault mostGateInputs n) kept);
+            gates = rw (l .gates) (unless-none 0 n (inputsFault mostGateInputs n) kept);
             tests-filled = l .tests-filled;
             gates-filled = subst (λ (k : ℕ). InputsFilled number k (h .input)) (sym (l .gates)) (l .filled);
             no-tests = λ e. absurd (omega arith);

@@ -5,7 +5,7 @@ use lib.Dec.{eqb}
 use Rattle.rules.specs.Breach.{refuse}
 use Rattle.rules.specs.Limits.{loadMaps, mostCustomers, mostMinutes, never}
 use Rattle.rules.specs.Table.{noGateFault, sizeFault}
-use Rattle.rules.proofs.Kept.{given-absent, given-kept}
+use Rattle.rules.proofs.Kept.{absent-none, unless-none}
 use Rattle.reading.specs.Reader.{byte, word}
 use Rattle.reading.proofs.Held.{Gives, gives-any, gives-then, gives-judge, gives-return, gives-cond, gives-fields}
 use Rattle.load_record.specs.Load.{lossGate, size, customers, minutes, loadField, load}
@@ -16,7 +16,7 @@ use Rattle.soundness.specs.Sound.{SoundLoad}
 module _ (gates : ℕ) where
   start : SoundLoad gates absentLoad
   unfolding refuse
-  start = record { gate = given-absent never (noGateFault gates never); customers = refl; minutes = refl }
+  start = record { gate = absent-none never (noGateFault gates never); customers = refl; minutes = refl }
 
   gate-sound : (l : Load) → SoundLoad gates l → Gives (lossGate gates l) (SoundLoad gates)
   unfolding lossGate
@@ -24,7 +24,7 @@ module _ (gates : ℕ) where
       gives-then (gives-any byte)
       (λ n u.
       gives-then (gives-judge (noGateFault gates n))
-      (λ u kept. gives-return (record { gate = given-kept never n (noGateFault gates n) kept; customers = s .customers; minutes = s .minutes })))
+      (λ u kept. gives-return (record { gate = unless-none never n (noGateFault gates n) kept; customers = s .customers; minutes = s .minutes })))
 
   size-sound : (most : ℕ) → Gives (size most) (λ (n : ℕ). sizeFault most n ≡ 0)
   unfolding size

@@ -6,23 +6,14 @@ use Rattle.rules.proofs.Kept.{first-last}
 use Rattle.soundness.proofs.components.probabilities_fault.Statement.{statement}
 use Rattle.soundness.proofs.components.probabilities_fault.Tie as tie
 
-no-state-fault-requires : tie.Need-no-state-fault-requires
-no-state-fault-requires c κs = search needs
+lacked-state-fault-requires : tie.Need-lacked-state-fault-requires
+lacked-state-fault-requires c κs = search needs
 
-given-requires : tie.Need-given-requires
-given-requires c κs = search needs
+lacked-state-fault-requires-2 : tie.Need-lacked-state-fault-requires-2
+lacked-state-fault-requires-2 c κs = search needs
 
-no-state-fault-requires-2 : tie.Need-no-state-fault-requires-2
-no-state-fault-requires-2 c κs = search needs
-
-given-requires-2 : tie.Need-given-requires-2
-given-requires-2 c κs = search needs
-
-no-state-fault-requires-3 : tie.Need-no-state-fault-requires-3
-no-state-fault-requires-3 c κs = search needs
-
-given-requires-3 : tie.Need-given-requires-3
-given-requires-3 c κs = search needs
+lacked-state-fault-requires-3 : tie.Need-lacked-state-fault-requires-3
+lacked-state-fault-requires-3 c κs = search needs
 
 sum-fault-requires : tie.Need-sum-fault-requires
 sum-fault-requires c κs = search needs
@@ -44,12 +35,9 @@ pub probabilities-fault-spec : {M : Type 1} → statement M
 probabilities-fault-spec =
     tie.close
     (tie.spec
-    no-state-fault-requires
-    given-requires
-    no-state-fault-requires-2
-    given-requires-2
-    no-state-fault-requires-3
-    given-requires-3
+    lacked-state-fault-requires
+    lacked-state-fault-requires-2
+    lacked-state-fault-requires-3
     sum-fault-requires
     first-requires
     first-requires-2

@@ -6,23 +6,11 @@ use Rattle.rules.proofs.Kept.{first-last}
 use Rattle.soundness.proofs.gates.gate_fault.Statement.{statement}
 use Rattle.soundness.proofs.gates.gate_fault.Tie as tie
 
-cast-given : tie.Need-cast-given
-cast-given c = search needs
+input-count-fault-requires : tie.Need-input-count-fault-requires
+input-count-fault-requires c κs = search needs
 
-inputs-fault-requires : tie.Need-inputs-fault-requires
-inputs-fault-requires c κs = search needs
-
-given-requires : tie.Need-given-requires
-given-requires c κs = search needs
-
-cast-given-2 : tie.Need-cast-given-2
-cast-given-2 c = search needs
-
-inputs-fault-requires-2 : tie.Need-inputs-fault-requires-2
-inputs-fault-requires-2 c κs = search needs
-
-given-requires-2 : tie.Need-given-requires-2
-given-requires-2 c κs = search needs
+input-count-fault-requires-2 : tie.Need-input-count-fault-requires-2
+input-count-fault-requires-2 c κs = search needs
 
 input-count-requires : tie.Need-input-count-requires
 input-count-requires c κs = search needs
@@ -50,12 +38,8 @@ pub gate-fault-spec : {M : Type 1} → statement M
 gate-fault-spec =
     tie.close
     (tie.spec
-    cast-given
-    inputs-fault-requires
-    given-requires
-    cast-given-2
-    inputs-fault-requires-2
-    given-requires-2
+    input-count-fault-requires
+    input-count-fault-requires-2
     input-count-requires
     threshold-fault-requires
     input-places-fault-requires

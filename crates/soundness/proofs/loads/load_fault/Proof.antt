@@ -6,17 +6,8 @@ use Rattle.rules.proofs.Kept.{first-last}
 use Rattle.soundness.proofs.loads.load_fault.Statement.{statement}
 use Rattle.soundness.proofs.loads.load_fault.Tie as tie
 
-cast-given : tie.Need-cast-given
-cast-given c = search needs
-
-cast-given-2 : tie.Need-cast-given-2
-cast-given-2 c = search needs
-
-no-gate-fault-requires : tie.Need-no-gate-fault-requires
-no-gate-fault-requires c κs = search needs
-
-given-requires : tie.Need-given-requires
-given-requires c κs = search needs
+loss-gate-fault-requires : tie.Need-loss-gate-fault-requires
+loss-gate-fault-requires c κs = search needs
 
 size-fault-requires : tie.Need-size-fault-requires
 size-fault-requires c κs = search needs
@@ -38,10 +29,7 @@ pub load-fault-spec : {M : Type 1} → statement M
 load-fault-spec =
     tie.close
     (tie.spec
-    cast-given
-    cast-given-2
-    no-gate-fault-requires
-    given-requires
+    loss-gate-fault-requires
     size-fault-requires
     size-fault-requires-2
     first-requires

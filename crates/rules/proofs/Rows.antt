@@ -1,0 +1,65 @@
+-- What each row of the refusal table tells where it is kept, in terms of the numbers that it judges.
+use Prim.Native.Nat.{ℕ, suc, _+_, _<_, _≤_}
+use mathlib.Core.Path.{_≡_}
+use mathlib.Core.Bool.{Bool, true, not}
+use mathlib.Core.Logic.{⊎-elim}
+use native.Mathlib.Omega.{arith}
+use lib.Dec.{leb, ltb}
+use borrow.Author.Tests.{leb-false, ltb-false, not-false}
+use Rattle.units.specs.One.{one}
+use Rattle.rules.specs.Breach.{refuse}
+use Rattle.rules.specs.Limits.{fewestStates, mostStates, mostJointStates}
+use Rattle.rules.specs.Table.{countFault, statesFault, lackedStateFault, sumFault, widthFault, noStateFault, inputsFault, inputCountFault}
+use Rattle.rules.specs.Table.{noComponentFault, aheadFault, unsoundFault, unusedFault, itemFault}
+use Rattle.rules.proofs.Kept.{Within, refuse-kept, range-kept, unless-kept}
+
+-- a row that judges by `<`, and one that judges by `≤`
+below-kept : (row a b : ℕ) → refuse (suc row) (ltb a b) ≡ 0 → b ≤ a
+below-kept row a b e = ltb-false a b (refuse-kept row (ltb a b) e)
+
+above-kept : (row a b : ℕ) → refuse (suc row) (leb a b) ≡ 0 → b < a
+above-kept row a b e = leb-false a b (refuse-kept row (leb a b) e)
+
+pub count-kept : (most n : ℕ) → countFault most n ≡ 0 → Within 1 most n
+count-kept = range-kept 1 1
+
+pub states-kept : (states : ℕ) → statesFault states ≡ 0 → Within fewestStates mostStates states
+states-kept = range-kept 3 fewestStates mostStates
+
+-- a state that the component lacks has probability 0
+pub lacked-kept : (states state p : ℕ) → lackedStateFault states state p ≡ 0 → states ≤ state → p ≡ 0
+lacked-kept states state p e lacks =
+    ⊎-elim (λ (none : p ≡ 0). none) (λ (kept : noStateFault states state ≡ 0). absurd (omega (arith, above-kept 4 states state kept)))
+    (unless-kept 0 p (noStateFault states state) e)
+
+pub sum-kept : (p1 p2 p3 : ℕ) → sumFault p1 p2 p3 ≡ 0 → p1 + p2 + p3 ≤ one
+sum-kept p1 p2 p3 = below-kept 5 one (p1 + p2 + p3)
+
+pub width-kept : (jointStates : ℕ) → widthFault jointStates ≡ 0 → jointStates ≤ mostJointStates
+width-kept = below-kept 6 mostJointStates
+
+-- a gate has no more inputs of a kind than there are places
+pub input-count-kept : (most n : ℕ) → inputCountFault most n ≡ 0 → n ≤ most
+input-count-kept most n e =
+    ⊎-elim (λ (none : n ≡ 0). omega arith) (λ (kept : inputsFault most n ≡ 0). range-kept 7 1 most n kept .most)
+    (unless-kept 0 n (inputsFault most n) e)
+
+pub component-kept : (components component : ℕ) → noComponentFault components component ≡ 0 → component < components
+component-kept = above-kept 8
+
+pub ahead-kept : (gate input : ℕ) → aheadFault gate input ≡ 0 → input < gate
+ahead-kept = above-kept 10
+
+pub sound-kept : (sound : Bool) → unsoundFault sound ≡ 0 → sound ≡ true
+sound-kept sound e = not-false sound (refuse-kept 15 (not sound) e)
+
+-- a place that no record uses holds 0
+pub zero-kept : (n : ℕ) → unusedFault n ≡ 0 → n ≡ 0
+zero-kept n e = omega (arith, below-kept 15 0 n e)
+
+pub zero-none : (n : ℕ) → n ≡ 0 → unusedFault n ≡ 0
+unfolding refuse
+zero-none n e = rw e
+
+pub item-kept : (count item : ℕ) → itemFault count item ≡ 0 → item < count
+item-kept = above-kept 16
