@@ -3,4 +3,3 @@ pub mod Compared
 pub mod Counted
 pub mod Fork
 pub mod Listed
-pub mod Need

@@ -1,31 +1,18 @@
-// Lists of the paths of a block: in a buffer that has room for any list, and in a lent one.
+// The list of the paths of a block in a lent buffer.
 use crate::count::count_paths;
 use crate::list::list_paths;
 use answers::Listing;
 use entries::Class;
 use entries::list_need;
 use rules::room_fault;
-ghost use Prim.Native.Nat.{_≤_};
 ghost use mathlib.Core.Path.{_≡_};
 ghost use lib.ListN.{length};
 ghost use Rattle.answers.specs.Answered.{answered, filled};
 ghost use Rattle.answers.specs.declared.counts.Listing.the-variants.{Listed, Refused};
 ghost use Rattle.lists.specs.Rows.{joined};
 ghost use Rattle.rules.specs.Table.{roomFault};
-ghost use Rattle.entries.specs.Entries.{listBytes};
 ghost use Rattle.paths.specs.Paths.{paths};
-ghost use Rattle.event_tree.specs.Listable.{Listable, ListedAll};
-
-// Writes the list of the paths of a block into a buffer that has room for any list, and answers how many there are.
-pub fn list_all(counts: &[u8], block: &[Class], list: &mut [u8]) -> u32
-    requires { ⌜ Listable (now counts) (now block) ⌝ }
-    requires { ⌜ listBytes ≤ length (now list) ⌝ }
-    ensures { λ r. ⌜ ListedAll (paths (now (counts .entry)) (now (block .entry))) r (now (list .entry)) (now (list .exit)) ⌝ }
-{
-    let count = count_paths(counts, block);
-    list_paths(counts, block, list);
-    count.paths
-}
+ghost use Rattle.paths.specs.Blocks.{Listable};
 
 // Writes the list of the paths of a block at the front of a lent buffer, and answers what was counted of it. Refused by 18.
 pub fn list_lent(counts: &[u8], block: &[Class], buffer: &mut [u8]) -> Listing

@@ -6,5 +6,4 @@ mod lent;
 mod list;
 mod marks;
 
-pub use lent::list_all;
 pub use lent::list_lent;

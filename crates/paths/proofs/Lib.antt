@@ -5,6 +5,7 @@ pub mod Differ
 pub mod Entries
 pub mod Few
 pub mod Fitting
+pub mod Need
 pub mod OnePath
 pub mod Parts
 pub mod Placed

@@ -3,14 +3,15 @@ use Prim.Native.Nat.{ℕ, suc, _+_, _<_, _≤_}
 use mathlib.Core.Path.{_≡_}
 use mathlib.Core.Bool.{Bool, true, not}
 use mathlib.Core.Logic.{⊎-elim}
+use native.Mathlib.Nat.{pos-of-ne-zero}
 use native.Mathlib.Omega.{arith}
-use lib.Dec.{leb, ltb}
-use borrow.Author.Tests.{leb-false, ltb-false, not-false}
+use lib.Dec.{leb, ltb, eqb}
+use borrow.Author.Tests.{leb-false, ltb-false, le-ltb, eqb-false, not-false}
 use Rattle.units.specs.One.{one}
 use Rattle.rules.specs.Breach.{refuse}
 use Rattle.rules.specs.Limits.{fewestStates, mostStates, mostJointStates}
 use Rattle.rules.specs.Table.{countFault, statesFault, lackedStateFault, sumFault, widthFault, noStateFault, inputsFault, inputCountFault}
-use Rattle.rules.specs.Table.{noComponentFault, aheadFault, unsoundFault, unusedFault, itemFault}
+use Rattle.rules.specs.Table.{noComponentFault, aheadFault, unsoundFault, unusedFault, itemFault, sizeFault, roomFault, customersFault}
 use Rattle.rules.proofs.Kept.{Within, refuse-kept, range-kept, unless-kept}
 
 -- a row that judges by `<`, and one that judges by `≤`
@@ -63,3 +64,16 @@ zero-none n e = rw e
 
 pub item-kept : (count item : ℕ) → itemFault count item ≡ 0 → item < count
 item-kept = above-kept 16
+
+pub size-kept : (most n : ℕ) → sizeFault most n ≡ 0 → n ≤ most
+size-kept = below-kept 13
+
+pub room-kept : (need room : ℕ) → roomFault need room ≡ 0 → need ≤ room
+room-kept need room = below-kept 17 room need
+
+pub room-none : (need room : ℕ) → need ≤ room → roomFault need room ≡ 0
+unfolding refuse
+room-none need room h = rw (le-ltb room need h)
+
+pub customers-kept : (sum : ℕ) → customersFault sum ≡ 0 → 0 < sum
+customers-kept sum e = pos-of-ne-zero (eqb-false sum 0 (refuse-kept 18 (eqb sum 0) e))

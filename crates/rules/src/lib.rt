@@ -6,8 +6,6 @@ mod table;
 
 pub use breach::first;
 pub use breach::in_use;
-pub use limits::BLANK;
-pub use limits::CLASS_PLACES;
 pub use limits::COMPONENT_MAPS;
 pub use limits::COMPONENT_PLACES;
 pub use limits::GATE_MAPS;

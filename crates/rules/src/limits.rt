@@ -35,12 +35,6 @@ pub const INPUT_PLACES: usize = 31;
 
 pub const JOINT_STATE_PLACES: usize = 4096;
 
-// A class is a byte.
-pub const CLASS_PLACES: usize = 256;
-
-// What stands for the state of a component that is blank on a path: a number that no state has.
-pub const BLANK: u8 = 255;
-
 // One above the largest map of each kind of record.
 pub const COMPONENT_MAPS: u8 = 16;
 

@@ -1,4 +1,4 @@
-// The probabilities of the states of components, as a table with four places for each.
+// The probabilities of the states of a study's components, as a table with four places for each.
 use rules::COMPONENT_PLACES;
 use rules::STATE_PLACES;
 use study::Component;
@@ -10,13 +10,17 @@ ghost use Rattle.lists.specs.Rows.{put};
 ghost use Rattle.units.specs.One.{one};
 ghost use Rattle.rules.specs.Limits.{mostComponents, mostStates};
 ghost use Rattle.study.specs.Zero.{zeroComponent};
-ghost use Rattle.probability.specs.Probabilities.{stateProbabilities, probabilityTable, probabilityAt};
+ghost use Rattle.study_model.specs.Model.{stateProbabilities, placeProbabilities};
 
 // The places of such a table.
 pub const PROBABILITY_PLACES: usize = 48;
 
 // The table with the probabilities of a component's states from a place on.
-fn with_probabilities(table: [u32; PROBABILITY_PLACES], at: usize, c: Component) -> [u32; PROBABILITY_PLACES]
+fn with_states(
+    table: [u32; PROBABILITY_PLACES],
+    at: usize,
+    c: Component,
+) -> [u32; PROBABILITY_PLACES]
     requires { ⌜ at + mostStates ≤ length table ⌝ }
     requires { ⌜ c .p1 + c .p2 + c .p3 ≤ one ⌝ }
     ensures { λ r. ⌜ r ≡ put table at (stateProbabilities c) ⌝ }
@@ -36,28 +40,16 @@ fn with_probabilities(table: [u32; PROBABILITY_PLACES], at: usize, c: Component)
 // The probabilities of all component places.
 pub fn probability_table(component: [Component; COMPONENT_PLACES]) -> [u32; PROBABILITY_PLACES]
     requires { ⌜ ((i : ℕ) → i < mostComponents → getD component i zeroComponent .p1 + getD component i zeroComponent .p2 + getD component i zeroComponent .p3 ≤ one) ⌝ }
-    ensures { λ r. ⌜ r ≡ probabilityTable component ⌝ }
+    ensures { λ r. ⌜ r ≡ placeProbabilities component ⌝ }
 {
     let mut table = [0u32; PROBABILITY_PLACES];
     let mut i: usize = 0;
     while i < COMPONENT_PLACES {
         let c = component[i];
         let at = i * STATE_PLACES;
-        let more = with_probabilities(table, at, c);
+        let more = with_states(table, at, c);
         table = more;
         i = i + 1;
     }
     table
-}
-
-// The probability of state s of component i; 0 for one that is not in the table.
-pub fn probability_at(probabilities: &[u32], i: usize, s: u8) -> u32
-    requires { ⌜ i < mostComponents ⌝ }
-    ensures { λ r. ⌜ r ≡ probabilityAt (now (probabilities .entry)) i s ⌝ }
-{
-    let at = i * STATE_PLACES + s as usize;
-    if at < probabilities.len() {
-        return probabilities[at];
-    }
-    0
 }

@@ -1,0 +1,4 @@
+pub mod Good
+pub mod ListRoom
+pub mod Table
+pub mod TableFilled

@@ -1,0 +1,69 @@
+-- The list of a sound study: its classes are listable, and a buffer with room for any list takes it.
+use Prim.Native.Nat.{ℕ, _≤_}
+use mathlib.Core.Path.{_≡_, refl, sym, ap, subst, _∙_}
+use mathlib.Core.List.{List}
+use native.Mathlib.Omega.{arith}
+use lib.ListN.{length, take}
+use Rattle.lists.specs.Rows.{put, joined}
+use Rattle.lists.specs.Product.{product}
+use Rattle.rules.specs.Limits.{mostJointStates}
+use Rattle.rules.specs.Table.{roomFault}
+use Rattle.rules.proofs.Rows.{room-none}
+use Rattle.answers.specs.Answered.{answered, filled}
+use Rattle.answers.specs.declared.counts.Listing.{Listing}
+use Rattle.answers.specs.declared.counts.Listing.the-variants.{Listed, Refused}
+use Rattle.answers.specs.declared.counts.PathCount.{PathCount}
+use Rattle.answers.proofs.Answered.{answered-done, filled-done}
+use Rattle.entries.specs.Entries.{listBytes}
+use Rattle.model.specs.Held.{Listed as Holds}
+use Rattle.model.specs.Good.{Good}
+use Rattle.model.specs.Model.{Model, classesOf, pathsOf}
+use Rattle.paths.specs.Blocks.{Listable}
+use Rattle.paths.specs.Paths.{paths}
+use Rattle.study.specs.declared.Study.{Study}
+use Rattle.study.specs.Joint.{stateCounts}
+use Rattle.soundness.specs.Sound.{Sound}
+use Rattle.soundness.proofs.Ranges.{joint-most}
+use Rattle.fault_tree.specs.Classes.{classes, classTable}
+use Rattle.fault_tree.proofs.Tables.{table-front}
+use Rattle.study_model.specs.Model.{modelOf}
+use Rattle.study_model.proofs.Good.{sound-good}
+use Rattle.model.proofs.Classes.{good-listable}
+use Rattle.model.proofs.Listing.{list-most, listed}
+
+module _ (m : Model) (good : Good m) (d : List ℕ) {answer : Listing} (room : listBytes ≤ length d)
+    (is-answer : answer ≡ answered Refused (roomFault (length (joined (pathsOf m))) (length d)) (Listed (record { paths = length (pathsOf m) }))) where
+  fits : roomFault (length (joined (pathsOf m))) (length d) ≡ 0
+  fits = room-none (length (joined (pathsOf m))) (length d) (omega (arith, list-most m good, room))
+
+  all : answer ≡ Listed (record { paths = length (pathsOf m) })
+  all = is-answer ∙ answered-done Refused (roomFault (length (joined (pathsOf m))) (length d)) (Listed (record { paths = length (pathsOf m) })) fits
+
+  pub list-held : {list : List ℕ} {count : PathCount} → list ≡ filled (roomFault (length (joined (pathsOf m))) (length d)) (joined (pathsOf m)) d → answer ≡ Listed count
+      → Holds m (count .paths) list
+  list-held {list} {count} is-list e =
+      let number : count .paths ≡ length (pathsOf m) = cc (all) in
+      listed m good d list number room (is-list ∙ filled-done (roomFault (length (joined (pathsOf m))) (length d)) (joined (pathsOf m)) d fits)
+
+  -- it is not refused
+  pub list-taken : {n : ℕ} → answer ≡ Refused n → ⊥
+  list-taken {n} e = let z : _≡_ {A = ℕ} 0 1 = cc (all) in omega arith
+
+-- ---- the front of the class table
+
+module _ {t : Study} {counts : List ℕ} {joint : ℕ} (sound : Sound t) (is-counts : counts ≡ stateCounts t) (is-joint : joint ≡ product counts) where
+  pub joint-inside : {room : ℕ} → room ≡ mostJointStates → joint ≤ room
+  joint-inside places = omega (arith, places, is-joint, ap product is-counts, joint-most t sound)
+
+  pub table-classes : {table : List ℕ} → table ≡ classTable t → take joint table ≡ classesOf (modelOf t)
+  unfolding classesOf modelOf classes
+  table-classes is-table = rw (is-table, is-joint, is-counts) (table-front t)
+
+  -- what the code lists: the state counts and the front of the table
+  pub block-listable : {table : List ℕ} → table ≡ classTable t → Listable counts (take joint table)
+  unfolding modelOf
+  block-listable is-table = rw (table-classes is-table, is-counts) (good-listable (modelOf t) (sound-good t sound))
+
+  pub block-paths : {table : List ℕ} → table ≡ classTable t → paths counts (take joint table) ≡ pathsOf (modelOf t)
+  unfolding pathsOf modelOf
+  block-paths is-table = rw (table-classes is-table, is-counts) refl

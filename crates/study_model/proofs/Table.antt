@@ -1,0 +1,43 @@
+-- The table of a study's probabilities holds those of its model in front.
+use Prim.Native.Nat.{ℕ, zero, suc, _*_}
+use mathlib.Core.Path.{_≡_, refl, sym, ap, _∙_}
+use mathlib.Core.List.{List, [], _∷_, map}
+use lib.ListN.{length, take}
+use Rattle.lists.specs.Rows.{joined}
+use Rattle.lists.proofs.Elements.{Every, every-map}
+use Rattle.lists.proofs.Joined.{joined-front}
+use Rattle.rules.specs.Limits.{mostComponents, mostStates}
+use Rattle.study.specs.declared.Component.{Component}
+use Rattle.study.specs.declared.Study.{Study}
+use Rattle.study.specs.Zero.{zeroComponent}
+use Rattle.model.specs.Held.{Listed, Held}
+use Rattle.model.specs.Model.{probabilityTable}
+use Rattle.soundness.specs.Sound.{Sound}
+use Rattle.soundness.proofs.Ranges.{counts-long}
+use Rattle.study_model.specs.Model.{stateProbabilities, placeProbabilities, modelOf}
+
+first-rows : (n : ℕ) (component : List Component) → take n (map stateProbabilities component) ≡ map stateProbabilities (take n component)
+first-rows zero component = refl
+first-rows (suc n) [] = refl
+first-rows (suc n) (c ∷ cs) = ap (λ (rows : List (List ℕ)). stateProbabilities c ∷ rows) (first-rows n cs)
+
+table-front : (t : Study) → take (t .components * mostStates) (placeProbabilities (t .component)) ≡ probabilityTable (modelOf t)
+unfolding placeProbabilities probabilityTable modelOf
+table-front t =
+    joined-front mostStates (t .components) (map stateProbabilities (t .component)) wide ∙ ap joined (first-rows (t .components) (t .component))
+  where
+    wide : Every (λ (row : List ℕ). length row ≡ mostStates) [] (map stateProbabilities (t .component))
+    wide = every-map stateProbabilities zeroComponent [] (λ (row : List ℕ). length row ≡ mostStates) (t .component) (λ k h. refl)
+
+-- slices that hold the list of a study's paths and the front of its table hold what its model is worked out of
+pub study-held : {t : Study} {paths : ℕ} {table probabilities list : List ℕ} → Sound t → length (t .component) ≡ mostComponents
+    → table ≡ placeProbabilities (t .component) → probabilities ≡ take (t .components * mostStates) table → Listed (modelOf t) paths list
+    → Held probabilities (t .components) list paths
+unfolding modelOf
+study-held {t} sound twelve is-table is-front listed =
+    record {
+      model = modelOf t;
+      is-table = is-front ∙ ap (take (t .components * mostStates)) is-table ∙ table-front t;
+      number = sym (counts-long t sound twelve);
+      listed = listed;
+    }
