@@ -1,6 +1,2 @@
-pub mod Chances
-pub mod Figured
-pub mod Listed
+pub mod Bounding
 pub mod LossOrder
-pub mod Paged
-pub mod Totals

@@ -1,22 +1,21 @@
--- The three figures of a study, and what is answered where it has no customers.
+-- The figures of a model, and what is answered where it has no customers.
 use Prim.Native.Nat.{ℕ}
-use mathlib.Core.Bool.{cond}
-use lib.Dec.{eqb}
-use Rattle.study.specs.declared.Study.{Study}
-use Rattle.answers.specs.declared.figures.Figures.{Figures as Triple}
-use Rattle.indices.specs.Figures.{customersSum, figuresOf}
+use mathlib.Core.List.{List}
+use Rattle.rules.specs.Table.{customersFault}
+use Rattle.study.specs.declared.Load.{Load}
+use Rattle.answers.specs.Answered.{answered}
+use Rattle.answers.specs.declared.figures.Figures.{Figures as FigureValues}
 use Rattle.answers.specs.declared.figures.FiguresAnswer.{FiguresAnswer}
 use Rattle.answers.specs.declared.figures.FiguresAnswer.the-variants.{Figures, Refused}
-use Rattle.evaluation.specs.Bounds.{lowerLoads, upperLoads}
+use Rattle.indices.specs.Figures.{customersSum, figuresOf}
+use Rattle.model.specs.Model.{Model}
+use Rattle.evaluation.specs.Bounds.{loadLowers, loadUppers}
 
--- the customers of all loads of a study
-abbrev pub customersOf : Study → ℕ
-customersOf t = customersSum (t .load) (t .loads)
+-- the figures from bounds for the loss of each load, or 19
+unfoldable pub figuresBy : List ℕ → List ℕ → List Load → FiguresAnswer
+unfolding answered figuresOf
+figuresBy lower upper loads = answered Refused (customersFault (customersSum loads)) (Figures (figuresOf lower upper loads))
 
--- the figures from the bounds of its loads
-abbrev pub studyFigures : Study → Triple
-studyFigures t = figuresOf (lowerLoads t) (upperLoads t) (t .load) (t .loads)
-
--- the figures themselves, or the breach
-unfoldable pub figuresBy : ℕ → Triple → FiguresAnswer
-figuresBy breach triple = cond (eqb breach 0) (Figures triple) (Refused breach)
+-- the figures of a model from the bounds of its loads
+abbrev pub modelFigures : Model → FigureValues
+modelFigures m = figuresOf (loadLowers m) (loadUppers m) (m .loads)

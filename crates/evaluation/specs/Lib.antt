@@ -1,5 +1,3 @@
 pub mod Bounds
 pub mod Figures
-pub mod Listing
 pub mod Losses
-pub mod Page

@@ -1,19 +1,11 @@
-// What a sound study amounts to: the list of its paths on a page, and the bounds and figures worked out from that page. Whoever calls these
-// has found the study sound and the room enough; they are not for callers from outside, who have `planning`.
-mod listing;
+// What is worked out of a model: bounds of its paths, classes and loads, and the figures, from slices that hold its probabilities and the list of
+// its paths. No study is known here. Not for callers from outside: those call `planning`.
+mod figures;
 mod losses;
-mod page;
 mod slices;
-mod three_figures;
 
-pub use listing::Listing;
-pub use listing::list_sound;
+pub use figures::figures_from;
 pub use losses::Losses;
-pub use losses::losses_of;
-pub use losses::losses_on;
-pub use page::blank_page;
-pub use page::list_page;
+pub use losses::loss_bounds;
 pub use slices::write_classes;
 pub use slices::write_paths;
-pub use three_figures::FiguresAnswer;
-pub use three_figures::figures_from;

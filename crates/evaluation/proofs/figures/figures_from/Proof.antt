@@ -1,0 +1,49 @@
+-- `evaluation::figures::figures_from` meets its contract: without customers it is refused, and otherwise there is something to divide by.
+use mathlib.Core.Path.{_≡_, sym, ap, _∙_}
+use lib.ListN.{take}
+use Rattle.rules.specs.Table.{customersFault}
+use Rattle.rules.proofs.Rows.{customers-kept}
+use Rattle.answers.specs.declared.figures.FiguresAnswer.the-variants.{Figures, Refused}
+use Rattle.answers.proofs.Answered.{answered-done, answered-refused}
+use Rattle.indices.specs.Figures.{customersSum}
+use Rattle.evaluation.specs.Figures.{figuresBy}
+use borrow.Author.Needs.{needs}
+use Rattle.evaluation.proofs.figures.figures_from.Statement.{statement}
+use Rattle.evaluation.proofs.figures.figures_from.Tie as tie
+
+-- the breach is that of the sum of customers
+fault-is : (c : tie.After-customers-fault)
+    → c .customers-fault .result ≡ customersFault (customersSum (take (c .before .before .args .n) (c .before .before .args .load)))
+fault-is c = c .customers-fault .ensures ∙ ap customersFault (c .before .customers-sum .ensures .is)
+
+customers-sum-requires : tie.Need-customers-sum-requires
+customers-sum-requires c κs = search needs
+
+customers-fault-requires : tie.Need-customers-fault-requires
+customers-fault-requires c κs = search needs
+
+returns : tie.Need-returns
+unfolding figuresBy
+returns c = rw (← fault-is (c .before)) (sym (answered-refused Refused _ _ (c .if1 .taken)))
+
+figures-of-requires : tie.Need-figures-of-requires
+figures-of-requires c κs =
+    let judged = c .before .before .before in
+    let pre = judged .before .before .pre in
+    (pre .0, (pre .1 .0, (pre .1 .1, customers-kept _ (sym (fault-is judged) ∙ c .before .before .if1 .left))))
+
+returns-2 : tie.Need-returns-2
+unfolding figuresBy
+returns-2 c =
+    let judged = c .before .before .before .before in
+    ap Figures (c .figures-of .ensures) ∙ sym (answered-done Refused _ _ (sym (fault-is judged) ∙ c .before .before .before .if1 .left))
+
+pub figures-from-spec : {M : Type 1} → statement M
+figures-from-spec =
+    tie.close
+    (tie.spec
+    customers-sum-requires
+    customers-fault-requires
+    returns
+    figures-of-requires
+    returns-2)
