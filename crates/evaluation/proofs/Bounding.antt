@@ -8,18 +8,18 @@ use Rattle.rules.specs.Limits.{mostJointStates}
 use Rattle.entries.specs.Entries.{entriesOf}
 use Rattle.entries.specs.Lists.{PathList}
 use Rattle.entries.proofs.Entries.{entries-long}
-use Rattle.model.specs.Held.{Held}
-use Rattle.model.specs.Model.{components, pathsOf, probabilityTable}
+use Rattle.model.specs.Held.{HeldOf}
+use Rattle.model.specs.Model.{Model, components, pathsOf, probabilityTable}
 use Rattle.model.proofs.Table.{table-most}
 use Rattle.units.specs.Rounding.{down}
 use Rattle.probability.specs.Bounded.{Boundable}
 use Rattle.probability.specs.Totals.{sumsMost, classTotals, loadTotals, lowerClasses, lowerLoads}
 use Rattle.probability.proofs.Most.{lower-classes, lower-loads}
 
-pub held-boundable : {probabilities list : List ℕ} {n paths : ℕ} → Held probabilities n list paths → Boundable probabilities n list paths
-held-boundable {probabilities} {list} {n} {paths} held =
+pub held-boundable : {m : Model} {probabilities list : List ℕ} {n paths : ℕ} → HeldOf m probabilities n list paths → Boundable probabilities n list paths
+held-boundable {m} {probabilities} {list} {n} {paths} held =
     record {
-      table = record { each = λ k. rw (held .is-table) (table-most (held .model) (held .listed .good) k) };
+      table = record { each = λ k. rw (held .is-table) (table-most m (held .listed .good) k) };
       room = subst (λ (k : ℕ). PathList k paths list) (sym (held .number)) (held .listed .room);
     }
 
@@ -28,13 +28,13 @@ entries-few : {probabilities list : List ℕ} {n paths : ℕ} → Boundable prob
 entries-few {probabilities} {list} {n} {paths} known = rw (entries-long n paths list) (known .room .few)
 
 -- what is worked out from the slices is worked out from the model
-module _ {probabilities list : List ℕ} {n paths : ℕ} (held : Held probabilities n list paths) where
+module _ {m : Model} {probabilities list : List ℕ} {n paths : ℕ} (held : HeldOf m probabilities n list paths) where
   pub held-values : {A : Type 0} (f : List ℕ → ℕ → List (List ℕ) → A)
-      → f probabilities n (entriesOf n paths list) ≡ f (probabilityTable (held .model)) (components (held .model)) (pathsOf (held .model))
+      → f probabilities n (entriesOf n paths list) ≡ f (probabilityTable m) (components m) (pathsOf m)
   held-values f =
       ap (λ (p : List ℕ). f p n (entriesOf n paths list)) (held .is-table)
-      ∙ ap (λ (k : ℕ). f (probabilityTable (held .model)) k (entriesOf k paths list)) (held .number)
-      ∙ ap (f (probabilityTable (held .model)) (components (held .model))) (held .listed .entries)
+      ∙ ap (λ (k : ℕ). f (probabilityTable m) k (entriesOf k paths list)) (held .number)
+      ∙ ap (f (probabilityTable m) (components m)) (held .listed .entries)
 
 -- sums of lower bounds have no limit
 module _ {probabilities list : List ℕ} {n paths : ℕ} (known : Boundable probabilities n list paths) where

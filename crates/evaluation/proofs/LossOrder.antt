@@ -53,7 +53,7 @@ held-losses held is-lower is-upper =
       lowers = is-lower;
       uppers = is-upper;
       bounds =
-          rw (is-lower ∙ held-values held lowerLoads, is-upper ∙ held-values held upperLoads) (model-losses (held .model) (held .listed .good));
+          rw (is-lower ∙ held-values (held .holds) lowerLoads, is-upper ∙ held-values (held .holds) upperLoads) (model-losses (held .model) (held .holds .listed .good));
     }
 
 -- what holds of all load places holds of those in use

@@ -15,9 +15,13 @@ pub record Listed (m : Model) (paths : ℕ) (list : List ℕ) : Type 0 where
   pub room : PathList (components m) paths list
   pub entries : entriesOf (components m) paths list ≡ pathsOf m
 
--- beside it stands the table of its probabilities; which model it is does not matter to what is worked out
+-- beside it stands the table of its probabilities
+pub record HeldOf (m : Model) (table : List ℕ) (n : ℕ) (list : List ℕ) (paths : ℕ) : Type 0 where
+  pub is-table : table ≡ probabilityTable m
+  pub number : n ≡ components m
+  pub listed : Listed m paths list
+
+-- which model it is does not matter to what is worked out
 pub record Held (table : List ℕ) (n : ℕ) (list : List ℕ) (paths : ℕ) : Type 0 where
   pub model : Model
-  pub is-table : table ≡ probabilityTable model
-  pub number : n ≡ components model
-  pub listed : Listed model paths list
+  pub holds : HeldOf model table n list paths

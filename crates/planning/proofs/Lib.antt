@@ -1,4 +1,2 @@
-pub mod FigureCalls
-pub mod Listed
-pub mod LoadCalls
-pub mod Paired
+pub mod Judged
+pub mod StudySlices

@@ -1,68 +1,58 @@
--- What the calls for the bounds of paths, classes and loads answer, and what they write.
+-- What the calls for the bounds of paths, classes and loads answer, and by what they are refused.
 use Prim.Native.Nat.{ℕ}
-use mathlib.Core.Bool.{cond}
 use mathlib.Core.List.{List, [], _∷_}
-use lib.Dec.{eqb}
 use lib.ListN.{length}
 use Rattle.lists.specs.Bits.{bit}
-use Rattle.lists.specs.Rows.{put}
 use Rattle.rules.specs.Breach.{firstBreach}
 use Rattle.rules.specs.Table.{unsoundFault, itemFault, roomFault}
-use Rattle.entries.specs.Entries.{classPlaces}
 use Rattle.study.specs.declared.Study.{Study}
+use Rattle.answers.specs.Answered.{answered}
+use Rattle.answers.specs.declared.bounds.BoundsAnswer.{BoundsAnswer}
+use Rattle.answers.specs.declared.bounds.BoundsAnswer.the-variants.{Bounds, Refused as NoBounds}
+use Rattle.answers.specs.declared.bounds.Enclosure.{Enclosure}
+use Rattle.answers.specs.declared.counts.CountAnswer.{CountAnswer}
+use Rattle.answers.specs.declared.counts.CountAnswer.the-variants.{Count, Refused as NoCount}
 use Rattle.answers.specs.declared.outcome.Outcome.{Outcome}
 use Rattle.answers.specs.declared.outcome.Outcome.the-variants.{Done, Refused}
+use Rattle.entries.specs.Entries.{classPlaces}
+use Rattle.model.specs.Model.{Model, pathsOf}
 use Rattle.soundness.specs.Check.{sound}
-use Rattle.answers.specs.declared.bounds.Enclosure.{Enclosure}
+use Rattle.study_model.specs.Model.{modelOf}
 use Rattle.evaluation.specs.Bounds.{lowerOf, upperOf}
-use Rattle.evaluation.specs.Listing.{pathList}
-use Rattle.planning.specs.declared.bounds.PathsBounded.{PathsBounded}
-use Rattle.planning.specs.declared.bounds.PathsBounded.the-variants.{Bounded, Refused as NotBounded}
-use Rattle.planning.specs.declared.loads.LoadBounded.{LoadBounded}
-use Rattle.planning.specs.declared.loads.LoadBounded.the-variants.{Bounds as LossBounds, Refused as NoLossBounds}
 
--- ---- slices
+-- ---- two slices of which each needs so many places
 
--- 18 where either of two slices has fewer places than needed
-unfoldable pub pairRoom : ℕ → List ℕ → List ℕ → ℕ
-pairRoom need lower upper = firstBreach (roomFault need (length lower) ∷ roomFault need (length upper) ∷ [])
+-- 18 where either has fewer
+unfoldable pub pairFault : ℕ → ℕ → ℕ → ℕ
+pairFault need lower upper = firstBreach (roomFault need lower ∷ roomFault need upper ∷ [])
+
+abbrev pub pairRoom : ℕ → List ℕ → List ℕ → ℕ
+pairRoom need lower upper = pairFault need (length lower) (length upper)
 
 -- 16, then 18
-unfoldable pub pairFault : Study → ℕ → List ℕ → List ℕ → ℕ
-unfolding pairRoom
-pairFault t need lower upper = firstBreach (unsoundFault (sound t) ∷ pairRoom need lower upper ∷ [])
-
--- a slice after a call: new values in front, and the rest as it was; a breach leaves it all as it was
-unfoldable pub filled : ℕ → List ℕ → List ℕ → List ℕ
-filled breach values slice = cond (eqb breach 0) (put slice 0 values) slice
+unfoldable pub pairBreach : Study → ℕ → ℕ → ℕ → ℕ
+unfolding pairFault
+pairBreach t need lower upper = firstBreach (unsoundFault (sound t) ∷ pairFault need lower upper ∷ [])
 
 -- ---- the call for paths
 
-unfoldable pub pathsFault : Study → List ℕ → List ℕ → ℕ
-unfolding pairFault
-pathsFault t lower upper = pairFault t (length (pathList t)) lower upper
+abbrev pub pathsFault : Study → List ℕ → List ℕ → ℕ
+pathsFault t lower upper = pairBreach t (length (pathsOf (modelOf t))) (length lower) (length upper)
 
--- the answer: the number of paths, or the breach
-unfoldable pub bounded : ℕ → ℕ → PathsBounded
-bounded breach paths = cond (eqb breach 0) (Bounded paths) (NotBounded breach)
-
-unfoldable pub pathsBounded : Study → List ℕ → List ℕ → PathsBounded
-unfolding bounded
-pathsBounded t lower upper = bounded (pathsFault t lower upper) (length (pathList t))
+-- the answer: the number of paths
+unfoldable pub pathsBounded : Study → List ℕ → List ℕ → CountAnswer
+unfolding answered pairBreach
+pathsBounded t lower upper = answered NoCount (pathsFault t lower upper) (Count (length (pathsOf (modelOf t))))
 
 -- ---- the call for classes
 
-unfoldable pub classesFault : Study → List ℕ → List ℕ → ℕ
-unfolding pairFault
-classesFault t lower upper = pairFault t classPlaces lower upper
+abbrev pub classesFault : Study → List ℕ → List ℕ → ℕ
+classesFault t lower upper = pairBreach t classPlaces (length lower) (length upper)
 
--- the answer: only that it is done, or the breach
-unfoldable pub done : ℕ → Outcome
-done breach = cond (eqb breach 0) Done (Refused breach)
-
+-- the answer: only that it is done
 unfoldable pub classesBounded : Study → List ℕ → List ℕ → Outcome
-unfolding done
-classesBounded t lower upper = done (classesFault t lower upper)
+unfolding answered pairBreach
+classesBounded t lower upper = answered Refused (classesFault t lower upper) Done
 
 -- ---- the call for a load
 
@@ -70,11 +60,11 @@ classesBounded t lower upper = done (classesFault t lower upper)
 unfoldable pub lossFault : Study → ℕ → ℕ
 lossFault t j = firstBreach (unsoundFault (sound t) ∷ itemFault (t .loads) j ∷ [])
 
--- the pair itself, or the breach
-unfoldable pub lossOf : ℕ → Enclosure → LoadBounded
-lossOf breach pair = cond (eqb breach 0) (LossBounds pair) (NoLossBounds breach)
+-- the bounds for the loss of load j
+abbrev pub lossOf : Model → ℕ → Enclosure
+lossOf m j = record { lower = lowerOf m (λ (class : ℕ). bit class j); upper = upperOf m (λ (class : ℕ). bit class j) }
 
-unfoldable pub loadBounded : Study → ℕ → LoadBounded
-unfolding lossOf
-loadBounded t j =
-    lossOf (lossFault t j) (record { lower = lowerOf t (λ (class : ℕ). bit class j); upper = upperOf t (λ (class : ℕ). bit class j) })
+-- the answer: the pair itself
+unfoldable pub loadBounded : Study → ℕ → BoundsAnswer
+unfolding answered lossFault
+loadBounded t j = answered NoBounds (lossFault t j) (Bounds (lossOf (modelOf t) j))

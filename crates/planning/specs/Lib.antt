@@ -1,4 +1,4 @@
-pub mod Answers
 pub mod Bounds
 pub mod Figures
 pub mod Listing
+pub mod Losses

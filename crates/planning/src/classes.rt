@@ -1,46 +1,61 @@
-// Bounds for the classes of a study, added up in two lent slices.
+// The call for the bounds of a study's classes, added up in two lent slices.
 use crate::pairs::pair_fault;
-use evaluation::blank_page;
-use evaluation::list_page;
+use answers::Outcome;
+use entries::CLASS_PLACES;
+use entries::empty_list;
 use evaluation::write_classes;
-use rules::CLASS_PLACES;
+use probability::first_components;
 use rules::first;
 use rules::unsound_fault;
 use soundness::is_sound;
-use answers::Outcome;
 use study::Study;
+use study_model::slice_study;
 ghost use Prim.Native.Nat.{_≤_};
 ghost use mathlib.Core.Path.{_≡_};
 ghost use lib.ListN.{length};
 ghost use Rattle.lists.specs.Rows.{put};
+ghost use Rattle.answers.specs.Answered.{filled};
 ghost use Rattle.entries.specs.Entries.{classPlaces};
 ghost use Rattle.soundness.specs.Sound.{Sound};
-ghost use Rattle.evaluation.specs.Bounds.{lowerClasses, upperClasses};
-ghost use Rattle.planning.specs.Bounds.{filled, classesFault, classesBounded};
+ghost use Rattle.study_model.specs.Model.{modelOf};
+ghost use Rattle.evaluation.specs.Bounds.{classLowers, classUppers};
+ghost use Rattle.planning.specs.Bounds.{pairBreach, classesFault, classesBounded};
+
+// The breach of the call, for slices of so many places.
+fn classes_breach(study: Study, lower: usize, upper: usize) -> u8
+    ensures { λ r. ⌜ r ≡ pairBreach study classPlaces lower upper ⌝ }
+{
+    first(
+        unsound_fault(is_sound(study)),
+        pair_fault(CLASS_PLACES, lower, upper),
+    )
+}
 
 // Bounds for the classes of a sound study, in slices that have the room.
 fn bound_classes(t: Study, lower: &mut [u64], upper: &mut [u64])
     requires { ⌜ Sound t ⌝ }
     requires { ⌜ classPlaces ≤ length (now lower) ⌝ }
     requires { ⌜ classPlaces ≤ length (now upper) ⌝ }
-    ensures { λ r. ⌜ now (lower .exit) ≡ put (now (lower .entry)) 0 (lowerClasses t) ⌝ }
-    ensures { λ r. ⌜ now (upper .exit) ≡ put (now (upper .entry)) 0 (upperClasses t) ⌝ }
+    ensures lower { λ r. ⌜ now (lower .exit) ≡ put (now (lower .entry)) 0 (classLowers (modelOf t)) ⌝ }
+    ensures upper { λ r. ⌜ now (upper .exit) ≡ put (now (upper .entry)) 0 (classUppers (modelOf t)) ⌝ }
 {
-    let mut page = blank_page();
-    let paths = list_page(t, &mut page);
-    write_classes(t, &page, paths, lower, upper);
+    let mut list = empty_list();
+    let slices = slice_study(t, &mut list);
+    let paths = slices.paths as usize;
+    let table = slices.probabilities;
+    let n = t.components as usize;
+    write_classes(first_components(&table, n), n, &list, paths, lower, upper);
 }
 
-// Bounds for the classes of a study, at places 0 to 255 of two slices. Refused by 16, 18, in this order.
+// Bounds for the classes of a study, at the front of two slices, a place for each class. Refused by 16, 18, in this order.
 pub fn class_bounds(study: Study, lower: &mut [u64], upper: &mut [u64]) -> Outcome
-    ensures { λ r. ⌜ r ≡ classesBounded study (now (lower .entry)) (now (upper .entry)) ⌝ }
-    ensures { λ r. ⌜ now (lower .exit) ≡ filled (classesFault study (now (lower .entry)) (now (upper .entry))) (lowerClasses study) (now (lower .entry)) ⌝ }
-    ensures { λ r. ⌜ now (upper .exit) ≡ filled (classesFault study (now (lower .entry)) (now (upper .entry))) (upperClasses study) (now (upper .entry)) ⌝ }
+    ensures answer { λ r. ⌜ r ≡ classesBounded study (now (lower .entry)) (now (upper .entry)) ⌝ }
+    ensures lower { λ r. ⌜ now (lower .exit) ≡ filled (classesFault study (now (lower .entry)) (now (upper .entry))) (classLowers (modelOf study)) (now (lower .entry)) ⌝ }
+    ensures upper { λ r. ⌜ now (upper .exit) ≡ filled (classesFault study (now (lower .entry)) (now (upper .entry))) (classUppers (modelOf study)) (now (upper .entry)) ⌝ }
 {
-    let room = pair_fault(CLASS_PLACES, lower.len(), upper.len());
-    let fault = first(unsound_fault(is_sound(study)), room);
-    if fault != 0 {
-        return Outcome::Refused(fault);
+    let breach = classes_breach(study, lower.len(), upper.len());
+    if breach != 0 {
+        return Outcome::Refused(breach);
     }
     bound_classes(study, lower, upper);
     Outcome::Done

@@ -1,5 +1,6 @@
-// Bounds for the loss of a load.
-use evaluation::losses_of;
+// The call for the bounds of a load's loss.
+use crate::losses::study_losses;
+use answers::BoundsAnswer;
 use answers::Enclosure;
 use rules::first;
 use rules::item_fault;
@@ -8,28 +9,30 @@ use soundness::is_sound;
 use study::Study;
 ghost use mathlib.Core.Path.{_≡_};
 ghost use Rattle.planning.specs.Bounds.{loadBounded};
+ghost use Rattle.planning.specs.Losses.{LoadJudged};
 
-// What a call for the bounds of a load answers: the pair, or the number of the refusal table by which it was refused.
-pub enum LoadBounded {
-    Bounds(Enclosure),
-    Refused(u8),
+// The breach of the call; without one the study is sound and has the load.
+fn load_breach(study: Study, load: usize) -> u8
+    ensures { λ r. ⌜ LoadJudged study load r ⌝ }
+{
+    first(
+        unsound_fault(is_sound(study)),
+        item_fault(study.loads, load),
+    )
 }
 
 // Bounds for the loss of a load. Refused by 16, 17, in this order.
-pub fn load_bounds(study: Study, load: usize) -> LoadBounded
+pub fn load_bounds(study: Study, load: usize) -> BoundsAnswer
     ensures { λ r. ⌜ r ≡ loadBounded study load ⌝ }
 {
-    let fault = first(
-        unsound_fault(is_sound(study)),
-        item_fault(study.loads, load),
-    );
-    if fault != 0 {
-        return LoadBounded::Refused(fault);
+    let breach = load_breach(study, load);
+    if breach != 0 {
+        return BoundsAnswer::Refused(breach);
     }
-    let losses = losses_of(study);
+    let losses = study_losses(study);
     let lower = losses.lower;
     let upper = losses.upper;
-    LoadBounded::Bounds(Enclosure {
+    BoundsAnswer::Bounds(Enclosure {
         lower: lower[load],
         upper: upper[load],
     })

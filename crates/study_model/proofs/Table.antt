@@ -10,7 +10,7 @@ use Rattle.rules.specs.Limits.{mostComponents, mostStates}
 use Rattle.study.specs.declared.Component.{Component}
 use Rattle.study.specs.declared.Study.{Study}
 use Rattle.study.specs.Zero.{zeroComponent}
-use Rattle.model.specs.Held.{Listed, Held}
+use Rattle.model.specs.Held.{Listed, HeldOf}
 use Rattle.model.specs.Model.{probabilityTable}
 use Rattle.soundness.specs.Sound.{Sound}
 use Rattle.soundness.proofs.Ranges.{counts-long}
@@ -32,11 +32,10 @@ table-front t =
 -- slices that hold the list of a study's paths and the front of its table hold what its model is worked out of
 pub study-held : {t : Study} {paths : ℕ} {table probabilities list : List ℕ} → Sound t → length (t .component) ≡ mostComponents
     → table ≡ placeProbabilities (t .component) → probabilities ≡ take (t .components * mostStates) table → Listed (modelOf t) paths list
-    → Held probabilities (t .components) list paths
+    → HeldOf (modelOf t) probabilities (t .components) list paths
 unfolding modelOf
 study-held {t} sound twelve is-table is-front listed =
     record {
-      model = modelOf t;
       is-table = is-front ∙ ap (take (t .components * mostStates)) is-table ∙ table-front t;
       number = sym (counts-long t sound twelve);
       listed = listed;

@@ -2,7 +2,8 @@
 // probabilities of its components' states, and the list of its paths. Not for callers from outside: those call `planning`.
 mod listing;
 mod probabilities;
+mod slices;
 
 pub use listing::list_lent;
-pub use listing::list_study;
-pub use probabilities::probability_table;
+pub use slices::Sliced;
+pub use slices::slice_study;

@@ -9,18 +9,18 @@ use Rattle.evaluation.proofs.losses.loss_bounds.Statement.{statement}
 use Rattle.evaluation.proofs.losses.loss_bounds.Tie as tie
 
 load-totals-requires : tie.Need-load-totals-requires
-load-totals-requires c κs = (omega arith, (held-boundable (c .before .before .pre), omega arith))
+load-totals-requires c κs = (omega arith, (held-boundable (c .before .before .pre .holds), omega arith))
 
 cast-load-totals : tie.Need-cast-load-totals
 cast-load-totals c = search needs
 
 load-totals-requires-2 : tie.Need-load-totals-requires-2
-load-totals-requires-2 c κs = (omega arith, (held-boundable (c .before .before .before .pre), omega arith))
+load-totals-requires-2 c κs = (omega arith, (held-boundable (c .before .before .before .pre .holds), omega arith))
 
 returns : tie.Need-returns
 returns c =
     let held = c .before .before .before .before .pre in
-    held-losses held (c .before .load-totals .ensures ∙ loads-lower (held-boundable held)) (c .load-totals2 .ensures ∙ upper-loads _ _ _)
+    held-losses held (c .before .load-totals .ensures ∙ loads-lower (held-boundable (held .holds))) (c .load-totals2 .ensures ∙ upper-loads _ _ _)
 
 pub loss-bounds-spec : {M : Type 1} → statement M
 loss-bounds-spec =

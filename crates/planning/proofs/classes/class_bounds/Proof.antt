@@ -1,44 +1,26 @@
--- `planning::classes::class_bounds` meets its contract: the first of its breaches decides before anything is written.
-use mathlib.Core.Path.{refl, sym, _∙_}
-use Rattle.planning.specs.Bounds.{classesFault, classesBounded}
-use Rattle.planning.proofs.Paired.{pair-is, pair-both, pair-taken, filled-kept, filled-done, done-refused, done-done}
+-- `planning::classes::class_bounds` meets its contract: without a breach the study is sound and the slices have the room.
+use mathlib.Core.Path.{sym, _∙_}
+use Rattle.answers.specs.declared.outcome.Outcome.the-variants.{Refused}
+use Rattle.answers.proofs.Answered.{answered-done, answered-refused, filled-done, filled-refused}
+use Rattle.planning.specs.Bounds.{classesBounded}
+use Rattle.planning.proofs.Judged.{pair-kept}
 use borrow.Author.Needs.{needs}
 use Rattle.planning.proofs.classes.class_bounds.Statement.{statement}
 use Rattle.planning.proofs.classes.class_bounds.Tie as tie
 
-pair-fault-requires : tie.Need-pair-fault-requires
-pair-fault-requires c κs = search needs
-
-is-sound-requires : tie.Need-is-sound-requires
-is-sound-requires c κs = search needs
-
-unsound-fault-requires : tie.Need-unsound-fault-requires
-unsound-fault-requires c κs = search needs
-
-first-requires : tie.Need-first-requires
-first-requires c κs = search needs
+classes-breach-requires : tie.Need-classes-breach-requires
+classes-breach-requires c κs = search needs
 
 returns : tie.Need-returns
-unfolding classesFault classesBounded
+unfolding classesBounded
 returns c =
-    let start = c .before .before .before .before .before .before .before in
-    let lower = start .args .lower .now in
-    let upper = start .args .upper .now in
-    let unsound = rw (c .before .before .before .is-sound .ensures) at (c .before .before .unsound-fault .ensures) in
-    let room = pair-is 256 256 lower upper _ refl (c .before .before .before .before .pair-fault .ensures) in
-    let fault = pair-both (start .args .study) 256 lower upper _ _ _ (c .before .first .ensures) unsound room in
-    rw (← fault) (done-refused _ (c .if1 .taken), (filled-kept _ _ _ (c .if1 .taken), filled-kept _ _ _ (c .if1 .taken)))
+    let taken = c .if1 .taken in
+    rw (← c .before .classes-breach .ensures) (sym (answered-refused Refused _ _ taken), (sym (filled-refused _ _ _ taken), sym (filled-refused _ _ _ taken)))
 
 bound-classes-requires : tie.Need-bound-classes-requires
 bound-classes-requires c κs =
-    let start = c .before .before .before .before .before .before .before .before .before in
-    let lower = start .args .lower .now in
-    let upper = start .args .upper .now in
-    let unsound = rw (c .before .before .before .before .before .is-sound .ensures) at (c .before .before .before .before .unsound-fault .ensures) in
-    let room = pair-is 256 256 lower upper _ refl (c .before .before .before .before .before .before .pair-fault .ensures) in
-    let fault = pair-both (start .args .study) 256 lower upper _ _ _ (c .before .before .before .first .ensures) unsound room in
-    let taken = pair-taken (start .args .study) 256 lower upper (sym fault ∙ c .before .before .if1 .left) in
-    (taken .is-sound, (taken .room .in-lower, taken .room .in-upper))
+    let kept = pair-kept (sym (c .before .before .before .classes-breach .ensures) ∙ c .before .before .if1 .left) in
+    (kept .is-sound, (kept .room .in-lower, kept .room .in-upper))
 
 same-length : tie.Need-same-length
 same-length c = search needs
@@ -47,26 +29,21 @@ same-length-2 : tie.Need-same-length-2
 same-length-2 c = search needs
 
 returns-2 : tie.Need-returns-2
-unfolding classesFault classesBounded
+unfolding classesBounded
 returns-2 c =
-    let start = c .before .before .before .before .before .before .before .before .before .before .before .before .before .before in
-    let lower = start .args .lower .now in
-    let upper = start .args .upper .now in
-    let unsound = rw (c .before .before .before .before .before .before .before .before .before .before .is-sound .ensures) at (c .before .before .before .before .before .before .before .before .before .unsound-fault .ensures) in
-    let room = pair-is 256 256 lower upper _ refl (c .before .before .before .before .before .before .before .before .before .before .before .pair-fault .ensures) in
-    let fault = pair-both (start .args .study) 256 lower upper _ _ _ (c .before .before .before .before .before .before .before .before .first .ensures) unsound room in
-    let none = sym fault ∙ c .before .before .before .before .before .before .before .if1 .left in
-    let wrote = c .before .before .before .before .bound-classes .ensures in
-    (done-done _ none, (wrote .0 ∙ filled-done _ _ _ none, wrote .1 ∙ filled-done _ _ _ none))
+    let bounding = c .before .before .before .before in
+    let judged = bounding .before .before .before in
+    let none = sym (judged .before .classes-breach .ensures) ∙ judged .if1 .left in
+    (
+      sym (answered-done Refused _ _ none),
+      (bounding .bound-classes .ensures .0 ∙ sym (filled-done _ _ _ none), bounding .bound-classes .ensures .1 ∙ sym (filled-done _ _ _ none)),
+    )
 
 pub class-bounds-spec : {M : Type 1} → statement M
 class-bounds-spec =
     tie.close
     (tie.spec
-    pair-fault-requires
-    is-sound-requires
-    unsound-fault-requires
-    first-requires
+    classes-breach-requires
     returns
     bound-classes-requires
     same-length

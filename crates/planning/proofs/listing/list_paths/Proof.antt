@@ -1,9 +1,9 @@
--- `planning::listing::list_paths` meets its contract: 16 is looked at first, and a sound study is refused for its room alone.
-use mathlib.Core.Path.{sym, _∙_}
-use lib.ListN.{length}
-use Rattle.soundness.proofs.Checked.{no-unsound}
-use Rattle.planning.specs.Listing.{pathsListed, bufferListed}
-use Rattle.planning.proofs.Listed.{list-unsound, list-room}
+-- `planning::listing::list_paths` meets its contract: 16 decides where it stands, and otherwise the room.
+use mathlib.Core.Path.{sym}
+use Rattle.answers.specs.declared.counts.Listing.the-variants.{Refused}
+use Rattle.answers.proofs.Answered.{answered-refused, filled-refused}
+use Rattle.planning.specs.Listing.{listFault, pathsListed, bufferListed}
+use Rattle.planning.proofs.Judged.{unsound-first, sound-behind, next-first}
 use borrow.Author.Needs.{needs}
 use Rattle.planning.proofs.listing.list_paths.Statement.{statement}
 use Rattle.planning.proofs.listing.list_paths.Tie as tie
@@ -15,27 +15,24 @@ unsound-fault-requires : tie.Need-unsound-fault-requires
 unsound-fault-requires c κs = search needs
 
 returns : tie.Need-returns
+unfolding listFault pathsListed bufferListed
 returns c =
-    let start = c .before .before .before .before in
-    let same = rw (c .before .before .is-sound .ensures) at (c .before .unsound-fault .ensures) in
-    let unlisted = list-unsound (start .args .study) (start .args .buffer .now) _ same (c .if1 .taken) in
-    (unlisted .answer, unlisted .kept)
+    let taken = c .if1 .taken in
+    rw (← unsound-first _ (c .before .before .is-sound .ensures) (c .before .unsound-fault .ensures) _ taken)
+    (sym (answered-refused Refused _ _ taken), sym (filled-refused _ _ _ taken))
 
-list-sound-requires : tie.Need-list-sound-requires
-list-sound-requires c κs =
-    let same = rw (c .before .before .before .is-sound .ensures) at (c .before .before .unsound-fault .ensures) in
-    no-unsound _ (sym same ∙ c .before .if1 .left)
+list-lent-requires : tie.Need-list-lent-requires
+list-lent-requires c κs =
+    sound-behind _ (c .before .before .before .is-sound .ensures) (c .before .before .unsound-fault .ensures) (c .before .if1 .left)
 
 same-length : tie.Need-same-length
 same-length c = search needs
 
 returns-2 : tie.Need-returns-2
-unfolding pathsListed bufferListed
+unfolding listFault pathsListed bufferListed
 returns-2 c =
-    let start = c .before .before .before .before .before .before .before .before in
-    let same = rw (c .before .before .before .before .before .before .is-sound .ensures) at (c .before .before .before .before .before .unsound-fault .ensures) in
-    let room = list-room (start .args .study) (length (start .args .buffer .now)) (sym same ∙ c .before .before .before .before .if1 .left) in
-    rw room (c .before .before .list-sound .ensures)
+    let kept = c .before .before .before .before in
+    rw (next-first _ (kept .before .before .is-sound .ensures) (kept .before .unsound-fault .ensures) (kept .if1 .left)) (c .before .before .list-lent .ensures)
 
 pub list-paths-spec : {M : Type 1} → statement M
 list-paths-spec =
@@ -44,6 +41,6 @@ list-paths-spec =
     is-sound-requires
     unsound-fault-requires
     returns
-    list-sound-requires
+    list-lent-requires
     same-length
     returns-2)

@@ -1,6 +1,6 @@
--- `planning::pairs::pair_fault` meets its contract: the first of the two breaches, and none behind them.
-use Rattle.rules.specs.Breach.{firstBreach}
-use Rattle.rules.proofs.Kept.{first-last}
+-- `planning::pairs::pair_fault` meets its contract: the room of the lower slice is judged first.
+use Rattle.rules.proofs.Kept.{two-judged}
+use Rattle.planning.specs.Bounds.{pairFault}
 use borrow.Author.Needs.{needs}
 use Rattle.planning.proofs.pairs.pair_fault.Statement.{statement}
 use Rattle.planning.proofs.pairs.pair_fault.Tie as tie
@@ -15,8 +15,8 @@ first-requires : tie.Need-first-requires
 first-requires c κs = search needs
 
 returns : tie.Need-returns
-unfolding firstBreach
-returns c = cc (c .first .ensures, c .before .room-fault2 .ensures, c .before .before .room-fault .ensures, first-last (c .before .room-fault2 .result))
+unfolding pairFault
+returns c = two-judged (c .first .ensures) (c .before .before .room-fault .ensures) (c .before .room-fault2 .ensures)
 
 pub pair-fault-spec : {M : Type 1} → statement M
 pair-fault-spec =

@@ -1,7 +1,7 @@
-// The call for the three figures of a study.
+// The call for the figures of a study.
+use crate::losses::study_losses;
 use answers::FiguresAnswer;
 use evaluation::figures_from;
-use evaluation::losses_of;
 use rules::unsound_fault;
 use soundness::is_sound;
 use study::Study;
@@ -16,6 +16,6 @@ pub fn figures(study: Study) -> FiguresAnswer
     if fault != 0 {
         return FiguresAnswer::Refused(fault);
     }
-    let losses = losses_of(study);
-    figures_from(study, losses)
+    let load = study.load;
+    figures_from(study_losses(study), load, study.loads)
 }

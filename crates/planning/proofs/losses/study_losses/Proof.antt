@@ -1,0 +1,65 @@
+-- `planning::losses::study_losses` meets its contract: the slices hold what the study's model is worked out of.
+use mathlib.Core.Path.{_≡_}
+use denote.Ref.{now}
+use Rattle.model.specs.Held.{HeldOf}
+use Rattle.study_model.specs.Model.{modelOf}
+use Rattle.planning.proofs.StudySlices.{front-inside, held-front, study-losses-are}
+use borrow.Author.Needs.{needs}
+use Rattle.planning.proofs.losses.study_losses.Statement.{statement}
+use Rattle.planning.proofs.losses.study_losses.Tie as tie
+
+abbrev sliced : tie.After-first-components → tie.After-slice-study
+sliced c = c .before .before .before .before .before
+
+abbrev start : tie.After-slice-study → tie.Start
+start c = c .before .before .before
+
+held : (c : tie.After-first-components)
+    → HeldOf (modelOf (start (sliced c) .args .t)) (now (c .first-components .result)) (start (sliced c) .args .t .components)
+    (sliced c .slice-study .last .1 .0) (sliced c .slice-study .result .paths)
+held c = held-front (sliced c .slice-study .ensures) (c .first-components .ensures)
+
+empty-list-requires : tie.Need-empty-list-requires
+empty-list-requires c κs = search needs
+
+slice-aggregate-slice-study : tie.Need-slice-aggregate-slice-study
+slice-aggregate-slice-study c = search needs
+
+slice-study-requires : tie.Need-slice-study-requires
+slice-study-requires c κs = search needs
+
+cast-n : tie.Need-cast-n
+cast-n c = search needs
+
+slice-aggregate-first-components : tie.Need-slice-aggregate-first-components
+slice-aggregate-first-components c = search needs
+
+first-components-requires : tie.Need-first-components-requires
+first-components-requires c κs = front-inside (start (c .before .before .before .before) .pre) (search needs)
+
+slice-aggregate-loss-bounds : tie.Need-slice-aggregate-loss-bounds
+slice-aggregate-loss-bounds c = search needs
+
+cast-loss-bounds : tie.Need-cast-loss-bounds
+cast-loss-bounds c = search needs
+
+loss-bounds-requires : tie.Need-loss-bounds-requires
+loss-bounds-requires c κs = record { model = _; holds = held (c .before .before) }
+
+returns : tie.Need-returns
+returns c = study-losses-are (held (c .before .before .before)) (c .loss-bounds .ensures)
+
+pub study-losses-spec : {M : Type 1} → statement M
+study-losses-spec =
+    tie.close
+    (tie.spec
+    empty-list-requires
+    slice-aggregate-slice-study
+    slice-study-requires
+    cast-n
+    slice-aggregate-first-components
+    first-components-requires
+    slice-aggregate-loss-bounds
+    cast-loss-bounds
+    loss-bounds-requires
+    returns)
