@@ -12,7 +12,8 @@ use Rattle.lists.specs.Counting.{truth, sumOver}
 use Rattle.lists.proofs.Adding.{add-next}
 use Rattle.lists.proofs.Sums.{truth-most}
 use Rattle.lists.proofs.Tabulated.{getD-tabulate, tabulated, tabulate-set}
-use Rattle.entries.specs.Entries.{classBorne, classPlaces, entriesOf}
+use Rattle.entries.specs.Entries.{classBorne, classPlaces, entryAt, entriesOf}
+use Rattle.entries.specs.Lists.{PathList}
 use Rattle.entries.proofs.Entries.{entries-long, entry-is}
 use Rattle.report_lines.specs.Classes.{bearing, noneBearing, allBearing}
 
@@ -44,13 +45,14 @@ counted n entries k class r inside small borne e =
     there c other = rw (next c, ne-eqb class c (λ same. other (sym same)), add-zero) refl
 
 pub record Borne (n : ℕ) (list : List ℕ) (paths k : ℕ) (table : List ℕ) : Type 0 where
+  pub room : PathList n paths list
   pub made : table ≡ allBearing n (take k (entriesOf n paths list))
 
 module _ {n : ℕ} {list : List ℕ} {paths : ℕ} where
-  pub borne-start : {table : List ℕ} → table ≡ noneBearing → Borne n list paths 0 table
+  pub borne-start : {table : List ℕ} → PathList n paths list → table ≡ noneBearing → Borne n list paths 0 table
   unfolding noneBearing allBearing bearing sumOver
-  borne-start {table} e =
-      record { made = e ∙ tabulated (λ (c : ℕ). 0) classPlaces (replicate classPlaces 0) 0 (length-replicate {A = ℕ} classPlaces 0) (λ c h. getD-replicate {A = ℕ} classPlaces c 0 0 h) }
+  borne-start {table} room e =
+      record { room = room; made = e ∙ tabulated (λ (c : ℕ). 0) classPlaces (replicate classPlaces 0) 0 (length-replicate {A = ℕ} classPlaces 0) (λ c h. getD-replicate {A = ℕ} classPlaces c 0 0 h) }
 
   -- the count that stands at a class
   borne-at : {k : ℕ} {table : List ℕ} (class : ℕ) → Borne n list paths k table → class < classPlaces
@@ -64,15 +66,14 @@ module _ {n : ℕ} {list : List ℕ} {paths : ℕ} where
       let entries = entriesOf n paths list in
       omega (arith, borne-at class b h, bearing-most n (take k entries) class, length-take k entries)
 
-  pub borne-more : {k class r : ℕ} {table entry : List ℕ} → Borne n list paths k table → k < paths → class < classPlaces
-      → entry ≡ take (n + 1) (drop (k * (n + 1)) list) → class ≡ getD entry n 0 → r ≡ getD table class 0 + 1
-      → Borne n list paths (k + 1) (set table class r)
-  borne-more {k} {class} {r} {table} {entry} b h small is-entry is-class e =
+  pub borne-more : {k class r : ℕ} {table : List ℕ} → Borne n list paths k table → k < paths → class < classPlaces
+      → class ≡ classBorne n (entryAt n list k) → r ≡ getD table class 0 + 1 → Borne n list paths (k + 1) (set table class r)
+  borne-more {k} {class} {r} {table} b h small is-class e =
       let entries = entriesOf n paths list in
       let inside : k < length entries = rw (entries-long n paths list) h in
-      let borne = is-class ∙ ap (λ (l : List ℕ). getD l n 0) (is-entry ∙ sym (entry-is n paths list k h)) in
+      let borne = is-class ∙ ap (classBorne n) (sym (entry-is n paths list k h)) in
       let count : r ≡ bearing n (take k entries) class + 1 = e ∙ ap (λ (v : ℕ). v + 1) (borne-at class b small) in
-      record { made = ap (λ (l : List ℕ). set l class r) (b .made) ∙ counted n entries k class r inside small borne count }
+      record { room = b .room; made = ap (λ (l : List ℕ). set l class r) (b .made) ∙ counted n entries k class r inside small borne count }
 
   pub borne-done : {k : ℕ} {table : List ℕ} → Borne n list paths k table → paths ≤ k → table ≡ allBearing n (entriesOf n paths list)
   borne-done {k} {table} b h = b .made ∙ ap (allBearing n) (take-all k (entriesOf n paths list) (omega (arith, h, entries-long n paths list)))

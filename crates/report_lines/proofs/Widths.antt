@@ -20,9 +20,9 @@ use Rattle.probability.proofs.Most.{path-most}
 use Rattle.answers.specs.declared.figures.Caidi.{Caidi}
 use Rattle.answers.specs.declared.figures.Caidi.the-variants.{Bounds, NotStated}
 use Rattle.answers.specs.declared.bounds.Enclosure.{Enclosure}
-use Rattle.answers.specs.declared.figures.Figures.{Figures as Triple}
+use Rattle.answers.specs.declared.figures.Figures.{Figures as FigureValues}
 use Rattle.report_lines.specs.Classes.{classLine, classLines}
-use Rattle.report_lines.specs.Figures.{caidiLine, tripleLines}
+use Rattle.report_lines.specs.Figures.{caidiLine, allFigures}
 use Rattle.report_lines.specs.Loads.{loadLine, loadLines}
 use Rattle.report_lines.specs.Paths.{entryLine, pathLine, pathLines}
 use Rattle.report_lines.proofs.Listed.{lineAt, lines-at}
@@ -42,17 +42,17 @@ class-byte : (n : ℕ) (list : List ℕ) (k : ℕ) → ((i : ℕ) → getD list 
 class-byte n list k bytes =
     rw (getD-take (n + 1) (drop (k * (n + 1)) list) n 0 (omega arith), getD-drop (k * (n + 1)) list n 0) (bytes (k * (n + 1) + n))
 
-pub path-lines-short : (chances : List ℕ) (n : ℕ) (list : List ℕ) (paths : ℕ) → AtMostOne chances → n ≤ mostComponents → ((i : ℕ) → getD list i 0 < 256)
-    → length (pathLines chances n (entriesOf n paths list)) ≤ paths * 41
+pub path-lines-short : (probabilities : List ℕ) (n : ℕ) (list : List ℕ) (paths : ℕ) → AtMostOne probabilities → n ≤ mostComponents → ((i : ℕ) → getD list i 0 < 256)
+    → length (pathLines probabilities n (entriesOf n paths list)) ≤ paths * 41
 unfolding pathLine
-path-lines-short chances n list paths chance few bytes = rw (lines-at chances n list paths) (lines-short (lineAt chances n list) paths 41 line)
+path-lines-short probabilities n list paths probability few bytes = rw (lines-at probabilities n list paths) (lines-short (lineAt probabilities n list) paths 41 line)
   where
-    line : (k : ℕ) → k < paths → length (lineAt chances n list k) ≤ 41
+    line : (k : ℕ) → k < paths → length (lineAt probabilities n list k) ≤ 41
     line k h =
         let entry = take (n + 1) (drop (k * (n + 1)) list) in
-        entry-short n entry (pathBound down chances n entry) (pathBound up chances n entry) few (class-byte n list k bytes)
-        (path-most down (omega arith) chances chance n n entry)
-        (path-most up (omega arith) chances chance n n entry)
+        entry-short n entry (pathBound down probabilities n entry) (pathBound up probabilities n entry) few (class-byte n list k bytes)
+        (path-most down (omega arith) probabilities probability n n entry)
+        (path-most up (omega arith) probabilities probability n n entry)
 
 -- ---- classes and loads
 
@@ -92,8 +92,8 @@ unfolding caidiLine
 caidi-short (Bounds b) h = bounds-short 20 (omega arith) (letters "CAIDI") (b .lower) (b .upper) (h .0) (h .1)
 caidi-short NotStated h = omega arith
 
-pub triple-short : (f : Triple) → Printable (f .saifi) → Printable (f .saidi) → CaidiPrintable (f .caidi) → length (tripleLines f) ≤ 144
-unfolding tripleLines sumOver
+pub triple-short : (f : FigureValues) → Printable (f .saifi) → Printable (f .saidi) → CaidiPrintable (f .caidi) → length (allFigures f) ≤ 144
+unfolding allFigures sumOver
 triple-short f saifi saidi caidi =
     let first = bounds-short 20 (omega arith) (letters "SAIFI") (f .saifi .lower) (f .saifi .upper) (saifi .0) (saifi .1) in
     let second = bounds-short 20 (omega arith) (letters "SAIDI") (f .saidi .lower) (f .saidi .upper) (saidi .0) (saidi .1) in

@@ -26,13 +26,13 @@ markByte mark = cond (ltb mark mostStates) (digit mark) dash
 unfoldable pub markBytes : ℕ → List ℕ → List ℕ
 markBytes n entry = tabulate (λ (i : ℕ). markByte (getD entry i blankMark)) n
 
--- the line of an entry of n components with these bounds
-unfoldable pub entryLine : ℕ → List ℕ → ℕ → ℕ → List ℕ
-entryLine n entry lower upper = joined (letters "P " ∷ markBytes n entry ∷ field (classBorne n entry) ∷ boundsEnd lower upper ∷ [])
+-- the line of an entry of n components with this class and these bounds
+unfoldable pub entryLine : ℕ → List ℕ → ℕ → ℕ → ℕ → List ℕ
+entryLine n entry class lower upper = joined (letters "P " ∷ markBytes n entry ∷ field class ∷ boundsEnd lower upper ∷ [])
 
 unfoldable pub pathLine : List ℕ → ℕ → List ℕ → List ℕ
-pathLine chances n entry = entryLine n entry (pathBound down chances n entry) (pathBound up chances n entry)
+pathLine probabilities n entry = entryLine n entry (classBorne n entry) (pathBound down probabilities n entry) (pathBound up probabilities n entry)
 
 -- a line for each path, in the list's order
 unfoldable pub pathLines : List ℕ → ℕ → List (List ℕ) → List ℕ
-pathLines chances n entries = joined (map (pathLine chances n) entries)
+pathLines probabilities n entries = joined (map (pathLine probabilities n) entries)

@@ -1,6 +1,6 @@
 // The lines of classes.
-use probability::entry_at;
-use rules::CLASS_PLACES;
+use entries::CLASS_PLACES;
+use entries::class_at;
 use text::item_line;
 ghost use Prim.Native.Nat.{_≤_};
 ghost use mathlib.Core.Path.{_≡_};
@@ -25,8 +25,7 @@ pub fn all_bearing(n: usize, list: &[u8], paths: usize) -> [u32; CLASS_PLACES]
     let mut bearing = none_bearing();
     let mut k: usize = 0;
     while k < paths {
-        let entry = entry_at(list, n, k);
-        let class = entry[n] as usize;
+        let class = class_at(list, n, k) as usize;
         bearing[class] = bearing[class] + 1;
         k = k + 1;
     }

@@ -1,4 +1,4 @@
-// The lines of the three figures.
+// The lines of the figures.
 use answers::FiguresAnswer;
 use answers::Caidi;
 use answers::Figures;
@@ -6,7 +6,7 @@ use text::bounds_line;
 use text::copy;
 use text::number_line;
 ghost use Rattle.text.specs.Writing.{Room, Wrote};
-ghost use Rattle.report_lines.specs.Figures.{caidiLine, tripleLines, figureLines};
+ghost use Rattle.report_lines.specs.Figures.{caidiLine, allFigures, figureLines};
 
 // Writes the line of CAIDI.
 fn caidi_line(out: &mut [u8], at: usize, caidi: Caidi) -> usize
@@ -19,10 +19,10 @@ fn caidi_line(out: &mut [u8], at: usize, caidi: Caidi) -> usize
     }
 }
 
-// Writes the lines of the three figures.
-fn triple_lines(out: &mut [u8], at: usize, f: Figures) -> usize
-    requires { ⌜ Room (now out) at (tripleLines f) ⌝ }
-    ensures { λ r. ⌜ Wrote (now (out .entry)) at (tripleLines f) (now (out .exit)) r ⌝ }
+// Writes the lines of all figures.
+fn all_figures(out: &mut [u8], at: usize, f: Figures) -> usize
+    requires { ⌜ Room (now out) at (allFigures f) ⌝ }
+    ensures { λ r. ⌜ Wrote (now (out .entry)) at (allFigures f) (now (out .exit)) r ⌝ }
 {
     let saifi = f.saifi;
     let saidi = f.saidi;
@@ -38,7 +38,7 @@ pub fn figure_lines(out: &mut [u8], at: usize, answer: FiguresAnswer) -> usize
     ensures { λ r. ⌜ Wrote (now (out .entry)) at (figureLines answer) (now (out .exit)) r ⌝ }
 {
     match answer {
-        FiguresAnswer::Figures(f) => triple_lines(out, at, f),
+        FiguresAnswer::Figures(f) => all_figures(out, at, f),
         FiguresAnswer::Refused(n) => number_line(out, at, b"INDICES", n as u64),
     }
 }

@@ -1,73 +1,67 @@
--- `report_lines::class_text::all_bearing` meets its contract. The paths below k are counted, each at its class, which is a byte (`Borne`).
-use Prim.Native.Nat.{_-_}
-use mathlib.Core.Path.{refl}
-use native.Mathlib.Omega.{arith}
-use lib.ListN.{getD}
-use denote.Ref.{now}
-use Rattle.entries.proofs.Entries.{entry-in, entry-long}
-use Rattle.report_lines.proofs.Borne.{Borne, borne-start, borne-few, borne-more, borne-done}
-use borrow.Author.Needs.{needs}
 use Rattle.report_lines.proofs.class_text.all_bearing.Statement.{statement}
 use Rattle.report_lines.proofs.class_text.all_bearing.Tie as tie
-use Rattle.probability.proofs.entry_at.Reads as entry-at-reads
+use Rattle.report_lines.proofs.class_text.all_bearing.Reads as reads
+use Rattle.report_lines.proofs.class_text.all_bearing.Lts as lts
+use Rattle.entries.proofs.class_at.Reads as class-at-reads
 use Rattle.report_lines.proofs.class_text.none_bearing.Reads as none-bearing-reads
 
 abbrev Inv-loop : tie.InvT-loop
-Inv-loop n list paths bearing₀ k₀ bearing k = Borne n list paths k bearing
+Inv-loop n list paths bearing₀ k₀ bearing k = ?
 
 abbrev μ-loop : tie.MeasureT-loop
-μ-loop n list paths bearing₀ k₀ bearing k = paths - k
+μ-loop n list paths bearing₀ k₀ bearing k = ?
 
+-- src/class_text.rt:25:23
 none-bearing-requires : tie.Need-none-bearing-requires Inv-loop μ-loop
-none-bearing-requires c κs = search needs
+none-bearing-requires c κs = ?
 
+-- src/class_text.rt:27:5
 loop-holds : tie.Need-loop-holds Inv-loop μ-loop
-loop-holds c = borne-start (c .none-bearing .ensures)
+loop-holds c = ?
 
-entry-at-requires : tie.Need-entry-at-requires Inv-loop μ-loop
-entry-at-requires c κs = entry-in (c .before .before .before .before .pre) (c .loop-test .taken)
+-- src/class_text.rt:28:21
+class-at-requires : tie.Need-class-at-requires Inv-loop μ-loop
+class-at-requires c κs = ?
 
-shared-slice-read-class : tie.Need-shared-slice-read-class Inv-loop μ-loop
-shared-slice-read-class c =
-    let long = entry-long (c .before .before .before .before .before .before .pre) _ (c .before .before .loop-test .taken) (c .before .entry-at .ensures) in
-    omega (arith, long)
-
+-- src/class_text.rt:28:21
 cast-class : tie.Need-cast-class Inv-loop μ-loop
-cast-class c = omega (arith, c .shared-slice-known2 .given (c .before .before .before .before .before .before .args .n))
+cast-class c = ?
 
+-- src/class_text.rt:29:26
 mul-bearing : tie.Need-mul-bearing Inv-loop μ-loop
-mul-bearing c = record { fits = omega (arith, c .shared-slice-known2 .given (c .before .before .before .before .before .before .args .n)) }
+mul-bearing c = ?
 
+-- src/class_text.rt:29:26
 array-read-bearing : tie.Need-array-read-bearing Inv-loop μ-loop
-array-read-bearing c = omega (arith, c .shared-slice-known2 .given (c .before .before .before .before .before .before .args .n))
+array-read-bearing c = ?
 
+-- src/class_text.rt:29:26
 add-bearing : tie.Need-add-bearing Inv-loop μ-loop
-add-bearing c =
-    let start = c .before .before .before .before .before .before in
-    let byte = c .shared-slice-known2 .given (start .args .n) in
-    let class = getD (now (c .before .entry-at .result)) (start .args .n) 0 in
-    let few = borne-few class (c .before .before .before .loop .inv) (omega (arith, byte)) in
-    omega (arith, few, c .before .before .loop-test .taken, start .pre .few)
+add-bearing c = ?
 
+-- src/class_text.rt:29:9
 mul-bearing-2 : tie.Need-mul-bearing-2 Inv-loop μ-loop
-mul-bearing-2 c = record { fits = omega (arith, c .shared-slice-known2 .given (c .before .before .before .before .before .before .args .n)) }
+mul-bearing-2 c = ?
 
+-- src/class_text.rt:29:9
 array-write-bearing : tie.Need-array-write-bearing Inv-loop μ-loop
-array-write-bearing c = omega (arith, c .shared-slice-known2 .given (c .before .before .before .before .before .before .args .n))
+array-write-bearing c = ?
 
+-- src/class_text.rt:30:13
 add-k : tie.Need-add-k Inv-loop μ-loop
-add-k c = search needs
+add-k c = ?
 
+-- src/class_text.rt:27:5
 loop-less : tie.Need-loop-less Inv-loop μ-loop
-loop-less c = omega (arith, c .before .before .loop-test .taken)
+loop-less c = ?
 
+-- src/class_text.rt:27:5
 loop-again : tie.Need-loop-again Inv-loop μ-loop
-loop-again c =
-    let byte = c .shared-slice-known2 .given (c .before .before .before .before .before .before .args .n) in
-    borne-more (c .before .before .before .loop .inv) (c .before .before .loop-test .taken) (omega (arith, byte)) (c .before .entry-at .ensures) refl refl
+loop-again c = ?
 
+-- src/class_text.rt:21:1
 returns : tie.Need-returns Inv-loop μ-loop
-returns c = borne-done (c .before .loop .inv) (c .loop-test .left)
+returns c = ?
 
 pub all-bearing-spec : {M : Type 1} → statement M
 all-bearing-spec =
@@ -77,8 +71,7 @@ all-bearing-spec =
     μ-loop
     none-bearing-requires
     loop-holds
-    entry-at-requires
-    shared-slice-read-class
+    class-at-requires
     cast-class
     mul-bearing
     array-read-bearing

@@ -3,15 +3,15 @@ use Rattle.report_lines.specs.Figures.{figureLines}
 use borrow.Author.Needs.{needs}
 use Rattle.report_lines.proofs.figure_text.figure_lines.Statement.{statement}
 use Rattle.report_lines.proofs.figure_text.figure_lines.Tie as tie
-use Rattle.report_lines.proofs.figure_text.triple_lines.Reads as triple-lines-reads
+use Rattle.report_lines.proofs.figure_text.all_figures.Reads as all-figures-reads
 use Rattle.text.proofs.number_line.Reads as number-line-reads
 
 enum-known-answer : tie.Need-enum-known-answer
 enum-known-answer c = search needs
 
-triple-lines-requires : tie.Need-triple-lines-requires
+all-figures-requires : tie.Need-all-figures-requires
 unfolding figureLines
-triple-lines-requires c κs = rw (c .before .before .answer .given .1) at (c .before .before .before .before .before .pre)
+all-figures-requires c κs = rw (c .before .before .answer .given .1) at (c .before .before .before .before .before .pre)
 
 enum-known-answer-2 : tie.Need-enum-known-answer-2
 enum-known-answer-2 c = search needs
@@ -31,7 +31,7 @@ same-length c = search needs
 
 returns : tie.Need-returns
 unfolding figureLines
-returns c = rw (c .before .before .before .before .before .answer .given .1) (c .before .before .triple-lines .ensures)
+returns c = rw (c .before .before .before .before .before .answer .given .1) (c .before .before .all-figures .ensures)
 
 same-length-2 : tie.Need-same-length-2
 same-length-2 c = search needs
@@ -45,7 +45,7 @@ figure-lines-spec =
     tie.close
     (tie.spec
     enum-known-answer
-    triple-lines-requires
+    all-figures-requires
     enum-known-answer-2
     slice-aggregate-number-line
     cast-number-line

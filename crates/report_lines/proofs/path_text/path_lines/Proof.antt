@@ -7,19 +7,19 @@ use Rattle.report_lines.proofs.Listed.{lineAt, lines-at}
 use borrow.Author.Needs.{needs}
 use Rattle.report_lines.proofs.path_text.path_lines.Statement.{statement}
 use Rattle.report_lines.proofs.path_text.path_lines.Tie as tie
-use Rattle.probability.proofs.entry_at.Reads as entry-at-reads
+use Rattle.entries.proofs.entry_at.Reads as entry-at-reads
 use Rattle.report_lines.proofs.path_text.path_line.Reads as path-line-reads
 
 abbrev Inv-loop : tie.InvT-loop
-Inv-loop out₀ at chances n list paths place₀ k₀ out place k = Tabled (lineAt chances n list) paths out₀ at k out place
+Inv-loop out₀ at probabilities n list paths place₀ k₀ out place k = Tabled (lineAt probabilities n list) paths out₀ at k out place
 
 abbrev μ-loop : tie.MeasureT-loop
-μ-loop out₀ at chances n list paths place₀ k₀ out place k = paths - k
+μ-loop out₀ at probabilities n list paths place₀ k₀ out place k = paths - k
 
 loop-holds : tie.Need-loop-holds Inv-loop μ-loop
 loop-holds c =
     let start = c .before .before .before in
-    tabled-start _ _ (rw (lines-at (start .args .chances .now) (start .args .n) (start .args .list .now) (start .args .paths)) at (start .pre .1 .1))
+    tabled-start _ _ (rw (lines-at (start .args .probabilities .now) (start .args .n) (start .args .list .now) (start .args .paths)) at (start .pre .1 .1))
 
 entry-at-requires : tie.Need-entry-at-requires Inv-loop μ-loop
 entry-at-requires c κs = entry-in (c .before .before .before .before .before .before .pre .1 .0) (c .before .loop-test .taken)
@@ -48,7 +48,7 @@ same-length c = tabled-size (c .before .loop .inv)
 returns : tie.Need-returns Inv-loop μ-loop
 returns c =
     let start = c .before .before .before .before .before in
-    rw (lines-at (start .args .chances .now) (start .args .n) (start .args .list .now) (start .args .paths)) (tabled-done (c .before .loop .inv) (c .loop-test .left))
+    rw (lines-at (start .args .probabilities .now) (start .args .n) (start .args .list .now) (start .args .paths)) (tabled-done (c .before .loop .inv) (c .loop-test .left))
 
 pub path-lines-spec : {M : Type 1} → statement M
 path-lines-spec =
