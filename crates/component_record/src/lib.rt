@@ -1,6 +1,7 @@
 // Reads one component record. Not for callers from outside.
 use reading::byte_at;
 use reading::field_count;
+use reading::fields_behind;
 use reading::map_at;
 use reading::map_digit;
 use reading::word_at;
@@ -14,8 +15,7 @@ use study::absent_component;
 ghost use mathlib.Core.Path.{_≡_};
 ghost use mathlib.Core.Bool.{cond};
 ghost use Prim.Native.Nat.{_<_};
-ghost use lib.ListN.{drop};
-ghost use Rattle.reading.specs.Reader.{Reads};
+ghost use Rattle.reading.specs.Reader.{ReadsAt};
 ghost use Rattle.reading.specs.Fields.{mapBits, fieldAt, fields};
 ghost use Rattle.study.specs.Absent.{absentComponent};
 ghost use Rattle.component_record.specs.Component.{withProbability, stateCount, probability, componentField, component};
@@ -47,8 +47,7 @@ fn with_probability(state: u8, p: u32, c: Component) -> Component
 
 // The field of bit 0.
 fn read_state_count(bytes: &[u8], at: usize, c: Component) -> ComponentRead
-    ensures { λ r.
-        ⌜ Reads (now (bytes .entry)) (r .refusal) (r .next) (r .component) (stateCount c (drop at (now (bytes .entry)))) ⌝ }
+    ensures { λ r. ⌜ ReadsAt (now (bytes .entry)) at (stateCount c) (r .refusal) (r .next) (r .component) ⌝ }
 {
     let b = byte_at(bytes, at);
     ComponentRead {
@@ -65,8 +64,7 @@ fn read_state_count(bytes: &[u8], at: usize, c: Component) -> ComponentRead
 
 // The field of bit 1, 2 or 3.
 fn read_probability(bytes: &[u8], at: usize, state: u8, c: Component) -> ComponentRead
-    ensures { λ r.
-        ⌜ Reads (now (bytes .entry)) (r .refusal) (r .next) (r .component) (probability state c (drop at (now (bytes .entry)))) ⌝ }
+    ensures { λ r. ⌜ ReadsAt (now (bytes .entry)) at (probability state c) (r .refusal) (r .next) (r .component) ⌝ }
 {
     let lacking = no_state_fault(c.states, state);
     let w = word_at(bytes, at);
@@ -80,8 +78,7 @@ fn read_probability(bytes: &[u8], at: usize, state: u8, c: Component) -> Compone
 // The field of bit k, where the bit stands in the map.
 fn read_field(bytes: &[u8], at: usize, map: u8, k: u8, c: Component) -> ComponentRead
     requires { ⌜ k < mapBits ⌝ }
-    ensures { λ r.
-        ⌜ Reads (now (bytes .entry)) (r .refusal) (r .next) (r .component) (fieldAt componentField map k c (drop at (now (bytes .entry)))) ⌝ }
+    ensures { λ r. ⌜ ReadsAt (now (bytes .entry)) at (fieldAt componentField map k c) (r .refusal) (r .next) (r .component) ⌝ }
 {
     if map_digit(map, k) != 1 {
         return ComponentRead {
@@ -98,8 +95,7 @@ fn read_field(bytes: &[u8], at: usize, map: u8, k: u8, c: Component) -> Componen
 
 // The fields whose bit stands in the map, lowest bit first, over their absent values: as many as the map has ones.
 fn read_fields(bytes: &[u8], at: usize, map: u8) -> ComponentRead
-    ensures { λ r.
-        ⌜ Reads (now (bytes .entry)) (r .refusal) (r .next) (r .component) (fields componentField map absentComponent (drop at (now (bytes .entry)))) ⌝ }
+    ensures { λ r. ⌜ ReadsAt (now (bytes .entry)) at (fields componentField map absentComponent) (r .refusal) (r .next) (r .component) ⌝ }
 {
     let mut refusal: u8 = 0;
     let mut next = at;
@@ -111,7 +107,7 @@ fn read_fields(bytes: &[u8], at: usize, map: u8) -> ComponentRead
         refusal = first(refusal, field.refusal);
         next = field.next;
         component = field.component;
-        left = left - map_digit(map, k) as u32;
+        left = fields_behind(left, map, k);
         k = k + 1;
     }
     ComponentRead {
@@ -123,8 +119,7 @@ fn read_fields(bytes: &[u8], at: usize, map: u8) -> ComponentRead
 
 // One component record.
 pub fn read_component(bytes: &[u8], at: usize) -> ComponentRead
-    ensures { λ r.
-        ⌜ Reads (now (bytes .entry)) (r .refusal) (r .next) (r .component) (component (drop at (now (bytes .entry)))) ⌝ }
+    ensures { λ r. ⌜ ReadsAt (now (bytes .entry)) at component (r .refusal) (r .next) (r .component) ⌝ }
 {
     let m = map_at(bytes, at, COMPONENT_MAPS);
     let f = read_fields(bytes, m.next, m.value);

@@ -3,10 +3,9 @@ pub mod Checked
 pub mod DeskExamples
 pub mod Edited
 pub mod Figures
-pub mod FirstBreach
 pub mod Listing
 pub mod ListsEqual
 pub mod Lost
-pub mod Opened
+pub mod Opening
 pub mod Paths
 pub mod Zero

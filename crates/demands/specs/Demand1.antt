@@ -2,14 +2,13 @@
 use Prim.Native.Nat.{ℕ, _≤_}
 use mathlib.Core.Path.{_≡_}
 use mathlib.Core.Bool.{true, false}
-use mathlib.Core.List.{List, [], _++_}
+use mathlib.Core.List.{List}
 use lib.ListN.{length, getD}
 use Rattle.lists.specs.Rows.{joined}
 use Rattle.rules.specs.Limits.{mostComponents, mostLoads}
-use Rattle.answers.specs.declared.outcome.Outcome.the-variants.{Done, Refused}
+use Rattle.answers.specs.declared.outcome.Outcome.the-variants.{Done}
 use Rattle.study.specs.declared.Study.{Study}
 use Rattle.study.specs.Zero.{zeroStudy}
-use Rattle.opening.specs.Opening.{opened}
 use Rattle.soundness.specs.Sound.{Sound}
 use Rattle.soundness.specs.Check.{sound}
 use Rattle.answers.specs.Numbers.{refusalOf, listRefusal, figuresRefusal}
@@ -29,20 +28,15 @@ ZeroUnsound = sound zeroStudy ≡ false
 
 -- An opening that is not refused returns a sound study.
 abbrev pub OpenedSound : Type 0
-OpenedSound = (bytes : List ℕ) → opened bytes .outcome ≡ Done → Sound (opened bytes .study)
+OpenedSound = Rattle.opening.specs.Laws.OpenedSound
+
+-- Opening refuses by the first breach met from the left.
+abbrev pub FirstBreach : Type 0
+FirstBreach = Rattle.opening.specs.Laws.FirstBreach
 
 -- An edit that is not refused returns a sound study.
 abbrev pub EditedSound : Type 0
 EditedSound = (e : Edit) (t : Study) → edit e t .outcome ≡ Done → Sound (edit e t .study)
-
--- Opening refuses by the first breach met from the left.
-pub record FirstBreach : Type 0 where
-  -- a front part of the bytes that breaks a rule decides, whatever follows
-  pub decided : (front rest : List ℕ) (n : ℕ) → opened front .outcome ≡ Refused n → (n ≡ 1 → ⊥) → opened (front ++ rest) .outcome ≡ Refused n
-  -- a front part of bytes that open is only too short
-  pub too-short : (front rest : List ℕ) → opened (front ++ rest) .outcome ≡ Done → (rest ≡ [] → ⊥) → opened front .outcome ≡ Refused 1
-  -- bytes behind bytes that open are left over
-  pub left-over : (front rest : List ℕ) → opened front .outcome ≡ Done → (rest ≡ [] → ⊥) → opened (front ++ rest) .outcome ≡ Refused 15
 
 -- An edit is refused by the first breach of its list, and hands the study back as it was.
 pub record EditRefused : Type 0 where

@@ -9,15 +9,13 @@ use rules::inputs_fault;
 use study::Gate;
 ghost use mathlib.Core.Path.{_≡_};
 ghost use Prim.Native.Nat.{_<_, _≤_};
-ghost use lib.ListN.{drop};
 ghost use Rattle.rules.specs.Limits.{mostGateInputs};
-ghost use Rattle.reading.specs.Reader.{Reads, repeat};
+ghost use Rattle.reading.specs.Reader.{ReadsAt, ReadsWith, repeat};
 ghost use Rattle.gate_record.specs.Gate.{inputsByte, withInput, input, inputs};
 
 // A count of tests or of gate inputs, which is in range where it is not refused.
 pub fn inputs_at(bytes: &[u8], at: usize, most: u8) -> ByteRead
-    ensures { λ r. ⌜ Reads (now (bytes .entry)) (r .refusal) (r .next) (r .value) (inputsByte most (drop at (now (bytes .entry)))) ⌝ }
-    ensures { λ r. ⌜ (r .refusal ≡ 0 → r .value ≤ most) ⌝ }
+    ensures { λ r. ⌜ ReadsWith (λ n. n ≤ most) (now (bytes .entry)) at (inputsByte most) (r .refusal) (r .next) (r .value) ⌝ }
 {
     let b = byte_at(bytes, at);
     ByteRead {
@@ -40,7 +38,7 @@ fn with_input(j: usize, gate: u8, g: Gate) -> Gate
 // Gate input j of the gate with this number.
 fn read_input(bytes: &[u8], at: usize, number: usize, j: usize, g: Gate) -> GateRead
     requires { ⌜ j < mostGateInputs ⌝ }
-    ensures { λ r. ⌜ Reads (now (bytes .entry)) (r .refusal) (r .next) (r .gate) (input number j g (drop at (now (bytes .entry)))) ⌝ }
+    ensures { λ r. ⌜ ReadsAt (now (bytes .entry)) at (input number j g) (r .refusal) (r .next) (r .gate) ⌝ }
 {
     let b = byte_at(bytes, at);
     GateRead {
@@ -53,7 +51,7 @@ fn read_input(bytes: &[u8], at: usize, number: usize, j: usize, g: Gate) -> Gate
 // So many gate inputs.
 fn read_input_list(bytes: &[u8], at: usize, number: usize, n: usize, g: Gate) -> GateRead
     requires { ⌜ n ≤ mostGateInputs ⌝ }
-    ensures { λ r. ⌜ Reads (now (bytes .entry)) (r .refusal) (r .next) (r .gate) (repeat (input number) n g (drop at (now (bytes .entry)))) ⌝ }
+    ensures { λ r. ⌜ ReadsAt (now (bytes .entry)) at (repeat (input number) n g) (r .refusal) (r .next) (r .gate) ⌝ }
 {
     let mut refusal: u8 = 0;
     let mut next = at;
@@ -75,7 +73,7 @@ fn read_input_list(bytes: &[u8], at: usize, number: usize, n: usize, g: Gate) ->
 
 // The field of bit 2.
 pub fn read_inputs(bytes: &[u8], at: usize, number: usize, g: Gate) -> GateRead
-    ensures { λ r. ⌜ Reads (now (bytes .entry)) (r .refusal) (r .next) (r .gate) (inputs number g (drop at (now (bytes .entry)))) ⌝ }
+    ensures { λ r. ⌜ ReadsAt (now (bytes .entry)) at (inputs number g) (r .refusal) (r .next) (r .gate) ⌝ }
 {
     let n = inputs_at(bytes, at, MOST_GATE_INPUTS);
     if n.refusal != 0 {

@@ -5,6 +5,7 @@ mod tests;
 use inputs::read_inputs;
 use reading::byte_at;
 use reading::field_count;
+use reading::fields_behind;
 use reading::map_at;
 use reading::map_digit;
 use rules::GATE_MAPS;
@@ -15,8 +16,7 @@ use study::absent_gate;
 use study::input_count;
 use tests::read_tests;
 ghost use Prim.Native.Nat.{_<_};
-ghost use lib.ListN.{drop};
-ghost use Rattle.reading.specs.Reader.{Reads};
+ghost use Rattle.reading.specs.Reader.{ReadsAt};
 ghost use Rattle.reading.specs.Fields.{mapBits, fieldAt, fields};
 ghost use Rattle.study.specs.Absent.{absentGate};
 ghost use Rattle.gate_record.specs.Gate.{threshold, gateField, gate};
@@ -29,7 +29,7 @@ pub struct GateRead {
 
 // The field of bit 0. It is judged after the gate's last field.
 fn read_threshold(bytes: &[u8], at: usize, g: Gate) -> GateRead
-    ensures { λ r. ⌜ Reads (now (bytes .entry)) (r .refusal) (r .next) (r .gate) (threshold g (drop at (now (bytes .entry)))) ⌝ }
+    ensures { λ r. ⌜ ReadsAt (now (bytes .entry)) at (threshold g) (r .refusal) (r .next) (r .gate) ⌝ }
 {
     let b = byte_at(bytes, at);
     let mut h = g;
@@ -52,8 +52,7 @@ fn read_field(
     g: Gate,
 ) -> GateRead
     requires { ⌜ k < mapBits ⌝ }
-    ensures { λ r.
-        ⌜ Reads (now (bytes .entry)) (r .refusal) (r .next) (r .gate) (fieldAt (gateField (now (counts .entry)) number) map k g (drop at (now (bytes .entry)))) ⌝ }
+    ensures { λ r. ⌜ ReadsAt (now (bytes .entry)) at (fieldAt (gateField (now (counts .entry)) number) map k g) (r .refusal) (r .next) (r .gate) ⌝ }
 {
     if map_digit(map, k) != 1 {
         return GateRead {
@@ -74,7 +73,7 @@ fn read_field(
 // The fields whose bit stands in the map, lowest bit first, over their absent values: as many as the map has ones.
 fn read_fields(bytes: &[u8], at: usize, counts: &[u8], number: usize, map: u8) -> GateRead
     ensures { λ r.
-        ⌜ Reads (now (bytes .entry)) (r .refusal) (r .next) (r .gate) (fields (gateField (now (counts .entry)) number) map absentGate (drop at (now (bytes .entry)))) ⌝ }
+        ⌜ ReadsAt (now (bytes .entry)) at (fields (gateField (now (counts .entry)) number) map absentGate) (r .refusal) (r .next) (r .gate) ⌝ }
 {
     let mut refusal: u8 = 0;
     let mut next = at;
@@ -86,7 +85,7 @@ fn read_fields(bytes: &[u8], at: usize, counts: &[u8], number: usize, map: u8) -
         refusal = first(refusal, field.refusal);
         next = field.next;
         gate = field.gate;
-        left = left - map_digit(map, k) as u32;
+        left = fields_behind(left, map, k);
         k = k + 1;
     }
     GateRead {
@@ -98,8 +97,7 @@ fn read_fields(bytes: &[u8], at: usize, counts: &[u8], number: usize, map: u8) -
 
 // The record of the gate with this number; `counts` has the state count of each component of the study.
 pub fn read_gate(bytes: &[u8], at: usize, counts: &[u8], number: usize) -> GateRead
-    ensures { λ r.
-        ⌜ Reads (now (bytes .entry)) (r .refusal) (r .next) (r .gate) (gate (now (counts .entry)) number (drop at (now (bytes .entry)))) ⌝ }
+    ensures { λ r. ⌜ ReadsAt (now (bytes .entry)) at (gate (now (counts .entry)) number) (r .refusal) (r .next) (r .gate) ⌝ }
 {
     let m = map_at(bytes, at, GATE_MAPS);
     let f = read_fields(bytes, m.next, counts, number, m.value);

@@ -9,9 +9,8 @@ use study::Gate;
 use study::states_of;
 ghost use mathlib.Core.Path.{_≡_};
 ghost use Prim.Native.Nat.{_<_, _≤_};
-ghost use lib.ListN.{drop};
 ghost use Rattle.rules.specs.Limits.{mostTests};
-ghost use Rattle.reading.specs.Reader.{Reads, repeat};
+ghost use Rattle.reading.specs.Reader.{ReadsAt, repeat};
 ghost use Rattle.gate_record.specs.Gate.{withTest, test, tests};
 
 // The gate with test j anew.
@@ -28,8 +27,7 @@ fn with_test(j: usize, component: u8, mask: u8, g: Gate) -> Gate
 // Test j: the component, then the mask, each judged as soon as it is read.
 fn read_test(bytes: &[u8], at: usize, counts: &[u8], j: usize, g: Gate) -> GateRead
     requires { ⌜ j < mostTests ⌝ }
-    ensures { λ r.
-        ⌜ Reads (now (bytes .entry)) (r .refusal) (r .next) (r .gate) (test (now (counts .entry)) j g (drop at (now (bytes .entry)))) ⌝ }
+    ensures { λ r. ⌜ ReadsAt (now (bytes .entry)) at (test (now (counts .entry)) j g) (r .refusal) (r .next) (r .gate) ⌝ }
 {
     let c = byte_at(bytes, at);
     let m = byte_at(bytes, c.next);
@@ -45,8 +43,7 @@ fn read_test(bytes: &[u8], at: usize, counts: &[u8], j: usize, g: Gate) -> GateR
 // So many tests.
 fn read_test_list(bytes: &[u8], at: usize, counts: &[u8], n: usize, g: Gate) -> GateRead
     requires { ⌜ n ≤ mostTests ⌝ }
-    ensures { λ r.
-        ⌜ Reads (now (bytes .entry)) (r .refusal) (r .next) (r .gate) (repeat (test (now (counts .entry))) n g (drop at (now (bytes .entry)))) ⌝ }
+    ensures { λ r. ⌜ ReadsAt (now (bytes .entry)) at (repeat (test (now (counts .entry))) n g) (r .refusal) (r .next) (r .gate) ⌝ }
 {
     let mut refusal: u8 = 0;
     let mut next = at;
@@ -68,8 +65,7 @@ fn read_test_list(bytes: &[u8], at: usize, counts: &[u8], n: usize, g: Gate) -> 
 
 // The field of bit 1.
 pub fn read_tests(bytes: &[u8], at: usize, counts: &[u8], g: Gate) -> GateRead
-    ensures { λ r.
-        ⌜ Reads (now (bytes .entry)) (r .refusal) (r .next) (r .gate) (tests (now (counts .entry)) g (drop at (now (bytes .entry)))) ⌝ }
+    ensures { λ r. ⌜ ReadsAt (now (bytes .entry)) at (tests (now (counts .entry)) g) (r .refusal) (r .next) (r .gate) ⌝ }
 {
     let n = crate::inputs::inputs_at(bytes, at, MOST_TESTS);
     if n.refusal != 0 {

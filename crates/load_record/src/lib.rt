@@ -2,6 +2,7 @@
 use reading::WordRead;
 use reading::byte_at;
 use reading::field_count;
+use reading::fields_behind;
 use reading::map_at;
 use reading::map_digit;
 use reading::word_at;
@@ -16,8 +17,7 @@ use study::absent_load;
 use study::with_customers;
 use study::with_minutes;
 ghost use Prim.Native.Nat.{_<_};
-ghost use lib.ListN.{drop};
-ghost use Rattle.reading.specs.Reader.{Reads};
+ghost use Rattle.reading.specs.Reader.{ReadsAt};
 ghost use Rattle.reading.specs.Fields.{mapBits, fieldAt, fields};
 ghost use Rattle.study.specs.Absent.{absentLoad};
 ghost use Rattle.load_record.specs.Load.{lossGate, size, customers, minutes, loadField, load};
@@ -30,7 +30,7 @@ pub struct LoadRead {
 
 // The field of bit 0.
 fn read_loss_gate(bytes: &[u8], at: usize, gates: u8, l: Load) -> LoadRead
-    ensures { λ r. ⌜ Reads (now (bytes .entry)) (r .refusal) (r .next) (r .load) (lossGate gates l (drop at (now (bytes .entry)))) ⌝ }
+    ensures { λ r. ⌜ ReadsAt (now (bytes .entry)) at (lossGate gates l) (r .refusal) (r .next) (r .load) ⌝ }
 {
     let b = byte_at(bytes, at);
     LoadRead {
@@ -46,7 +46,7 @@ fn read_loss_gate(bytes: &[u8], at: usize, gates: u8, l: Load) -> LoadRead
 
 // A number of four bytes that is at most `most`.
 fn read_size(bytes: &[u8], at: usize, most: u32) -> WordRead
-    ensures { λ r. ⌜ Reads (now (bytes .entry)) (r .refusal) (r .next) (r .value) (size most (drop at (now (bytes .entry)))) ⌝ }
+    ensures { λ r. ⌜ ReadsAt (now (bytes .entry)) at (size most) (r .refusal) (r .next) (r .value) ⌝ }
 {
     let w = word_at(bytes, at);
     WordRead {
@@ -58,7 +58,7 @@ fn read_size(bytes: &[u8], at: usize, most: u32) -> WordRead
 
 // The field of bit 1.
 fn read_customers(bytes: &[u8], at: usize, l: Load) -> LoadRead
-    ensures { λ r. ⌜ Reads (now (bytes .entry)) (r .refusal) (r .next) (r .load) (customers l (drop at (now (bytes .entry)))) ⌝ }
+    ensures { λ r. ⌜ ReadsAt (now (bytes .entry)) at (customers l) (r .refusal) (r .next) (r .load) ⌝ }
 {
     let n = read_size(bytes, at, MOST_CUSTOMERS);
     LoadRead {
@@ -70,7 +70,7 @@ fn read_customers(bytes: &[u8], at: usize, l: Load) -> LoadRead
 
 // The field of bit 2.
 fn read_minutes(bytes: &[u8], at: usize, l: Load) -> LoadRead
-    ensures { λ r. ⌜ Reads (now (bytes .entry)) (r .refusal) (r .next) (r .load) (minutes l (drop at (now (bytes .entry)))) ⌝ }
+    ensures { λ r. ⌜ ReadsAt (now (bytes .entry)) at (minutes l) (r .refusal) (r .next) (r .load) ⌝ }
 {
     let n = read_size(bytes, at, MOST_MINUTES);
     LoadRead {
@@ -83,8 +83,7 @@ fn read_minutes(bytes: &[u8], at: usize, l: Load) -> LoadRead
 // The field of bit k, where the bit stands in the map.
 fn read_field(bytes: &[u8], at: usize, gates: u8, map: u8, k: u8, l: Load) -> LoadRead
     requires { ⌜ k < mapBits ⌝ }
-    ensures { λ r.
-        ⌜ Reads (now (bytes .entry)) (r .refusal) (r .next) (r .load) (fieldAt (loadField gates) map k l (drop at (now (bytes .entry)))) ⌝ }
+    ensures { λ r. ⌜ ReadsAt (now (bytes .entry)) at (fieldAt (loadField gates) map k l) (r .refusal) (r .next) (r .load) ⌝ }
 {
     if map_digit(map, k) != 1 {
         return LoadRead {
@@ -104,8 +103,7 @@ fn read_field(bytes: &[u8], at: usize, gates: u8, map: u8, k: u8, l: Load) -> Lo
 
 // The fields whose bit stands in the map, lowest bit first, over their absent values: as many as the map has ones.
 fn read_fields(bytes: &[u8], at: usize, gates: u8, map: u8) -> LoadRead
-    ensures { λ r.
-        ⌜ Reads (now (bytes .entry)) (r .refusal) (r .next) (r .load) (fields (loadField gates) map absentLoad (drop at (now (bytes .entry)))) ⌝ }
+    ensures { λ r. ⌜ ReadsAt (now (bytes .entry)) at (fields (loadField gates) map absentLoad) (r .refusal) (r .next) (r .load) ⌝ }
 {
     let mut refusal: u8 = 0;
     let mut next = at;
@@ -117,7 +115,7 @@ fn read_fields(bytes: &[u8], at: usize, gates: u8, map: u8) -> LoadRead
         refusal = first(refusal, field.refusal);
         next = field.next;
         load = field.load;
-        left = left - map_digit(map, k) as u32;
+        left = fields_behind(left, map, k);
         k = k + 1;
     }
     LoadRead {
@@ -129,7 +127,7 @@ fn read_fields(bytes: &[u8], at: usize, gates: u8, map: u8) -> LoadRead
 
 // One load record of a study with so many gates.
 pub fn read_load(bytes: &[u8], at: usize, gates: u8) -> LoadRead
-    ensures { λ r. ⌜ Reads (now (bytes .entry)) (r .refusal) (r .next) (r .load) (load gates (drop at (now (bytes .entry)))) ⌝ }
+    ensures { λ r. ⌜ ReadsAt (now (bytes .entry)) at (load gates) (r .refusal) (r .next) (r .load) ⌝ }
 {
     let m = map_at(bytes, at, LOAD_MAPS);
     let f = read_fields(bytes, m.next, gates, m.value);

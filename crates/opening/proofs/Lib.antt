@@ -1,2 +1,4 @@
 pub mod Answers
+pub mod FirstBreach
+pub mod Opened
 pub mod Places

@@ -1,5 +1,5 @@
 -- Opening a study: the three counts, then the component, gate and load records, then the end of the bytes.
-use Prim.Native.Nat.{ℕ, _*_}
+use Prim.Native.Nat.{ℕ, _*_, _≤_}
 use mathlib.Core.Bool.{cond}
 use mathlib.Core.List.{List}
 use lib.Dec.{eqb}
@@ -26,6 +26,12 @@ count most = do
   n ← byte
   judge (countFault most n)
   return n
+
+-- counts that a study has places for
+pub record CountsFit (components gates loads : ℕ) : Type 0 where
+  pub components-fit : components ≤ mostComponents
+  pub gates-fit : gates ≤ mostGates
+  pub loads-fit : loads ≤ mostLoads
 
 -- a component after others that have so many joint states
 unfoldable pub componentAfter : ℕ → Reader Component

@@ -6,11 +6,9 @@ use rules::first;
 use rules::width_fault;
 use study::Component;
 use study::no_components;
-ghost use mathlib.Core.Path.{_≡_};
 ghost use Prim.Native.Nat.{_*_, _≤_};
-ghost use lib.ListN.{drop};
 ghost use Rattle.rules.specs.Limits.{mostComponents, mostJointStates};
-ghost use Rattle.reading.specs.Reader.{Reads, repeat};
+ghost use Rattle.reading.specs.Reader.{ReadsAt, ReadsWith, repeat};
 ghost use Rattle.study.specs.Zero.{noComponents};
 ghost use Rattle.opening.specs.Opening.{componentAfter, componentRecord, placing};
 
@@ -23,8 +21,8 @@ pub struct ComponentsRead {
 // A component after others that have so many joint states; where it is not refused, they stay within the limit.
 fn read_component_after(bytes: &[u8], at: usize, joint: u32) -> ComponentRead
     requires { ⌜ joint ≤ mostJointStates ⌝ }
-    ensures { λ r. ⌜ Reads (now (bytes .entry)) (r .refusal) (r .next) (r .component) (componentAfter joint (drop at (now (bytes .entry)))) ⌝ }
-    ensures { λ r. ⌜ (r .refusal ≡ 0 → joint * r .component .states ≤ mostJointStates) ⌝ }
+    ensures { λ r.
+        ⌜ ReadsWith (λ c. joint * c .states ≤ mostJointStates) (now (bytes .entry)) at (componentAfter joint) (r .refusal) (r .next) (r .component) ⌝ }
 {
     let r = read_component(bytes, at);
     let c = r.component;
@@ -38,8 +36,7 @@ fn read_component_after(bytes: &[u8], at: usize, joint: u32) -> ComponentRead
 // So many component records, each in its place, up to the first breach.
 pub fn read_components(bytes: &[u8], at: usize, n: usize) -> ComponentsRead
     requires { ⌜ n ≤ mostComponents ⌝ }
-    ensures { λ r.
-        ⌜ Reads (now (bytes .entry)) (r .refusal) (r .next) (r .component) (repeat (placing componentRecord) n noComponents (drop at (now (bytes .entry)))) ⌝ }
+    ensures { λ r. ⌜ ReadsAt (now (bytes .entry)) at (repeat (placing componentRecord) n noComponents) (r .refusal) (r .next) (r .component) ⌝ }
 {
     let mut next = at;
     let mut component = no_components();

@@ -4,9 +4,8 @@ use rules::GATE_PLACES;
 use study::Gate;
 use study::no_gates;
 ghost use Prim.Native.Nat.{_≤_};
-ghost use lib.ListN.{drop};
 ghost use Rattle.rules.specs.Limits.{mostGates};
-ghost use Rattle.reading.specs.Reader.{Reads, repeat};
+ghost use Rattle.reading.specs.Reader.{ReadsAt, repeat};
 ghost use Rattle.study.specs.Zero.{noGates};
 ghost use Rattle.opening.specs.Opening.{gateRecord, placing};
 
@@ -20,7 +19,7 @@ pub struct GatesRead {
 pub fn read_gates(bytes: &[u8], at: usize, counts: &[u8], n: usize) -> GatesRead
     requires { ⌜ n ≤ mostGates ⌝ }
     ensures { λ r.
-        ⌜ Reads (now (bytes .entry)) (r .refusal) (r .next) (r .gate) (repeat (placing (gateRecord (now (counts .entry)))) n noGates (drop at (now (bytes .entry)))) ⌝ }
+        ⌜ ReadsAt (now (bytes .entry)) at (repeat (placing (gateRecord (now (counts .entry)))) n noGates) (r .refusal) (r .next) (r .gate) ⌝ }
 {
     let mut next = at;
     let mut gate = no_gates();

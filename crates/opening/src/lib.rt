@@ -8,6 +8,7 @@ use gates::read_gates;
 use loads::read_loads;
 use reading::ByteRead;
 use reading::byte_at;
+use reading::bytes_left;
 use rules::MOST_COMPONENTS;
 use rules::MOST_GATES;
 use rules::MOST_LOADS;
@@ -21,15 +22,13 @@ use study::state_counts;
 use study::zero_study;
 ghost use mathlib.Core.Path.{_≡_};
 ghost use Prim.Native.Nat.{_≤_};
-ghost use lib.ListN.{length, drop};
-ghost use Rattle.rules.specs.Limits.{mostComponents, mostGates, mostLoads};
-ghost use Rattle.reading.specs.Reader.{Reads, got};
-ghost use Rattle.opening.specs.Opening.{count, records, refusedOpening, answer, opened};
+ghost use lib.ListN.{drop};
+ghost use Rattle.reading.specs.Reader.{ReadsWith, got};
+ghost use Rattle.opening.specs.Opening.{CountsFit, count, records, refusedOpening, answer, opened};
 
 // One of the first three bytes, which is in range where it is not refused.
 fn count_at(bytes: &[u8], at: usize, most: u8) -> ByteRead
-    ensures { λ r. ⌜ Reads (now (bytes .entry)) (r .refusal) (r .next) (r .value) (count most (drop at (now (bytes .entry)))) ⌝ }
-    ensures { λ r. ⌜ (r .refusal ≡ 0 → r .value ≤ most) ⌝ }
+    ensures { λ r. ⌜ ReadsWith (λ n. n ≤ most) (now (bytes .entry)) at (count most) (r .refusal) (r .next) (r .value) ⌝ }
 {
     let b = byte_at(bytes, at);
     ByteRead {
@@ -37,16 +36,6 @@ fn count_at(bytes: &[u8], at: usize, most: u8) -> ByteRead
         next: b.next,
         value: b.value,
     }
-}
-
-// How many bytes stand at a place and behind it.
-fn bytes_left(bytes: &[u8], at: usize) -> usize
-    ensures { λ r. ⌜ r ≡ length (drop at (now (bytes .entry))) ⌝ }
-{
-    if at < bytes.len() {
-        return bytes.len() - at;
-    }
-    0
 }
 
 // The answer of an opening that is refused.
@@ -76,9 +65,7 @@ fn ended(bytes: &[u8], at: usize, study: Study) -> StudyAnswer
 
 // The records of a study with these counts, and the end of the bytes.
 fn open_records(bytes: &[u8], at: usize, components: u8, gates: u8, loads: u8) -> StudyAnswer
-    requires { ⌜ components ≤ mostComponents ⌝ }
-    requires { ⌜ gates ≤ mostGates ⌝ }
-    requires { ⌜ loads ≤ mostLoads ⌝ }
+    requires { ⌜ CountsFit components gates loads ⌝ }
     ensures { λ r. ⌜ r ≡ answer (records components gates loads (drop at (now (bytes .entry)))) ⌝ }
 {
     let n = components as usize;

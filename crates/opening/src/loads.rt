@@ -4,9 +4,8 @@ use rules::LOAD_PLACES;
 use study::Load;
 use study::no_loads;
 ghost use Prim.Native.Nat.{_≤_};
-ghost use lib.ListN.{drop};
 ghost use Rattle.rules.specs.Limits.{mostLoads};
-ghost use Rattle.reading.specs.Reader.{Reads, repeat};
+ghost use Rattle.reading.specs.Reader.{ReadsAt, repeat};
 ghost use Rattle.study.specs.Zero.{noLoads};
 ghost use Rattle.opening.specs.Opening.{loadRecord, placing};
 
@@ -19,8 +18,7 @@ pub struct LoadsRead {
 // So many load records of a study with so many gates, each in its place, up to the first breach.
 pub fn read_loads(bytes: &[u8], at: usize, gates: u8, n: usize) -> LoadsRead
     requires { ⌜ n ≤ mostLoads ⌝ }
-    ensures { λ r.
-        ⌜ Reads (now (bytes .entry)) (r .refusal) (r .next) (r .load) (repeat (placing (loadRecord gates)) n noLoads (drop at (now (bytes .entry)))) ⌝ }
+    ensures { λ r. ⌜ ReadsAt (now (bytes .entry)) at (repeat (placing (loadRecord gates)) n noLoads) (r .refusal) (r .next) (r .load) ⌝ }
 {
     let mut next = at;
     let mut load = no_loads();

@@ -1,14 +1,14 @@
 -- What reading a byte and a number of four bytes gives at a place: the bytes there, or a refusal where they end too soon.
-use Prim.Native.Nat.{ℕ, _+_, _<_, _≤_}
+use Prim.Native.Nat.{ℕ, _+_, _-_, _<_, _≤_}
 use mathlib.Core.Path.{_≡_, refl}
 use mathlib.Core.List.{List, [], _∷_}
 use native.Mathlib.Nat.{add-assoc}
 use native.Mathlib.Numerals.{add-one}
 use native.Mathlib.Omega.{arith}
-use lib.ListN.{length, getD, drop, drop-of-length-le}
+use lib.ListN.{length, getD, drop, drop-of-length-le, length-drop}
 use lib.Seq.{drop-cons}
 use Rattle.rules.specs.Table.{short}
-use Rattle.reading.specs.Reader.{got, refused, byte, word, number}
+use Rattle.reading.specs.Reader.{got, refused, byte, word, numberAt}
 
 pub byte-got : (s : List ℕ) (at : ℕ) → at < length s → byte (drop at s) ≡ got (getD s at 0) (drop (at + 1) s)
 unfolding byte
@@ -18,8 +18,7 @@ pub byte-short : (s : List ℕ) (at : ℕ) → length s ≤ at → byte (drop at
 unfolding byte
 byte-short s at h = rw (drop-of-length-le s h)
 
-pub word-got : (s : List ℕ) (at : ℕ) → at + 4 ≤ length s
-    → word (drop at s) ≡ got (number (getD s at 0) (getD s (at + 1) 0) (getD s (at + 2) 0) (getD s (at + 3) 0)) (drop (at + 4) s)
+pub word-got : (s : List ℕ) (at : ℕ) → at + 4 ≤ length s → word (drop at s) ≡ got (numberAt s at) (drop (at + 4) s)
 unfolding word
 word-got s at h =
     rw (
@@ -32,10 +31,14 @@ word-got s at h =
       add-assoc at 3 1,
     )
 
-pub word-short : (bytes : List ℕ) → length bytes < 4 → word bytes ≡ refused short
+-- fewer than four bytes
+few : (bytes : List ℕ) → length bytes < 4 → word bytes ≡ refused short
 unfolding word byte
-word-short [] h = refl
-word-short (a ∷ []) h = refl
-word-short (a ∷ b ∷ []) h = refl
-word-short (a ∷ b ∷ c ∷ []) h = refl
-word-short (a ∷ b ∷ c ∷ d ∷ rest) h = absurd (omega arith)
+few [] h = refl
+few (a ∷ []) h = refl
+few (a ∷ b ∷ []) h = refl
+few (a ∷ b ∷ c ∷ []) h = refl
+few (a ∷ b ∷ c ∷ d ∷ rest) h = absurd (omega arith)
+
+pub word-short : (s : List ℕ) (at : ℕ) → length s - at < 4 → word (drop at s) ≡ refused short
+word-short s at h = few (drop at s) (rw length-drop h)

@@ -1,10 +1,9 @@
 -- What holds of a value that was read: a reading that is not refused has kept each rule that it judged.
-use Prim.Native.Nat.{ℕ, zero, suc, _+_, _/_, _%_, _^_, _<_, _≤_}
-use mathlib.Core.Path.{_≡_, refl, ap, subst, sym, _∙_}
+use Prim.Native.Nat.{ℕ, zero, suc, _+_, _%_, _^_, _<_, _≤_}
+use mathlib.Core.Path.{_≡_, refl, ap, subst}
 use mathlib.Core.Bool.{Bool, true, false, cond}
 use mathlib.Core.List.{List}
-use native.Mathlib.Nat.{div-eq-of-lt, lt-of-not-le, lt-of-le-of-lt}
-use native.Mathlib.Decide.{decLe}
+use native.Mathlib.Nat.{div-eq-of-lt, lt-of-not-le, le-of-suc-le-suc, lt-of-le-of-lt}
 use native.Mathlib.Omega.{arith}
 use lib.Dec.{eqb, leb}
 use borrow.Author.Tests.{eqb-true, leb-false}
@@ -12,7 +11,7 @@ use Rattle.lists.specs.Run.{each}
 use Rattle.lists.specs.Bits.{digit, bit}
 use Rattle.rules.specs.Table.{strayFault}
 use Rattle.rules.proofs.Kept.{refuse-kept}
-use Rattle.reading.specs.Reader.{Read, refused, got, Reader, andThen, return, judge, byte, turn, repeat, _>>=_}
+use Rattle.reading.specs.Reader.{Read, refused, got, Reader, andThen, return, judge, byte, turn, repeat, _>>=_, _>>_}
 use Rattle.reading.specs.Fields.{fieldAt, mapBits, mapByte, fieldsByMap}
 
 -- P holds of the value, if there is one
@@ -60,6 +59,11 @@ gives-judge breach = record { held = λ bytes. go (eqb breach 0) refl bytes }
     go true e bytes = eqb-true breach 0 e
     go false e bytes = tt
 
+-- a value that is read and then judged has kept its rule
+pub gives-judged : {A B : Type 0} {P : B → Type 0} (m : Reader A) (rule : A → ℕ) (f : A → B) → ((a : A) → rule a ≡ 0 → P (f a))
+    → Gives (m >>= λ a. judge (rule a) >> return (f a)) P
+gives-judged m rule f keeps = gives-then (gives-any m) (λ a u. gives-then (gives-judge (rule a)) (λ u kept. gives-return (keeps a kept)))
+
 pub gives-cond : {A : Type 0} {P : A → Type 0} (b : Bool) {m k : Reader A} → (b ≡ true → Gives m P) → (b ≡ false → Gives k P) → Gives (cond b m k) P
 gives-cond true here there = here refl
 gives-cond false here there = there refl
@@ -86,29 +90,23 @@ gives-repeat P step n a on p =
 
 -- a bit that stands is not above its number
 bit-below : (map k : ℕ) → bit map k ≡ true → 2 ^ k ≤ map
-bit-below map k e = go (decLe (2 ^ k) map)
+bit-below map k e = le-of-suc-le-suc (lt-of-not-le high)
   where
-    go : Dec (2 ^ k ≤ map) → 2 ^ k ≤ map
-    go (yes h) = h
-    go (no h) =
-        let one : digit map k ≡ 1 = eqb-true (digit map k) 1 e in
-        let none : map / 2 ^ k ≡ 0 = div-eq-of-lt (lt-of-not-le h) in
-        let z : _≡_ {A = ℕ} 0 1 = sym (ap (λ (n : ℕ). n % 2) none) ∙ one in
-        absurd (omega arith)
-
--- a map with no stray bit
-map-sound : (maps : ℕ) → Gives (mapByte maps) (λ (map : ℕ). strayFault maps map ≡ 0)
-unfolding mapByte
-map-sound maps = gives-then (gives-any byte) (λ map u. gives-then (gives-judge (strayFault maps map)) (λ u kept. gives-return kept))
+    -- below bit k every digit from k on is 0
+    high : suc map ≤ 2 ^ k → ⊥
+    high h =
+        let none : digit map k ≡ 0 = ap (λ (n : ℕ). n % 2) (div-eq-of-lt h) in
+        omega (arith, none, eqb-true (digit map k) 1 e)
 
 -- a record whose fields, read from bit 0 upwards, take P from bit to bit; a bit that is clear must take it too. Only bits with a meaning stand.
 pub gives-fields : {A : Type 0} (P : ℕ → A → Type 0) (maps : ℕ) (field : ℕ → A → Reader A) (absent : A) → P 0 absent
     → ((k : ℕ) (a : A) → 2 ^ k < maps → P k a → Gives (field k a) (P (k + 1))) → ((k : ℕ) (a : A) → P k a → P (k + 1) a)
     → Gives (fieldsByMap maps field absent) (P mapBits)
+unfolding mapByte
 gives-fields P maps field absent start stands clear =
-    gives-then (map-sound maps)
+    gives-then (gives-judged byte (strayFault maps) (λ map. map) (λ map unstray. unstray))
     (λ map unstray.
-    let fits : map < maps = leb-false maps map (refuse-kept 2 (leb maps map) unstray) in
+    let fits : map < maps = leb-false maps map (refuse-kept _ (leb maps map) unstray) in
     gives-repeat P (fieldAt field map) mapBits absent
     (λ k a less p.
     gives-cond (bit map k) (λ e. stands k a (lt-of-le-of-lt (bit-below map k e) fits) p) (λ e. gives-return (clear k a p))) start)

@@ -1,5 +1,6 @@
 pub mod After
 pub mod Bytes
+pub mod Calls
 pub mod Held
 pub mod Local
 pub mod MapBits

@@ -8,8 +8,8 @@ use lib.Dec.{eqb}
 use Rattle.lists.specs.Run.{each}
 use Rattle.lists.specs.Bits.{bit}
 use Rattle.rules.specs.Table.{short, strayFault}
-use Rattle.reading.specs.Reader.{Read, refused, got, Reader, andThen, return, judge, byte, word, turn, repeat, _>>=_}
-use Rattle.reading.specs.Fields.{fieldAt, mapByte, fieldsByMap}
+use Rattle.reading.specs.Reader.{Read, refused, got, Reader, andThen, return, judge, byte, word, turn, repeat, _>>=_, _>>_}
+use Rattle.reading.specs.Fields.{fieldAt, mapBits, mapByte, fieldsByMap}
 
 -- the same with more bytes behind
 abbrev pub more : {A : Type 0} → List ℕ → Read A → Read A
@@ -44,6 +44,9 @@ local-judge breach = record { stands = λ xs ys. inr (go (eqb breach 0) xs ys) }
     go true xs ys = refl
     go false xs ys = refl
 
+pub local-judged : {A B : Type 0} {m : Reader A} (rule : A → ℕ) (f : A → B) → Local m → Local (m >>= λ a. judge (rule a) >> return (f a))
+local-judged rule f here = local-then here (λ a. local-then (local-judge (rule a)) (λ u. local-return (f a)))
+
 byte-stands : (xs ys : List ℕ) → Stands ys (byte xs) (byte (xs ++ ys))
 unfolding byte
 byte-stands [] ys = inl refl
@@ -75,5 +78,5 @@ pub local-fields : {A : Type 0} (maps : ℕ) (field : ℕ → A → Reader A) (a
     → Local (fieldsByMap maps field absent)
 unfolding mapByte
 local-fields maps field absent on =
-    local-then (local-then local-byte (λ map. local-then (local-judge (strayFault maps map)) (λ u. local-return map)))
-    (λ map. local-repeat (fieldAt field map) 8 absent (λ k a. local-cond (bit map k) (on k a) (local-return a)))
+    local-then (local-judged (strayFault maps) (λ map. map) local-byte)
+    (λ map. local-repeat (fieldAt field map) mapBits absent (λ k a. local-cond (bit map k) (on k a) (local-return a)))

@@ -2,9 +2,8 @@
 use Prim.Native.Nat.{ℕ, zero, suc, _+_, _-_, _/_, _^_, _<_, _≤_}
 use mathlib.Core.Path.{_≡_, refl, sym, ap, _∙_}
 use mathlib.Core.List.{List}
-use native.Mathlib.Nat.{div-one, div-eq-of-lt}
+use native.Mathlib.Nat.{div-one, div-eq-of-lt, lt-of-not-le}
 use native.Mathlib.Omega.{arith}
-use native.Mathlib.Decide.{decLt}
 use lib.Pow.{shr-shr}
 use lib.Count.{ones, ones-step}
 use lib.ListN.{drop}
@@ -12,7 +11,7 @@ use Rattle.lists.specs.Bits.{digit}
 use Rattle.lists.specs.Run.{each}
 use Rattle.rules.specs.Breach.{first}
 use Rattle.reading.specs.Reader.{Read, Reader, Reads, refused, got, turn, asRead}
-use Rattle.reading.specs.Fields.{fieldAt, fields, mapBits}
+use Rattle.reading.specs.Fields.{BitLeft, fieldAt, fields, mapBits}
 use Rattle.reading.proofs.Repeats.{RepeatLeft, repeat-start, repeat-more}
 
 -- From the place `at` the bits below k of the map have had their fields read, and the code holds a refusal, the next place and a value.
@@ -44,33 +43,27 @@ module _ {A : Type 0} (field : ℕ → A → Reader A) (map : ℕ) where
 module _ {A : Type 0} {field : ℕ → A → Reader A} {absent : A} {s : List ℕ} {at map : ℕ} where
   pub fields-start : {value : A} {left : ℕ} → map < 2 ^ mapBits → value ≡ absent → left ≡ ones map → FieldsLeft field absent s at map 0 at value left 0
   fields-start fits absent-value count =
-      record { map-byte = fits; fields-read = rw absent-value repeat-start; standing = count ∙ sym (ap ones (div-one map)) }
+      record { map-byte = fits; fields-read = repeat-start absent-value; standing = count ∙ sym (ap ones (div-one map)) }
 
   module _ {refusal next : ℕ} {value : A} {left k : ℕ} (f : FieldsLeft field absent s at map refusal next value left k) where
-    -- bit k is no more than the bits left
-    pub fields-digit : {d : ℕ} → d ≡ digit map k → d ≤ left
-    fields-digit e = omega (arith, e, f .standing, ones-from map k)
-
-    -- while a bit is left, k is a bit of the map byte
-    pub fields-bit : (left ≡ 0 → ⊥) → k < mapBits
+    -- while a field is left, k is a bit of the map byte
+    pub fields-bit : (left ≡ 0 → ⊥) → BitLeft map left k
     unfolding ones
-    fields-bit some = go (decLt k mapBits)
+    fields-bit some = record { in-map = lt-of-not-le (λ past. some (none past)); counted = omega (arith, f .standing, ones-from map k) }
       where
-        past : k ≡ mapBits → left ≡ 0
-        past e = f .standing ∙ ap (λ (n : ℕ). ones (map / 2 ^ n)) e ∙ ap ones (div-eq-of-lt (f .map-byte))
-
-        go : Dec (k < mapBits) → k < mapBits
-        go (yes h) = h
-        go (no h) = absurd (some (past (omega (arith, f .fields-read .turns .inside))))
+        none : mapBits ≤ k → left ≡ 0
+        none past =
+            let last : k ≡ mapBits = omega (arith, f .fields-read .turns .inside) in
+            f .standing ∙ ap (λ (n : ℕ). ones (map / 2 ^ n)) last ∙ ap ones (div-eq-of-lt (f .map-byte))
 
     -- one more field
-    pub fields-more : {q n′ refusal′ d : ℕ} {v′ : A} → (left ≡ 0 → ⊥) → Reads s q n′ v′ (fieldAt field map k value (drop next s))
-        → refusal′ ≡ first refusal q → d ≡ digit map k → FieldsLeft field absent s at map refusal′ n′ v′ (left - d) (k + 1)
-    fields-more {refusal′ = refusal′} {d = d} some read e digits =
+    pub fields-more : {q n′ refusal′ left′ : ℕ} {v′ : A} → (left ≡ 0 → ⊥) → Reads s q n′ v′ (fieldAt field map k value (drop next s))
+        → refusal′ ≡ first refusal q → left′ ≡ left - digit map k → FieldsLeft field absent s at map refusal′ n′ v′ left′ (k + 1)
+    fields-more some read e fewer =
         record {
           map-byte = f .map-byte;
-          fields-read = repeat-more (f .fields-read) (fields-bit some) read e;
-          standing = omega (arith, digits, f .standing, ones-from map k);
+          fields-read = repeat-more (f .fields-read) (fields-bit some .in-map) read e;
+          standing = omega (arith, fewer, f .standing, ones-from map k);
         }
 
     -- no field is left

@@ -1,13 +1,18 @@
 -- Reading a record: a map of bits, then only the fields whose bit stands.
-use Prim.Native.Nat.{ℕ}
+use Prim.Native.Nat.{ℕ, _<_, _≤_}
 use mathlib.Core.Bool.{cond}
-use Rattle.lists.specs.Bits.{bit}
+use Rattle.lists.specs.Bits.{digit, bit}
 use Rattle.rules.specs.Table.{strayFault}
 use Rattle.reading.specs.Reader.{Reader, byte, judge, return, repeat, _>>=_, _>>_}
 
 -- the bits of a map byte
 abbrev pub mapBits : ℕ
 mapBits = 8
+
+-- bit k of a map, from which on so many fields are left
+pub record BitLeft (map left k : ℕ) : Type 0 where
+  pub in-map : k < mapBits
+  pub counted : digit map k ≤ left
 
 -- the field of bit k is read where the bit stands, and otherwise keeps its absent value
 abbrev pub fieldAt : {A : Type 0} → (ℕ → A → Reader A) → ℕ → ℕ → A → Reader A

@@ -4,7 +4,7 @@ use mathlib.Core.Bool.{cond}
 use mathlib.Core.Path.{_≡_}
 use mathlib.Core.List.{List, [], _∷_}
 use lib.Dec.{eqb}
-use lib.ListN.{drop}
+use lib.ListN.{drop, getD}
 use Rattle.lists.specs.Run.{each}
 use Rattle.rules.specs.Table.{short}
 
@@ -45,6 +45,10 @@ byte (b ∷ rest) = got b rest
 abbrev pub number : ℕ → ℕ → ℕ → ℕ → ℕ
 number b0 b1 b2 b3 = b0 + 256 * b1 + 65536 * b2 + 16777216 * b3
 
+-- the number of the four bytes at a place
+abbrev pub numberAt : List ℕ → ℕ → ℕ
+numberAt bytes at = number (getD bytes at 0) (getD bytes (at + 1) 0) (getD bytes (at + 2) 0) (getD bytes (at + 3) 0)
+
 -- a number of four bytes
 unfoldable pub word : Reader ℕ
 word = do
@@ -69,3 +73,12 @@ asRead bytes refusal next value = cond (eqb refusal 0) (got value (drop next byt
 -- the code's reading is the one that a definition gives
 pub record Reads {A : Type 0} (bytes : List ℕ) (refusal next : ℕ) (value : A) (reading : Read A) : Type 0 where
   pub same : asRead bytes refusal next value ≡ reading
+
+-- the same of a reader at a place
+abbrev pub ReadsAt : {A : Type 0} → List ℕ → ℕ → Reader A → ℕ → ℕ → A → Type 0
+ReadsAt bytes at reader refusal next value = Reads bytes refusal next value (reader (drop at bytes))
+
+-- and where the reading is not refused, P holds of the value
+pub record ReadsWith {A : Type 0} (P : A → Type 0) (bytes : List ℕ) (at : ℕ) (reader : Reader A) (refusal next : ℕ) (value : A) : Type 0 where
+  pub reads : ReadsAt bytes at reader refusal next value
+  pub kept : refusal ≡ 0 → P value

@@ -30,27 +30,27 @@ use Rattle.report_lines.proofs.Marked.{marks-long}
 
 -- ---- paths
 
-entry-short : (n : ℕ) (entry : List ℕ) (lower upper : ℕ) → n ≤ mostComponents → classBorne n entry < 256 → lower ≤ one → upper ≤ one
-    → length (entryLine n entry lower upper) ≤ 41
+entry-short : (n : ℕ) (entry : List ℕ) (class lower upper : ℕ) → n ≤ mostComponents → class < classPlaces → lower ≤ one → upper ≤ one
+    → length (entryLine n entry class lower upper) ≤ 41
 unfolding entryLine sumOver
-entry-short n entry lower upper few class low high =
+entry-short n entry class lower upper few small low high =
     rw (joined-length _)
-    (omega (arith, marks-long n entry, field-short 3 (omega arith) (classBorne n entry) (omega (arith, class)), ending-short 10 (omega arith) lower upper (omega (arith, low)) (omega (arith, high))))
+    (omega (
+      arith,
+      marks-long n entry,
+      field-short 3 (omega arith) class (omega (arith, small)),
+      ending-short 10 (omega arith) lower upper (omega (arith, low)) (omega (arith, high)),
+    ))
 
--- the class of an entry among bytes is a byte
-class-byte : (n : ℕ) (list : List ℕ) (k : ℕ) → ((i : ℕ) → getD list i 0 < 256) → classBorne n (take (n + 1) (drop (k * (n + 1)) list)) < 256
-class-byte n list k bytes =
-    rw (getD-take (n + 1) (drop (k * (n + 1)) list) n 0 (omega arith), getD-drop (k * (n + 1)) list n 0) (bytes (k * (n + 1) + n))
-
-pub path-lines-short : (probabilities : List ℕ) (n : ℕ) (list : List ℕ) (paths : ℕ) → AtMostOne probabilities → n ≤ mostComponents → ((i : ℕ) → getD list i 0 < 256)
+pub path-lines-short : (probabilities : List ℕ) (n : ℕ) (list : List ℕ) (paths : ℕ) → AtMostOne probabilities → n ≤ mostComponents → ((i : ℕ) → getD list i 0 < byteValues)
     → length (pathLines probabilities n (entriesOf n paths list)) ≤ paths * 41
 unfolding pathLine
 path-lines-short probabilities n list paths probability few bytes = rw (lines-at probabilities n list paths) (lines-short (lineAt probabilities n list) paths 41 line)
   where
     line : (k : ℕ) → k < paths → length (lineAt probabilities n list k) ≤ 41
     line k h =
-        let entry = take (n + 1) (drop (k * (n + 1)) list) in
-        entry-short n entry (pathBound down probabilities n entry) (pathBound up probabilities n entry) few (class-byte n list k bytes)
+        let entry = entryAt n list k in
+        entry-short n entry (classBorne n entry) (pathBound down probabilities n entry) (pathBound up probabilities n entry) few (class-byte n list k bytes)
         (path-most down (omega arith) probabilities probability n n entry)
         (path-most up (omega arith) probabilities probability n n entry)
 

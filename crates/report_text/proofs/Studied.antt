@@ -19,6 +19,7 @@ use Rattle.soundness.specs.Check.{sound}
 use Rattle.soundness.specs.Sound.{Sound}
 use Rattle.soundness.proofs.Checked.{check-accepts}
 use Rattle.opening.specs.Opening.{opened}
+use Rattle.opening.proofs.Opened.Study.{opened-sound}
 use Rattle.evaluation.specs.Bounds.{chancesOf, lowerClasses, upperClasses}
 use Rattle.evaluation.specs.Figures.{customersOf, studyFigures, figuresBy}
 use Rattle.evaluation.specs.Listing.{pathList}
@@ -26,7 +27,6 @@ use Rattle.evaluation.specs.Page.{Paged}
 use Rattle.evaluation.proofs.Paged.{paged-list}
 use Rattle.planning.specs.Figures.{figuresGiven}
 use Rattle.planning.proofs.FigureCalls.{figures-sound}
-use Rattle.demands.proofs.Opened.Study.{opened-sound}
 use Rattle.report_lines.specs.Classes.{allBearing, classLines}
 use Rattle.report_lines.specs.Paths.{pathLines}
 use Rattle.report_text.specs.Report.{studyPaths, studyClasses, studyText, refusedText, textBy, reportText}

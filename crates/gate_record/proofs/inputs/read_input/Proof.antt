@@ -1,21 +1,12 @@
 -- `gate_record::inputs::read_input` meets its contract: the number is read, its rule is judged, and it is stored.
-use borrow.Author.Needs.{needs}
 use Rattle.reading.proofs.After.{after, judged-last}
+use Rattle.reading.proofs.Calls.{asks-nothing}
 use Rattle.gate_record.specs.Gate.{input}
 use Rattle.gate_record.proofs.inputs.read_input.Statement.{statement}
 use Rattle.gate_record.proofs.inputs.read_input.Tie as tie
 
-byte-at-requires : tie.Need-byte-at-requires
-byte-at-requires c κs = search needs
-
-ahead-fault-requires : tie.Need-ahead-fault-requires
-ahead-fault-requires c κs = search needs
-
-first-requires : tie.Need-first-requires
-first-requires c κs = search needs
-
 with-input-requires : tie.Need-with-input-requires
-with-input-requires c κs = search needs
+with-input-requires c κs = c .before .before .before .before .pre
 
 returns : tie.Need-returns
 unfolding input
@@ -25,6 +16,4 @@ returns c =
     rw (c .with-input .ensures) (after _ read (judged-last _ rule) (c .before .first .ensures))
 
 pub read-input-spec : {M : Type 1} → statement M
-read-input-spec =
-    tie.close
-    (tie.spec byte-at-requires ahead-fault-requires first-requires with-input-requires returns)
+read-input-spec = tie.close (tie.spec asks-nothing asks-nothing asks-nothing with-input-requires returns)

@@ -1,28 +1,26 @@
 -- `gate_record::tests::read_tests` meets its contract: the count is read and judged, then so many are read.
 use borrow.Author.Needs.{needs}
 use Rattle.reading.proofs.After.{stopped, going}
+use Rattle.reading.proofs.Calls.{asks-nothing}
 use Rattle.gate_record.specs.Gate.{tests}
 use Rattle.gate_record.proofs.tests.read_tests.Statement.{statement}
 use Rattle.gate_record.proofs.tests.read_tests.Tie as tie
 
-inputs-at-requires : tie.Need-inputs-at-requires
-inputs-at-requires c κs = search needs
-
 returns : tie.Need-returns
 unfolding tests
-returns c = stopped _ (c .before .before .inputs-at .ensures .0) (c .if1 .taken)
+returns c = stopped _ (c .before .before .inputs-at .ensures .reads) (c .if1 .taken)
 
 cast-read-test-list : tie.Need-cast-read-test-list
 cast-read-test-list c = search needs
 
 read-test-list-requires : tie.Need-read-test-list-requires
-read-test-list-requires c κs = c .before .before .before .inputs-at .ensures .1 (c .before .if1 .left)
+read-test-list-requires c κs = c .before .before .before .inputs-at .ensures .kept (c .before .if1 .left)
 
 returns-2 : tie.Need-returns-2
 unfolding tests
-returns-2 c = going _ (c .before .before .before .before .inputs-at .ensures .0) (c .before .before .if1 .left) (c .read-test-list .ensures)
+returns-2 c =
+    let count = c .before .before .before .before .inputs-at .ensures .reads in
+    going _ count (c .before .before .if1 .left) (c .read-test-list .ensures)
 
 pub read-tests-spec : {M : Type 1} → statement M
-read-tests-spec =
-    tie.close
-    (tie.spec inputs-at-requires returns cast-read-test-list read-test-list-requires returns-2)
+read-tests-spec = tie.close (tie.spec asks-nothing returns cast-read-test-list read-test-list-requires returns-2)

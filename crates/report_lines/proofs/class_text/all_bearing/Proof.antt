@@ -1,67 +1,59 @@
+-- `report_lines::class_text::all_bearing` meets its contract. The paths below k are counted, each at its class (`Borne`); the paths left fall.
+use borrow.Author.Needs.{needs}
+use Prim.Native.Nat.{_-_}
+use mathlib.Core.Path.{refl}
+use native.Mathlib.Omega.{arith}
+use Rattle.entries.proofs.Entries.{entry-in}
+use Rattle.report_lines.proofs.Borne.{Borne, borne-start, borne-few, borne-more, borne-done}
 use Rattle.report_lines.proofs.class_text.all_bearing.Statement.{statement}
 use Rattle.report_lines.proofs.class_text.all_bearing.Tie as tie
-use Rattle.report_lines.proofs.class_text.all_bearing.Reads as reads
-use Rattle.report_lines.proofs.class_text.all_bearing.Lts as lts
-use Rattle.entries.proofs.class_at.Reads as class-at-reads
-use Rattle.report_lines.proofs.class_text.none_bearing.Reads as none-bearing-reads
 
 abbrev Inv-loop : tie.InvT-loop
-Inv-loop n list paths bearing₀ k₀ bearing k = ?
+Inv-loop n list paths bearing₀ k₀ bearing k = Borne n list paths k bearing
 
 abbrev μ-loop : tie.MeasureT-loop
-μ-loop n list paths bearing₀ k₀ bearing k = ?
+μ-loop n list paths bearing₀ k₀ bearing k = paths - k
 
--- src/class_text.rt:25:23
 none-bearing-requires : tie.Need-none-bearing-requires Inv-loop μ-loop
-none-bearing-requires c κs = ?
+none-bearing-requires c κs = search needs
 
--- src/class_text.rt:27:5
 loop-holds : tie.Need-loop-holds Inv-loop μ-loop
-loop-holds c = ?
+loop-holds c = borne-start (c .before .before .pre) (c .none-bearing .ensures)
 
--- src/class_text.rt:28:21
 class-at-requires : tie.Need-class-at-requires Inv-loop μ-loop
-class-at-requires c κs = ?
+class-at-requires c κs = entry-in (c .before .loop .inv .room) (c .loop-test .taken)
 
--- src/class_text.rt:28:21
 cast-class : tie.Need-cast-class Inv-loop μ-loop
-cast-class c = ?
+cast-class c = omega arith
 
--- src/class_text.rt:29:26
 mul-bearing : tie.Need-mul-bearing Inv-loop μ-loop
-mul-bearing c = ?
+mul-bearing c = record { fits = omega arith }
 
--- src/class_text.rt:29:26
 array-read-bearing : tie.Need-array-read-bearing Inv-loop μ-loop
-array-read-bearing c = ?
+array-read-bearing c = omega arith
 
--- src/class_text.rt:29:26
 add-bearing : tie.Need-add-bearing Inv-loop μ-loop
-add-bearing c = ?
+add-bearing c =
+    let borne = c .before .before .loop .inv in
+    omega (arith, borne-few (c .class-at .result) borne (omega arith), c .before .loop-test .taken, borne .room .few)
 
--- src/class_text.rt:29:9
 mul-bearing-2 : tie.Need-mul-bearing-2 Inv-loop μ-loop
-mul-bearing-2 c = ?
+mul-bearing-2 c = record { fits = omega arith }
 
--- src/class_text.rt:29:9
 array-write-bearing : tie.Need-array-write-bearing Inv-loop μ-loop
-array-write-bearing c = ?
+array-write-bearing c = omega arith
 
--- src/class_text.rt:30:13
 add-k : tie.Need-add-k Inv-loop μ-loop
-add-k c = ?
+add-k c = search needs
 
--- src/class_text.rt:27:5
 loop-less : tie.Need-loop-less Inv-loop μ-loop
-loop-less c = ?
+loop-less c = omega (arith, c .before .loop-test .taken)
 
--- src/class_text.rt:27:5
 loop-again : tie.Need-loop-again Inv-loop μ-loop
-loop-again c = ?
+loop-again c = borne-more (c .before .before .loop .inv) (c .before .loop-test .taken) (omega arith) (c .class-at .ensures) refl
 
--- src/class_text.rt:21:1
 returns : tie.Need-returns Inv-loop μ-loop
-returns c = ?
+returns c = borne-done (c .before .loop .inv) (c .loop-test .left)
 
 pub all-bearing-spec : {M : Type 1} → statement M
 all-bearing-spec =

@@ -1,39 +1,48 @@
+-- `report_lines::path_text::path_line` meets its contract: it is the line of its entry with the path's class and two bounds.
+use mathlib.Core.Path.{sym}
+use native.Mathlib.Omega.{arith}
+use Rattle.report_lines.specs.Paths.{pathLine}
 use borrow.Author.Needs.{needs}
 use Rattle.report_lines.proofs.path_text.path_line.Statement.{statement}
 use Rattle.report_lines.proofs.path_text.path_line.Tie as tie
-use Rattle.report_lines.proofs.path_text.path_line.Reads as reads
-use Rattle.report_lines.proofs.path_text.path_line.Lts as lts
-use Rattle.entries.proofs.class_of.Reads as class-of-reads
-use Rattle.probability.proofs.path_bound.Reads as path-bound-reads
-use Rattle.report_lines.proofs.path_text.entry_line.Reads as entry-line-reads
 
--- src/path_text.rt:49:9
 path-bound-requires : tie.Need-path-bound-requires
-path-bound-requires c κs = ?
+path-bound-requires c κs =
+    let pre = c .before .before .before .pre in
+    (omega arith, (pre .0, (pre .1 .0, omega (arith, pre .1 .1 .0))))
 
--- src/path_text.rt:50:9
 path-bound-requires-2 : tie.Need-path-bound-requires-2
-path-bound-requires-2 c κs = ?
+path-bound-requires-2 c κs =
+    let pre = c .before .before .before .before .pre in
+    (omega arith, (pre .0, (pre .1 .0, omega (arith, pre .1 .1 .0))))
 
--- src/path_text.rt:51:17
 class-of-requires : tie.Need-class-of-requires
 class-of-requires c κs = search needs
 
--- src/path_text.rt:51:17
 cast-class : tie.Need-cast-class
 cast-class c = search needs
 
--- src/path_text.rt:52:5
 entry-line-requires : tie.Need-entry-line-requires
-entry-line-requires c κs = ?
+unfolding pathLine
+entry-line-requires c κs =
+    let classed = c .before in
+    let bounded = classed .before in
+    let pre = bounded .before .before .before .before .before .pre in
+    (
+      omega (arith, pre .1 .1 .0),
+      rw (bounded .before .path-bound .ensures .is, bounded .path-bound2 .ensures .is, classed .class-of .ensures) (pre .1 .1 .1),
+    )
 
--- src/path_text.rt:42:1
 same-length : tie.Need-same-length
 same-length c = search needs
 
--- src/path_text.rt:42:1
 returns : tie.Need-returns
-returns c = ?
+unfolding pathLine
+returns c =
+    let written = c .before .before in
+    let classed = written .before .before in
+    let bounded = classed .before in
+    rw (sym (bounded .before .path-bound .ensures .is), sym (bounded .path-bound2 .ensures .is), sym (classed .class-of .ensures)) (written .entry-line .ensures)
 
 pub path-line-spec : {M : Type 1} → statement M
 path-line-spec =

@@ -7,7 +7,7 @@ use Rattle.rules.specs.Limits.{loadMaps, mostCustomers, mostMinutes, never}
 use Rattle.rules.specs.Table.{noGateFault, sizeFault}
 use Rattle.rules.proofs.Kept.{absent-none, unless-none}
 use Rattle.reading.specs.Reader.{byte, word}
-use Rattle.reading.proofs.Held.{Gives, gives-any, gives-then, gives-judge, gives-return, gives-cond, gives-fields}
+use Rattle.reading.proofs.Held.{Gives, gives-then, gives-judged, gives-return, gives-cond, gives-fields}
 use Rattle.load_record.specs.Load.{lossGate, size, customers, minutes, loadField, load}
 use Rattle.study.specs.declared.Load.{Load}
 use Rattle.study.specs.Absent.{absentLoad}
@@ -21,14 +21,12 @@ module _ (gates : ℕ) where
   gate-sound : (l : Load) → SoundLoad gates l → Gives (lossGate gates l) (SoundLoad gates)
   unfolding lossGate
   gate-sound l s =
-      gives-then (gives-any byte)
-      (λ n u.
-      gives-then (gives-judge (noGateFault gates n))
-      (λ u kept. gives-return (record { gate = unless-none never n (noGateFault gates n) kept; customers = s .customers; minutes = s .minutes })))
+      gives-judged byte (noGateFault gates) _
+      (λ n kept. record { gate = unless-none never n (noGateFault gates n) kept; customers = s .customers; minutes = s .minutes })
 
   size-sound : (most : ℕ) → Gives (size most) (λ (n : ℕ). sizeFault most n ≡ 0)
   unfolding size
-  size-sound most = gives-then (gives-any word) (λ n u. gives-then (gives-judge (sizeFault most n)) (λ u kept. gives-return kept))
+  size-sound most = gives-judged word (sizeFault most) (λ n. n) (λ n kept. kept)
 
   customers-sound : (l : Load) → SoundLoad gates l → Gives (customers l) (SoundLoad gates)
   unfolding customers

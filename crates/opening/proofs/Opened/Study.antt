@@ -10,14 +10,13 @@ use lib.ListN.{length, take, getD-replicate}
 use Rattle.lists.specs.Product.{product}
 use Rattle.lists.proofs.Filled.{Filled, filled-none, filled-more}
 use Rattle.rules.specs.Breach.{refuse}
-use Rattle.rules.specs.Limits.{mostComponents, mostGates, mostLoads}
+use Rattle.rules.specs.Limits.{mostComponents, mostGates, mostLoads, mostTests, mostGateInputs}
 use Rattle.rules.specs.Table.{countFault, widthFault, leftFault}
 use Rattle.rules.proofs.Kept.{range-kept}
-use Rattle.reading.specs.Reader.{Read, refused, got, byte}
-use Rattle.reading.proofs.Held.{Held, Gives, gives-any, gives-then, gives-judge, gives-return, gives-repeat}
+use Rattle.reading.specs.Reader.{Read, Reader, refused, got, byte, repeat}
+use Rattle.reading.proofs.Held.{Held, Gives, gives-then, gives-judge, gives-judged, gives-return, gives-repeat}
 use Rattle.opening.specs.Opening.{count, componentAfter, componentRecord, gateRecord, loadRecord, placing, records, study, refusedOpening, answer, opened}
 use Rattle.opening.proofs.Places.{joint-placed}
-use Rattle.component_record.specs.Component.{component}
 use Rattle.study.specs.declared.Component.{Component}
 use Rattle.study.specs.declared.Load.{Load}
 use Rattle.study.specs.declared.Study.{Study}
@@ -26,25 +25,33 @@ use Rattle.study.specs.Joint.{states}
 use Rattle.study.specs.Places.{noGate}
 use Rattle.study.specs.Zero.{zeroComponent, zeroGate, zeroLoad, noComponents, noGates, noLoads}
 use Rattle.soundness.specs.Sound.{SoundComponent, SoundGate, UnusedGate, SoundLoad, Sound}
-use Rattle.demands.specs.Demand1.{OpenedSound}
-use Rattle.demands.proofs.Opened.Component.{component-sound}
-use Rattle.demands.proofs.Opened.Gate.{gate-sound}
-use Rattle.demands.proofs.Opened.Load.{load-sound}
+use Rattle.opening.specs.Laws.{OpenedSound}
+use Rattle.opening.proofs.Opened.Component.{component-sound}
+use Rattle.opening.proofs.Opened.Gate.{gate-sound}
+use Rattle.opening.proofs.Opened.Load.{load-sound}
 
 count-sound : (most : ℕ) → Gives (count most) (λ (n : ℕ). countFault most n ≡ 0)
 unfolding count
-count-sound most = gives-then (gives-any byte) (λ n u. gives-then (gives-judge (countFault most n)) (λ u kept. gives-return kept))
+count-sound most = gives-judged byte (countFault most) (λ n. n) (λ n kept. kept)
+
+-- a place below a count that keeps its rule
+room : (most n : ℕ) {i : ℕ} → countFault most n ≡ 0 → i < n → i < most
+room most n kept less = omega (arith, range-kept _ _ most n kept .most)
 
 -- records of one kind, each sound, fill the places from the front
-module _ {A : Type 0} (Kept : ℕ → A → Type 0) (Unused : A → Type 0) (d : A) (size : ℕ) where
-  placed : (reader : ℕ → List A → Rattle.reading.specs.Reader.Reader A) (i : ℕ) (l : List A) → i < size → Filled Kept Unused d size i l
-      → Gives (reader i l) (Kept i) → Gives (placing reader i l) (Filled Kept Unused d size (i + 1))
-  placed reader i l room f read = gives-then read (λ a kept. gives-return (filled-more f room kept))
+records-filled : {A : Type 0} (Kept : ℕ → A → Type 0) (Unused : A → Type 0) (d : A) (size : ℕ) (reader : ℕ → List A → Reader A) (n : ℕ) (none : List A)
+    → countFault size n ≡ 0 → Filled Kept Unused d size 0 none → ((i : ℕ) (l : List A) → Gives (reader i l) (Kept i))
+    → Gives (repeat (placing reader) n none) (Filled Kept Unused d size n)
+records-filled Kept Unused d size reader n none counted start read =
+    gives-repeat (Filled Kept Unused d size) (placing reader) n none
+    (λ i l less f. gives-then (read i l) (λ a kept. gives-return (filled-more f (room size n counted less) kept))) start
 
--- components
+-- ---- components
+
 abbrev ComponentsFilled : ℕ → List Component → Type 0
 ComponentsFilled = Filled (λ (k : ℕ) (c : Component). SoundComponent c) (λ (c : Component). c ≡ zeroComponent) zeroComponent mostComponents
 
+-- i components fill their places, and their joint states are not too many
 record ComponentsSoFar (i : ℕ) (cs : List Component) : Type 0 where
   filled : ComponentsFilled i cs
   width : widthFault (product (take i (states cs))) ≡ 0
@@ -53,29 +60,30 @@ no-components : ComponentsSoFar 0 noComponents
 unfolding noComponents product refuse
 no-components = record { filled = filled-none refl (λ k h. getD-replicate mostComponents k zeroComponent zeroComponent h); width = refl }
 
-record Fitting (jointStates : ℕ) (c : Component) : Type 0 where
+-- a sound component with which so many joint states are not too many
+record Fitting (joint : ℕ) (c : Component) : Type 0 where
   is-sound : SoundComponent c
-  width : widthFault (jointStates * c .states) ≡ 0
+  width : widthFault (joint * c .states) ≡ 0
 
-after-sound : (jointStates : ℕ) → Gives (componentAfter jointStates) (Fitting jointStates)
+after-sound : (joint : ℕ) → Gives (componentAfter joint) (Fitting joint)
 unfolding componentAfter
-after-sound jointStates =
+after-sound joint =
     gives-then component-sound
-    (λ c s. gives-then (gives-judge (widthFault (jointStates * c .states))) (λ u kept. gives-return (record { is-sound = s; width = kept })))
+    (λ c sound. gives-then (gives-judge (widthFault (joint * c .states))) (λ u fits. gives-return (record { is-sound = sound; width = fits })))
 
 component-placed : (i : ℕ) (cs : List Component) → i < mostComponents → ComponentsSoFar i cs → Gives (placing componentRecord i cs) (ComponentsSoFar (i + 1))
 unfolding componentRecord
-component-placed i cs room s =
+component-placed i cs below s =
     gives-then (after-sound (product (take i (states cs))))
-    (λ c fits.
-    gives-return (
-    record {
-      filled = filled-more (s .filled) room (fits .is-sound);
-      width = rw (joint-placed cs i c (rw (s .filled .long) room)) (fits .width);
-    }
-    ))
+    (λ c fitting.
+    gives-return
+    (record {
+      filled = filled-more (s .filled) below (fitting .is-sound);
+      width = rw (joint-placed cs i c (rw (s .filled .long) below)) (fitting .width);
+    }))
 
--- gates
+-- ---- gates
+
 zero-unused : UnusedGate zeroGate
 unfolding zeroGate
 zero-unused =
@@ -85,9 +93,9 @@ zero-unused =
       gates = refl;
       behind =
           record {
-            component = λ j from less. getD-replicate 12 j 0 0 less;
-            mask = λ j from less. getD-replicate 12 j 0 0 less;
-            input = λ j from less. getD-replicate 31 j 0 0 less;
+            component = λ j from less. getD-replicate mostTests j 0 0 less;
+            mask = λ j from less. getD-replicate mostTests j 0 0 less;
+            input = λ j from less. getD-replicate mostGateInputs j 0 0 less;
           };
     }
 
@@ -95,10 +103,16 @@ no-gates : (counts : List ℕ) → Filled (SoundGate counts) UnusedGate noGate m
 unfolding noGates
 no-gates counts = filled-none refl (λ k h. subst UnusedGate (sym (getD-replicate mostGates k zeroGate noGate h)) zero-unused)
 
--- loads
-no-loads : (gates : ℕ) → Filled (λ (k : ℕ). SoundLoad gates) (λ (l : Load). l ≡ zeroLoad) zeroLoad mostLoads 0 noLoads
+-- ---- loads
+
+abbrev LoadsFilled : ℕ → ℕ → List Load → Type 0
+LoadsFilled gates = Filled (λ (k : ℕ). SoundLoad gates) (λ (l : Load). l ≡ zeroLoad) zeroLoad mostLoads
+
+no-loads : (gates : ℕ) → LoadsFilled gates 0 noLoads
 unfolding noLoads
 no-loads gates = filled-none refl (λ k h. getD-replicate mostLoads k zeroLoad zeroLoad h)
+
+-- ---- the study
 
 records-sound : (components gates loads : ℕ) → countFault mostComponents components ≡ 0 → countFault mostGates gates ≡ 0 → countFault mostLoads loads ≡ 0
     → Gives (records components gates loads) Sound
@@ -106,24 +120,16 @@ unfolding records
 records-sound components gates loads c g l =
     gives-then
     (gives-repeat ComponentsSoFar (placing componentRecord) components noComponents
-    (λ i cs less s. component-placed i cs (omega (arith, range-kept 1 1 12 components c .most)) s) no-components)
+    (λ i cs less s. component-placed i cs (room mostComponents components c less) s) no-components)
     (λ cs components-sound.
     let counts = take components (states cs) in
     gives-then
-    (gives-repeat (Filled (SoundGate counts) UnusedGate noGate mostGates) (placing (gateRecord counts)) gates noGates
-    (λ i gs less f.
-    placed (SoundGate counts) UnusedGate noGate mostGates (gateRecord counts) i gs (omega (arith, range-kept 1 1 32 gates g .most)) f (gate-sound counts i))
-    (no-gates counts))
+    (records-filled (SoundGate counts) UnusedGate noGate mostGates (gateRecord counts) gates noGates g (no-gates counts) (λ i gs. gate-sound counts i))
     (λ gs gates-sound.
-    gives-then
-    (gives-repeat (Filled (λ (k : ℕ). SoundLoad gates) (λ (x : Load). x ≡ zeroLoad) zeroLoad mostLoads) (placing (loadRecord gates)) loads noLoads
-    (λ j ls less f.
-    placed (λ (k : ℕ). SoundLoad gates) (λ (x : Load). x ≡ zeroLoad) zeroLoad mostLoads (loadRecord gates) j ls
-    (omega (arith, range-kept 1 1 8 loads l .most)) f (load-sound gates))
-    (no-loads gates))
+    gives-then (records-filled _ _ zeroLoad mostLoads (loadRecord gates) loads noLoads l (no-loads gates) (λ j ls. load-sound gates))
     (λ ls loads-sound.
-    gives-return (
-    record {
+    gives-return
+    (record {
       components = c;
       gates = g;
       loads = l;
@@ -134,8 +140,7 @@ records-sound components gates loads c g l =
       no-gate = gates-sound .behind;
       load = loads-sound .below;
       no-load = loads-sound .behind;
-    }
-    ))))
+    }))))
 
 study-sound : Gives study Sound
 unfolding study
