@@ -1,27 +1,33 @@
-# The commands of this repository. The toolchain's `rt` must be on the PATH; tests and benchmark also use `cargo` and `cc`.
-.PHONY: report test bench fmt
+# The commands of this repository; `make help` lists them. The toolchain's `rt` must be on the PATH; tests and benchmark also use `cargo` and `cc`.
+.PHONY: report check test bench fmt help
 
 # The study whose report `make report` prints.
 STUDY = studies/case_a.hex
 
-report: target/bin/report
+report: target/bin/report ## Print the report of a study: STUDY=studies/case_a.hex or another. Proves and builds the program if need be
 	@scripts/bytes.sh $(STUDY) | target/bin/report
 
-# Proved, then built: a program that is not proved is not there.
-target/bin/report: crates.txt $(wildcard crates/*/src/*.rt)
-	@rt check report > /dev/null
+# Proved, then built: a program that is not proved is not there. Where it is missing, what says that it was built is taken away first.
+target/bin/report: crates.txt $(shell find crates -path '*/src/*.rt' -o -name '*.antt')
+	@test -e $@ || rm -f target/stamp/report
+	@scripts/prove.sh report
+	@touch $@
 
-# Every crate proved from nothing, every must-fail edit refused, every program run and compared, the library compared with a second implementation.
+check: ## Prove one crate and what it depends on: CRATE=name. What has not changed is not proved again
+	@test -n "$(CRATE)" || { echo "say which crate: make check CRATE=name, with a name of crates.txt" >&2; exit 2; }
+	@scripts/prove.sh $(CRATE) && tail -n 1 target/log/prove.log
+
 # The last line is the verdict.
-test:
+test: ## Prove every crate from nothing, see every must-fail edit refused, run the programs, compare with a second implementation
 	@scripts/test.sh
 
-# The proved report against a plain Rust port of the same algorithm, side by side.
-bench:
+bench: ## Time the proved report beside a plain Rust port of the same algorithm
 	@rt staticlib exports > /dev/null
 	@cd harness && cargo run --offline --quiet --release --bin bench
 
-# Lay out every source, definition and proof.
-fmt:
+fmt: ## Lay out every source, definition and proof
 	@rt fmt
 	@cd harness && cargo fmt
+
+help: ## List these commands
+	@awk -F ':.*## ' '/^[a-z]+:.*## / { printf "make %-7s %s\n", $$1, $$2 }' Makefile

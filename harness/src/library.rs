@@ -57,23 +57,28 @@ fn answer(number: i64) -> Answer<usize> {
 
 // Each pointer below stands beside the length of the slice that it is taken from, and a slice lent to be written is borrowed alone.
 
+/// Opens the bytes of a study and writes its image. Refused by 1 to 15, then 18.
 pub fn open(bytes: &[u8], study: &mut [u8]) -> Answer<usize> {
     answer(unsafe { grid_open(bytes.as_ptr(), bytes.len(), study.as_mut_ptr(), study.len()) })
 }
 
+/// Sets the probabilities of states 1 to 3 of a component. Refused by 16, 17, 5, 6.
 pub fn set_probabilities(study: &mut [u8], component: usize, p: [u32; 3]) -> Answer<usize> {
     let (place, size) = (study.as_mut_ptr(), study.len());
     answer(unsafe { grid_set_probabilities(place, size, component, p[0], p[1], p[2]) })
 }
 
+/// Sets the customers of a load. Refused by 16, 17, 14.
 pub fn set_customers(study: &mut [u8], load: usize, customers: u32) -> Answer<usize> {
     answer(unsafe { grid_set_customers(study.as_mut_ptr(), study.len(), load, customers) })
 }
 
+/// Sets the restore time of a load. Refused by 16, 17, 14.
 pub fn set_minutes(study: &mut [u8], load: usize, minutes: u32) -> Answer<usize> {
     answer(unsafe { grid_set_minutes(study.as_mut_ptr(), study.len(), load, minutes) })
 }
 
+/// Lists the paths at the front of a buffer, and answers how many there are. Refused by 16, 18.
 pub fn list_paths(study: &[u8], buffer: &mut [u8]) -> Answer<usize> {
     answer(unsafe {
         grid_list_paths(
@@ -85,6 +90,7 @@ pub fn list_paths(study: &[u8], buffer: &mut [u8]) -> Answer<usize> {
     })
 }
 
+/// Writes the bounds of each path, and answers how many there are. Refused by 16, 18.
 pub fn path_bounds(study: &[u8], lower: &mut [u64], upper: &mut [u64]) -> Answer<usize> {
     answer(unsafe {
         grid_path_bounds(
@@ -98,6 +104,7 @@ pub fn path_bounds(study: &[u8], lower: &mut [u64], upper: &mut [u64]) -> Answer
     })
 }
 
+/// Writes the bounds of each class at places 0 to 255. Refused by 16, 18.
 pub fn class_bounds(study: &[u8], lower: &mut [u64], upper: &mut [u64]) -> Answer<usize> {
     answer(unsafe {
         grid_class_bounds(
@@ -111,10 +118,12 @@ pub fn class_bounds(study: &[u8], lower: &mut [u64], upper: &mut [u64]) -> Answe
     })
 }
 
+/// Writes the bounds for the loss of a load. Refused by 16, 17.
 pub fn load_bounds(study: &[u8], load: usize, lower: &mut u64, upper: &mut u64) -> Answer<usize> {
     answer(unsafe { grid_load_bounds(study.as_ptr(), study.len(), load, lower, upper) })
 }
 
+/// Writes SAIFI, SAIDI and CAIDI, lower before upper, and answers how many are stated, 3 or 2. Refused by 16, 18, 19.
 pub fn figures(study: &[u8], figures: &mut [u64]) -> Answer<usize> {
     answer(unsafe {
         grid_figures(
@@ -126,10 +135,12 @@ pub fn figures(study: &[u8], figures: &mut [u64]) -> Answer<usize> {
     })
 }
 
+/// How many loads are lost in a class. Never refused.
 pub fn loads_lost(class: u8) -> Answer<usize> {
     answer(unsafe { grid_loads_lost(class) })
 }
 
+/// Writes the report of a study's bytes, and answers its length. Refused by 18.
 pub fn report(bytes: &[u8], text: &mut [u8]) -> Answer<usize> {
     answer(unsafe { grid_report(bytes.as_ptr(), bytes.len(), text.as_mut_ptr(), text.len()) })
 }

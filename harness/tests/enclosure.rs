@@ -1,11 +1,11 @@
 //! The bounds of the second implementation enclose the exact chances, as near as demand 2 asks, and its figures the exact quotients.
-use harness::desk::bounds::{bounded_paths, class_bounds, load_bounds, Bounds};
-use harness::desk::figures::figures;
-use harness::desk::losses::Losses;
-use harness::desk::opening::open;
-use harness::desk::paths::Path;
-use harness::desk::study::{Study, ONE};
 use harness::generate::{sound_input, Random};
+use harness::reference::bounds::{bounded_paths, class_bounds, load_bounds, Bounds};
+use harness::reference::figures::figures;
+use harness::reference::losses::Losses;
+use harness::reference::opening::open;
+use harness::reference::paths::Path;
+use harness::reference::study::{Study, ONE};
 
 /// With so many components every exact number below fits 128 bits.
 const MOST_COMPONENTS: usize = 3;

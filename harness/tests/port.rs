@@ -1,7 +1,7 @@
 //! The port that the benchmark times must be right as well: its reports agree with the second implementation's.
-use harness::desk::report::report;
 use harness::generate::{self, Random};
 use harness::port;
+use harness::reference::report::report;
 use harness::studies::to_hexadecimal;
 
 /// Room for any report.

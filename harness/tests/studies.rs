@@ -1,7 +1,7 @@
 //! The studies in the folder `studies` have the reports that stand beside them, under both implementations and the port.
-use harness::desk;
 use harness::library;
 use harness::port;
+use harness::reference;
 use harness::studies;
 
 #[test]
@@ -10,7 +10,7 @@ fn studies_have_their_reports() {
     assert!(all.len() >= 16, "{} studies", all.len());
     for study in all {
         let due = study.report.as_bytes();
-        let second = desk::report::report(&study.bytes);
+        let second = reference::report::report(&study.bytes);
         assert!(second.as_bytes() == due, "{}", study.name);
         for report in [library::report, port::report] {
             let mut text = vec![0; due.len()];

@@ -115,6 +115,7 @@ fn at_limit(random: &mut Random, image: &mut [u8]) {
     }
 }
 
+/// The image with one or more bytes altered.
 pub fn altered(random: &mut Random, image: &[u8]) -> Vec<u8> {
     let mut other = image.to_vec();
     match random.below(12) {

@@ -1,9 +1,7 @@
 //! Damaged studies: each kind of breach aimed at, some followed by a second one, by a cut, or by noise alone.
 use super::draft::{Draft, Role};
 use super::random::Random;
-use super::sound::{sound, state_counts, with_states, Shape};
-
-const ONE: u32 = 1_000_000_000;
+use super::sound::{sound, state_counts, with_states, Shape, ONE};
 
 /// A study of more joint states than fit.
 fn too_wide(random: &mut Random) -> Draft {
@@ -165,6 +163,7 @@ fn noise(random: &mut Random) -> Vec<u8> {
     bytes
 }
 
+/// The bytes of a study with a breach, sometimes with two.
 pub fn damaged(random: &mut Random) -> Vec<u8> {
     let row = random.between(1, 17);
     if row == 17 {

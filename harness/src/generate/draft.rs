@@ -35,6 +35,7 @@ pub enum Role {
     Behind,
 }
 
+/// The bytes, and the role of each.
 #[derive(Clone, Default)]
 pub struct Draft {
     pub bytes: Vec<u8>,

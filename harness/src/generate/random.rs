@@ -1,5 +1,6 @@
 //! Numbers that look random and are the same for the same seed (splitmix64).
 
+/// A source of numbers.
 pub struct Random(u64);
 
 impl Random {
@@ -7,6 +8,7 @@ impl Random {
         Random(seed)
     }
 
+    /// The next number.
     pub fn draw(&mut self) -> u64 {
         self.0 = self.0.wrapping_add(0x9E37_79B9_7F4A_7C15);
         let mut mixed = self.0;
@@ -49,6 +51,7 @@ impl Random {
         (0..size).map(|_| self.draw()).collect()
     }
 
+    /// One of the choices.
     pub fn pick<T: Copy>(&mut self, choices: &[T]) -> T {
         choices[self.below(choices.len())]
     }

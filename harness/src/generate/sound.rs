@@ -2,7 +2,8 @@
 use super::draft::{Draft, Role};
 use super::random::Random;
 
-const ONE: u32 = 1_000_000_000;
+/// Certainty, in units.
+pub const ONE: u32 = 1_000_000_000;
 
 /// How large a study may become.
 pub struct Shape {
@@ -212,6 +213,7 @@ fn widest_counts(random: &mut Random) -> Vec<u8> {
     counts
 }
 
+/// A sound study; now and then one with as many joint states as there may be.
 pub fn sound(random: &mut Random) -> Draft {
     let shape = shape(random);
     let counts = if random.once_in(800) {

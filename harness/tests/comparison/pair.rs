@@ -1,10 +1,10 @@
 //! One input under both implementations: each call is made twice on equal space, and everything must be alike afterwards.
 use crate::lent::{room, Lent};
 use crate::tally::Tally;
-use harness::desk::calls as desk;
-use harness::desk::{image, losses::Losses, paths, report};
 use harness::generate::Random;
 use harness::library::{self, STUDY_BYTES};
+use harness::reference::calls as reference;
+use harness::reference::{image, losses::Losses, paths, report};
 use harness::studies::to_hexadecimal;
 use std::fmt::Debug;
 
@@ -93,7 +93,7 @@ impl<'a> Pair<'a> {
                 &format!("open into {room} bytes"),
                 Lent::bytes(random, room),
                 |lent| library::open(bytes, lent.room()),
-                |lent| desk::open(bytes, lent.room()),
+                |lent| reference::open(bytes, lent.room()),
             );
             opened = (both.answer, both.lent.held().to_vec());
         }
@@ -113,7 +113,7 @@ impl<'a> Pair<'a> {
                 &format!("report into {room} bytes"),
                 Lent::bytes(random, room),
                 |lent| library::report(bytes, lent.room()),
-                |lent| desk::report(bytes, lent.room()),
+                |lent| reference::report(bytes, lent.room()),
             );
         }
     }
@@ -151,7 +151,7 @@ impl<'a> Pair<'a> {
             image,
             &format!("set probabilities of {component} to {p:?}"),
             |image| library::set_probabilities(image, component, p),
-            |image| desk::set_probabilities(image, component, p),
+            |image| reference::set_probabilities(image, component, p),
         )
     }
 
@@ -167,7 +167,7 @@ impl<'a> Pair<'a> {
             image,
             &format!("set customers of {load} to {customers}"),
             |image| library::set_customers(image, load, customers),
-            |image| desk::set_customers(image, load, customers),
+            |image| reference::set_customers(image, load, customers),
         )
     }
 
@@ -183,7 +183,7 @@ impl<'a> Pair<'a> {
             image,
             &format!("set minutes of {load} to {minutes}"),
             |image| library::set_minutes(image, load, minutes),
-            |image| desk::set_minutes(image, load, minutes),
+            |image| reference::set_minutes(image, load, minutes),
         )
     }
 
@@ -196,7 +196,7 @@ impl<'a> Pair<'a> {
                 &format!("list paths into {room} bytes"),
                 (image.clone(), Lent::bytes(random, room)),
                 |(image, lent)| library::list_paths(image.held(), lent.room()),
-                |(image, lent)| desk::list_paths(image.held(), lent.room()),
+                |(image, lent)| reference::list_paths(image.held(), lent.room()),
             );
         }
     }
@@ -209,7 +209,9 @@ impl<'a> Pair<'a> {
             "bound paths",
             (image, lower, upper),
             |(image, lower, upper)| library::path_bounds(image.held(), lower.room(), upper.room()),
-            |(image, lower, upper)| desk::path_bounds(image.held(), lower.room(), upper.room()),
+            |(image, lower, upper)| {
+                reference::path_bounds(image.held(), lower.room(), upper.room())
+            },
         );
     }
 
@@ -220,7 +222,9 @@ impl<'a> Pair<'a> {
             "bound classes",
             (image, lower, upper),
             |(image, lower, upper)| library::class_bounds(image.held(), lower.room(), upper.room()),
-            |(image, lower, upper)| desk::class_bounds(image.held(), lower.room(), upper.room()),
+            |(image, lower, upper)| {
+                reference::class_bounds(image.held(), lower.room(), upper.room())
+            },
         );
     }
 
@@ -236,7 +240,7 @@ impl<'a> Pair<'a> {
             },
             |(image, lower, upper)| {
                 let (lower, upper) = (&mut lower.room()[0], &mut upper.room()[0]);
-                desk::load_bounds(image.held(), load, lower, upper)
+                reference::load_bounds(image.held(), load, lower, upper)
             },
         );
     }
@@ -248,7 +252,7 @@ impl<'a> Pair<'a> {
                 &format!("figures into {room} places"),
                 (image.clone(), Lent::words(random, room)),
                 |(image, lent)| library::figures(image.held(), lent.room()),
-                |(image, lent)| desk::figures(image.held(), lent.room()),
+                |(image, lent)| reference::figures(image.held(), lent.room()),
             );
         }
     }
@@ -258,7 +262,7 @@ impl<'a> Pair<'a> {
             &format!("loads lost in class {class}"),
             (),
             |()| library::loads_lost(class),
-            |()| desk::loads_lost(class),
+            |()| reference::loads_lost(class),
         );
     }
 }

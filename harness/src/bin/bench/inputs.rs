@@ -1,6 +1,6 @@
 //! The studies that are timed.
-use harness::desk::opening::open;
-use harness::desk::study::joint_state_count;
+use harness::reference::opening::open;
+use harness::reference::study::joint_state_count;
 use harness::studies::from_hexadecimal;
 
 pub struct Input {

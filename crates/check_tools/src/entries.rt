@@ -1,0 +1,129 @@
+// Shows what a call for a list of paths answers, and what the lent bytes then hold: the entries at their front, and how many bytes behind
+// them kept their value.
+use crate::hexadecimal::byte_at;
+use crate::numbers;
+use crate::numbers::one_if;
+use rules::BLANK;
+ghost use Prim.Native.Nat.{_≤_};
+ghost use mathlib.Core.Path.{_≡_};
+ghost use lib.ListN.{length};
+ghost use Rattle.io.specs.Counts.{Counts};
+
+// Room for the longest list that there is, 4,096 entries of 13 bytes, with a value in each byte.
+pub fn page(fill: u8) -> [u8; 53248]
+    ensures { λ r. ⌜ 53248 ≡ length r ⌝ }
+{
+    [fill; 53248]
+}
+
+// The size of a front part of some bytes: the one asked for, or that of them all where it is less.
+pub fn front_size(bytes: &[u8], size: usize) -> usize
+    ensures { λ r. ⌜ Counts r (now (bytes .entry)) ⌝ }
+{
+    if size < bytes.len() {
+        size
+    } else {
+        bytes.len()
+    }
+}
+
+// Shows a byte of an entry: the class, which ends the line, or a component's state, `-` where it is blank.
+fn show_byte(byte: u8, class: bool) {
+    if class {
+        io::write_all(1, b" ");
+        numbers::byte(byte, true);
+    } else if byte == BLANK {
+        io::write_all(1, b"-");
+    } else {
+        io::print_decimal(1, byte as u64);
+    }
+}
+
+// Shows each entry of a list on a line: its states, then its class.
+fn show_entries(list: &[u8], components: u8) {
+    let mut i: usize = 0;
+    while i < list.len() {
+        show_byte(
+            list[i],
+            i % (components as usize + 1) == components as usize,
+        );
+        i = i + 1;
+    }
+}
+
+// The sum of the bytes in a column of entries of this width.
+fn column_sum(list: &[u8], width: usize, column: usize) -> u64
+    requires { ⌜ length (now list) ≤ 53248 ⌝ }
+    requires { ⌜ 1 ≤ width ⌝ }
+    requires { ⌜ width ≤ 256 ⌝ }
+{
+    let mut sum: u64 = 0;
+    let mut at = column;
+    while at < list.len() {
+        sum = sum + byte_at(list, at) as u64;
+        at = at + width;
+    }
+    sum
+}
+
+// Shows the sum of each column of a list on a line.
+fn show_sums(list: &[u8], components: u8)
+    requires { ⌜ length (now list) ≤ 53248 ⌝ }
+{
+    let width = components as usize + 1;
+    let mut column: usize = 0;
+    while column < width {
+        numbers::number(column_sum(list, width, column), column + 1 == width);
+        column = column + 1;
+    }
+}
+
+// Shows the entries of a list, or the sums of its columns; nothing where there is no entry.
+fn show_list(list: &[u8], components: u8, sums: bool)
+    requires { ⌜ length (now list) ≤ 53248 ⌝ }
+{
+    if list.len() == 0 {
+        return;
+    }
+    if sums {
+        show_sums(list, components);
+    } else {
+        show_entries(list, components);
+    }
+}
+
+// How many of the bytes hold a value.
+fn held(bytes: &[u8], value: u8) -> u64
+    ensures { λ r. ⌜ r ≤ length (now (bytes .entry)) ⌝ }
+{
+    let mut count: u64 = 0;
+    let mut i: usize = 0;
+    while i < bytes.len() {
+        count = count + one_if(bytes[i] == value);
+        i = i + 1;
+    }
+    count
+}
+
+// Shows how many of the bytes hold a value, and how many do not, on a line.
+fn show_held(bytes: &[u8], value: u8) {
+    let kept = held(bytes, value);
+    numbers::two(kept, bytes.len() as u64 - kept);
+}
+
+// How many of the bytes a list of so many paths fills.
+fn list_size(lent: &[u8], paths: u32, components: u8) -> usize
+    ensures { λ r. ⌜ Counts r (now (lent .entry)) ⌝ }
+{
+    front_size(lent, paths as usize * (components as usize + 1))
+}
+
+// Shows the refusal, 0 for none, and the number of paths on a line; then the list, and how many of the bytes behind it hold what all bytes held.
+pub fn show_listing(refusal: u8, paths: u32, lent: &[u8], components: u8, fill: u8, sums: bool)
+    requires { ⌜ length (now lent) ≤ 53248 ⌝ }
+{
+    numbers::two(refusal as u64, paths as u64);
+    let size = list_size(lent, paths, components);
+    show_list(&lent[..size], components, sums);
+    show_held(&lent[size..], fill);
+}

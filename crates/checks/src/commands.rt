@@ -1,0 +1,145 @@
+// The commands of the script. Each is a letter and bytes, calls the library, and writes one line of numbers, or more for a list.
+//
+//     o BYTES                     opens a study: the refusal, 0 for none; what the call returns is the current study from then on
+//     f BYTES                     opens each strict front part of the bytes, the shortest first: the refusals
+//     p ITEM P1 P2 P3             edits the probabilities of a component: the refusal; what the call returns is then current
+//     c ITEM N                    edits the customers of a load, likewise
+//     m ITEM N                    edits the minutes of a load, likewise
+//     a FIELD ITEM PLACE VALUE    alters a field of a copy of the current study (see `check_tools::alter`), and edits the copy so that nothing
+//                                 changes: the refusal
+//     s KIND ITEM                 shows a record of the current study (see `check_tools::show`)
+//     l SIZE FILL                 lists the paths of the current study into so many bytes, at most 53,248, that all hold FILL. One line: the
+//                                 refusal, 0 for none, and the number of paths. A line for each path: a digit for each component or `-` for
+//                                 blank, and the class. One line: how many of the bytes behind the list hold FILL, and how many do not
+//     t SIZE FILL                 the same, but in place of the paths one line with the sum of each byte of an entry over all entries
+//     u FIELD ITEM PLACE VALUE    alters a field of a copy as `a` does, and lists its paths as `l` does into 64 bytes that hold 170
+//     b LOWER UPPER               asks for the bounds of the current study's paths in slices of so many places, at most 512 each, that all
+//                                 hold 18,446,744,073,709,551,615. One line: the refusal, 0 for none, and the number of paths. A line for each
+//                                 path: its lower and its upper bound. One line: how many places of both slices behind the bounds, or of all
+//                                 places if refused, hold what they held, and how many do not
+//     k LOWER UPPER               the same for the classes. One line: the refusal. A line for each class whose bounds are not both 0: the class
+//                                 and its bounds. One line: how many places from 256 on, or of all if refused, hold what they held, and how
+//                                 many do not
+//     v ITEM                      the bounds of a load of the current study: the refusal, 0 for none, the lower and the upper bound
+//     i                           the three figures of the current study. One line: the refusal, 0 for none. Unless refused, a line each for SAIFI,
+//                                 SAIDI and CAIDI: the lower and the upper bound, and an empty line where CAIDI is not stated
+//     n CLASS                     the number of loads lost in a class
+//
+// P1, P2, P3, N and VALUE have four bytes, lowest byte first, SIZE, LOWER and UPPER have two, and the others one. A byte that is missing counts as 0. Any
+// other letter does nothing.
+use crate::filled::bound;
+use crate::filled::list;
+use crate::told::bound_load;
+use crate::told::figures;
+use check_tools::alter::altered;
+use check_tools::hexadecimal::byte_at;
+use check_tools::hexadecimal::number_at;
+use check_tools::numbers;
+use check_tools::show::show;
+use study::Outcome;
+use study::Study;
+use study::StudyAnswer;
+ghost use Rattle.io.specs.Counts.{Counts};
+
+// The number by which a call was refused, and 0 for one that was done.
+fn refusal(answer: StudyAnswer) -> u64 {
+    let outcome = answer.outcome;
+    match outcome {
+        Outcome::Done => 0,
+        Outcome::Refused(number) => number as u64,
+    }
+}
+
+// Writes the refusal of a call on a line, and hands on the study that the call returned.
+fn answered(answer: StudyAnswer) -> Study {
+    numbers::number(refusal(answer), true);
+    answer.study
+}
+
+// Opens the front part of this size, and writes the refusal; that of the longest ends the line.
+fn open_front_part(bytes: &[u8], size: usize)
+    requires { ⌜ Counts size (now bytes) ⌝ }
+{
+    numbers::number(
+        refusal(planning::open(&bytes[..size])),
+        bytes.len() - size == 1,
+    );
+}
+
+// Opens each strict front part.
+fn open_front_parts(bytes: &[u8]) {
+    let mut size: usize = 0;
+    while size < bytes.len() {
+        open_front_part(bytes, size);
+        size = size + 1;
+    }
+}
+
+// Edits probabilities, customers or minutes.
+fn edited(letter: u8, bytes: &[u8], study: Study) -> StudyAnswer {
+    let item = byte_at(bytes, 0) as usize;
+    let n = number_at(bytes, 1);
+    match letter {
+        b'c' => planning::set_customers(study, item, n),
+        b'm' => planning::set_minutes(study, item, n),
+        _ => planning::set_probabilities(study, item, n, number_at(bytes, 5), number_at(bytes, 9)),
+    }
+}
+
+// The study with one field altered.
+fn altered_copy(bytes: &[u8], study: Study) -> Study {
+    let field = byte_at(bytes, 0);
+    let item = byte_at(bytes, 1) as usize;
+    let place = byte_at(bytes, 2) as usize;
+    altered(field, item, place, number_at(bytes, 3), study)
+}
+
+// Alters a copy of the study, and edits the copy so that nothing changes.
+fn edit_altered(bytes: &[u8], study: Study) {
+    let copy = altered_copy(bytes, study);
+    answered(planning::set_minutes(copy, 0, copy.load[0].minutes));
+}
+
+// Lists the paths of the study into a buffer of the size that the command asks for.
+fn list_sized(bytes: &[u8], study: Study, sums: bool) {
+    list(
+        study,
+        number_at(bytes, 0) as usize % 65536,
+        byte_at(bytes, 2),
+        sums,
+    );
+}
+
+// Asks for bounds in slices of the sizes that the command asks for.
+fn bound_sized(bytes: &[u8], study: Study, classes: bool) {
+    let sizes = number_at(bytes, 0) as usize;
+    bound(study, sizes % 65536, sizes / 65536, classes);
+}
+
+// Obeys a command that leaves the current study as it is.
+fn look(letter: u8, bytes: &[u8], study: Study) {
+    match letter {
+        b'f' => open_front_parts(bytes),
+        b'a' => edit_altered(bytes, study),
+        b's' => show(byte_at(bytes, 0), byte_at(bytes, 1) as usize, study),
+        b'l' | b't' => list_sized(bytes, study, letter == b't'),
+        b'u' => list(altered_copy(bytes, study), 64, 170, false),
+        b'b' | b'k' => bound_sized(bytes, study, letter == b'k'),
+        b'v' => bound_load(study, byte_at(bytes, 0) as usize),
+        b'i' => figures(study),
+        b'n' => numbers::number(planning::loads_lost(byte_at(bytes, 0)) as u64, true),
+        _ => {}
+    }
+}
+
+// Obeys a command, and hands on the study that is current after it.
+pub fn obey(letter: u8, bytes: &[u8], study: Study) -> Study {
+    match letter {
+        b'o' => answered(planning::open(bytes)),
+        b'p' | b'c' | b'm' => answered(edited(letter, bytes, study)),
+        _ => {
+            look(letter, bytes, study);
+            study
+        }
+    }
+}

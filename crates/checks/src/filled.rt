@@ -1,0 +1,115 @@
+// Makes the calls that fill lent space, and shows what each answers and what it wrote.
+use check_tools::entries::front_size;
+use check_tools::entries::page;
+use check_tools::entries::show_listing;
+use check_tools::places::front_count;
+use check_tools::places::show_filled;
+use check_tools::places::untouched_places;
+use planning::Listing;
+use planning::PathsBounded;
+use study::Outcome;
+use study::Study;
+ghost use Prim.Native.Nat.{_≤_};
+ghost use lib.ListN.{length};
+
+// The refusal, 0 for none, and how many paths or classes were written, 0 where refused.
+struct Filled {
+    refusal: u8,
+    count: u32,
+}
+
+// What a call for the bounds of paths answers.
+fn paths_bounded(answer: PathsBounded) -> Filled {
+    match answer {
+        PathsBounded::Bounded(paths) => Filled {
+            refusal: 0,
+            count: paths,
+        },
+        PathsBounded::Refused(number) => Filled {
+            refusal: number,
+            count: 0,
+        },
+    }
+}
+
+// What a call for the bounds of classes answers.
+fn classes_bounded(answer: Outcome) -> Filled {
+    match answer {
+        Outcome::Done => Filled {
+            refusal: 0,
+            count: 256,
+        },
+        Outcome::Refused(number) => Filled {
+            refusal: number,
+            count: 0,
+        },
+    }
+}
+
+// Lists the paths.
+fn list_paths(study: Study, lent: &mut [u8]) -> Filled {
+    let answer = planning::list_paths(study, lent);
+    match answer {
+        Listing::Listed(count) => Filled {
+            refusal: 0,
+            count: count.paths,
+        },
+        Listing::Refused(number) => Filled {
+            refusal: number,
+            count: 0,
+        },
+    }
+}
+
+// Asks for the bounds of the paths, or of the classes.
+fn ask_bounds(study: Study, lower: &mut [u64], upper: &mut [u64], classes: bool) -> Filled {
+    if classes {
+        return classes_bounded(planning::class_bounds(study, lower, upper));
+    }
+    paths_bounded(planning::path_bounds(study, lower, upper))
+}
+
+// Lists the paths of a study into a buffer whose bytes hold a value, and shows it all.
+fn list_into(study: Study, lent: &mut [u8], fill: u8, sums: bool)
+    requires { ⌜ length (now lent) ≤ 53248 ⌝ }
+{
+    let filled = list_paths(study, lent);
+    show_listing(
+        filled.refusal,
+        filled.count,
+        lent,
+        study.components,
+        fill,
+        sums,
+    );
+}
+
+// Lists the paths of a study into so many bytes that hold a value, and shows it all.
+pub fn list(study: Study, size: usize, fill: u8, sums: bool) {
+    let mut room = page(fill);
+    let end = front_size(&room, size);
+    list_into(study, &mut room[..end], fill, sums);
+}
+
+// Asks for bounds in two slices that no call has touched, and shows it all.
+fn bound_in(study: Study, lower: &mut [u64], upper: &mut [u64], classes: bool)
+    requires { ⌜ length (now lower) ≤ 512 ⌝ }
+    requires { ⌜ length (now upper) ≤ 512 ⌝ }
+{
+    let filled = ask_bounds(study, lower, upper, classes);
+    show_filled(filled.refusal, filled.count, lower, upper, classes);
+}
+
+// Asks for the bounds of the paths, or of the classes, in slices of so many places, and shows it all.
+pub fn bound(study: Study, lower_count: usize, upper_count: usize, classes: bool) {
+    let mut lower = untouched_places();
+    let mut upper = untouched_places();
+    let lower_end = front_count(&lower, lower_count);
+    let upper_end = front_count(&upper, upper_count);
+    bound_in(
+        study,
+        &mut lower[..lower_end],
+        &mut upper[..upper_end],
+        classes,
+    );
+}

@@ -1,0 +1,203 @@
+//! The worked examples and the places where opening is easily got wrong, with answers worked out by hand.
+use harness::library::{self, STUDY_BYTES};
+use harness::reference::{calls as reference, report};
+use harness::studies::from_hexadecimal;
+
+const CASE_A: &str = "02 01 01  02 00E1F505  02 00C2EB0B  02 02 0002 0102  07 00 64000000 3C000000";
+
+/// The report, on which both implementations must agree.
+fn report_of(study: &str) -> String {
+    let bytes = from_hexadecimal(study);
+    let due = report::report(&bytes);
+    let mut text = vec![0; due.len()];
+    assert_eq!(library::report(&bytes, &mut text), Ok(due.len()), "{study}");
+    assert_eq!(String::from_utf8_lossy(&text), due, "{study}");
+    due
+}
+
+/// Lines of a report that start with a letter and a blank, without these.
+fn lines(study: &str, letter: &str) -> Vec<String> {
+    let report = report_of(study);
+    let wanted = report.lines().filter_map(|line| line.strip_prefix(letter));
+    wanted.map(str::to_string).collect()
+}
+
+fn image_of(study: &str) -> Vec<u8> {
+    let mut image = vec![0; STUDY_BYTES];
+    let answer = library::open(&from_hexadecimal(study), &mut image);
+    assert_eq!(answer, Ok(0), "{study}");
+    image
+}
+
+#[test]
+fn a_two_in_series() {
+    let due = "PATHS 3\nP 00 0 720000000 720000000\nP 01 1 180000000 180000000\nP 1- 1 100000000 100000000\n\
+               K 0 720000000 720000000\nK 1 280000000 280000000\nL 0 280000000 280000000\n\
+               SAIFI 280000000 280000000\nSAIDI 16800000000 16800000000\nCAIDI 60 60\n";
+    assert_eq!(report_of(CASE_A), due);
+}
+
+#[test]
+fn b_remainders() {
+    let study = "02 01 01  02 5543DE13  02 5543DE13  03 02 02 0002 0102  07 00 01000000 3C000000";
+    let paths = [
+        "0- 0 666666667 666666667",
+        "10 0 222222222 222222223",
+        "11 1 111111110 111111111",
+    ];
+    assert_eq!(lines(study, "P "), paths);
+    assert_eq!(
+        lines(study, "K "),
+        ["0 888888889 888888890", "1 111111110 111111111"]
+    );
+    // The bounds of the loss differ, so 60 minutes are enclosed and not met.
+    assert_eq!(lines(study, "CAIDI "), ["59 61"]);
+}
+
+#[test]
+fn c_d_all_blank() {
+    let never = "01 01 01  00  02 01 0002  00";
+    assert_eq!(lines(never, "P "), ["- 0 1000000000 1000000000"]);
+    let always = "01 01 01  00  02 01 0003  01 00";
+    assert_eq!(lines(always, "P "), ["- 1 1000000000 1000000000"]);
+}
+
+#[test]
+fn e_blank_between() {
+    let study = "03 01 01  00 00 00  03 02 02 0002 0202  01 00";
+    let paths = ["0-- 0 1000000000 1000000000", "1-0 0 0 0", "1-1 1 0 0"];
+    assert_eq!(lines(study, "P "), paths);
+}
+
+#[test]
+fn f_width() {
+    let six = "06 01 01  01 04 01 04 01 04 01 04 01 04 01 04  02 01 0002  01 00";
+    // Component 0 is settled in each of its states, though only state 1 loses the load.
+    assert!(report_of(six).starts_with("PATHS 4\n"));
+    // A seventh is refused once its own fields are read, and not before.
+    let seven = "07 01 01  01 04 01 04 01 04 01 04 01 04 01 04";
+    assert_eq!(report_of(&format!("{seven}  00")), "REFUSED 7 too wide\n");
+    assert_eq!(report_of(&format!("{seven}  02 00")), "REFUSED 1 short\n");
+    assert_eq!(
+        report_of(&format!("{seven}  02 01CA9A3B")),
+        "REFUSED 6 over one\n"
+    );
+}
+
+#[test]
+fn g_sums() {
+    let rest = "02 01 0002  01 00";
+    let one = format!("01 01 01  0F 04 00CA9A3A 00000001 00000000  {rest}");
+    assert!(report_of(&one).starts_with("PATHS 4\n"));
+    let above = format!("01 01 01  0F 04 00CA9A3A 00000001 01000000  {rest}");
+    assert_eq!(report_of(&above), "REFUSED 6 over one\n");
+    let wrapped = format!("01 01 01  0F 04 00000080 00000080 00000000  {rest}");
+    assert_eq!(report_of(&wrapped), "REFUSED 6 over one\n");
+}
+
+#[test]
+fn h_counts_one_by_one() {
+    assert_eq!(report_of(""), "REFUSED 1 short\n");
+    assert_eq!(report_of("0D"), "REFUSED 2 counts\n");
+    assert_eq!(report_of("01"), "REFUSED 1 short\n");
+    assert_eq!(report_of("01 00"), "REFUSED 2 counts\n");
+    assert_eq!(report_of("01 01"), "REFUSED 1 short\n");
+    assert_eq!(report_of("01 01 09"), "REFUSED 2 counts\n");
+}
+
+#[test]
+fn i_j_thresholds() {
+    let front = "01 01 01  00";
+    let three_of_two = format!("{front}  03 03 02 0002 0001  01 00");
+    assert_eq!(report_of(&three_of_two), "REFUSED 12 threshold\n");
+    let twice = format!("{front}  03 02 02 0002 0002  01 00");
+    assert_eq!(
+        lines(&twice, "P "),
+        ["0 0 1000000000 1000000000", "1 1 0 0"]
+    );
+    // A bad threshold waits for the gate's last field.
+    let none = format!("{front}  00  01 00");
+    assert_eq!(report_of(&none), "REFUSED 12 threshold\n");
+    let later = format!("{front}  03 00 01 0102");
+    assert_eq!(report_of(&later), "REFUSED 9 no component\n");
+}
+
+#[test]
+fn k_chance_zero() {
+    let study = "01 01 01  02 00000000  02 01 0002  03 00 01000000";
+    let paths = ["0 0 1000000000 1000000000", "1 1 0 0"];
+    assert_eq!(lines(study, "P "), paths);
+    assert_eq!(lines(study, "K "), ["0 1000000000 1000000000", "1 0 0"]);
+    assert_eq!(lines(study, "CAIDI "), ["none"]);
+}
+
+#[test]
+fn l_room_for_a_list() {
+    let image = image_of(CASE_A);
+    for call in [library::list_paths, reference::list_paths] {
+        let mut short = [0xA5; 8];
+        assert_eq!(call(&image, &mut short), Err(18));
+        assert_eq!(short, [0xA5; 8]);
+        let mut enough = [0xA5; 9];
+        assert_eq!(call(&image, &mut enough), Ok(3));
+        assert_eq!(enough, [0, 0, 0, 0, 1, 1, 1, 255, 1]);
+    }
+}
+
+#[test]
+fn m_no_customers() {
+    let mut image = image_of(CASE_A);
+    assert_eq!(library::set_customers(&mut image, 0, 0), Ok(0));
+    for call in [library::figures, reference::figures] {
+        let mut places = [7; 6];
+        assert_eq!(call(&image, &mut places), Err(19));
+        assert_eq!(places, [7; 6]);
+        assert_eq!(call(&image, &mut places[..5]), Err(18));
+    }
+    let nobody = "02 01 01  02 00E1F505  02 00C2EB0B  02 02 0002 0102  05 00 3C000000";
+    assert!(report_of(nobody).ends_with("L 0 280000000 280000000\nINDICES 19\n"));
+}
+
+#[test]
+fn lacking_states_at_their_bit() {
+    // Bits 1 and 2 of a component with two states: the first field comes first, and of the second no byte is needed.
+    assert_eq!(report_of("01 01 01  06 000000"), "REFUSED 1 short\n");
+    assert_eq!(report_of("01 01 01  06 00000000"), "REFUSED 5 no state\n");
+    assert_eq!(report_of("01 01 01  04 00000000"), "REFUSED 5 no state\n");
+    // A chance far above one is judged with the sum, so what stands behind it is met before.
+    assert_eq!(report_of("01 01 01  06 FFFFFFFF"), "REFUSED 5 no state\n");
+    assert_eq!(
+        report_of("01 01 01  07 03 FFFFFFFF 0000"),
+        "REFUSED 1 short\n"
+    );
+}
+
+#[test]
+fn loads_are_judged_field_by_field() {
+    let front = "01 01 01  00  02 01 0002";
+    assert_eq!(
+        report_of(&format!("{front}  07 01")),
+        "REFUSED 13 no gate\n"
+    );
+    assert_eq!(
+        report_of(&format!("{front}  07 00 A1860100")),
+        "REFUSED 14 load size\n"
+    );
+    assert_eq!(
+        report_of(&format!("{front}  07 00 A0860100 214E0000")),
+        "REFUSED 14 load size\n"
+    );
+    assert_eq!(
+        report_of(&format!("{front}  07 00 A0860100 204E0000 00")),
+        "REFUSED 15 left over\n"
+    );
+}
+
+#[test]
+fn largest_sums() {
+    // Eight loads of 100,000 customers and 20,000 minutes that are lost for sure.
+    let load = "07 00 A0860100 204E0000 ".repeat(8);
+    let study = format!("01 01 08  00  02 01 0003  {load}");
+    assert_eq!(lines(&study, "SAIDI "), ["20000000000000 20000000000000"]);
+    assert_eq!(lines(&study, "CAIDI "), ["20000 20000"]);
+}
