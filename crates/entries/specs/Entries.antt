@@ -21,6 +21,10 @@ classCode class = class ∷ []
 abbrev pub classBytes : ℕ
 classBytes = 1
 
+-- every byte is below
+abbrev pub byteValues : ℕ
+byteValues = 256
+
 -- the bytes of an entry of n components
 abbrev pub entryBytes : ℕ → ℕ
 entryBytes n = n + classBytes

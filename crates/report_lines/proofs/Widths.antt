@@ -4,8 +4,7 @@ use mathlib.Core.Bool.{Bool, true, false, cond}
 use mathlib.Core.List.{List, []}
 use native.Mathlib.Omega.{arith}
 use lib.Dec.{eqb}
-use lib.ListN.{length, getD, take, drop}
-use lib.Seq.{getD-take, getD-drop}
+use lib.ListN.{length, getD}
 use Rattle.lists.specs.Counting.{sumOver}
 use Rattle.text.specs.Letters.{letters}
 use Rattle.text.specs.Lines.{itemLine}
@@ -13,7 +12,8 @@ use Rattle.text.proofs.Short.{joined-length, field-short, ending-short, bounds-
 use Rattle.units.specs.One.{one}
 use Rattle.units.specs.Rounding.{down, up}
 use Rattle.rules.specs.Limits.{mostComponents, mostLoads}
-use Rattle.entries.specs.Entries.{classBorne, classPlaces, entriesOf}
+use Rattle.entries.specs.Entries.{classBorne, classPlaces, byteValues, entryAt, entriesOf}
+use Rattle.entries.proofs.Entries.{class-small}
 use Rattle.probability.specs.Bounds.{pathBound}
 use Rattle.probability.specs.Probabilities.{AtMostOne}
 use Rattle.probability.proofs.Most.{path-most}
@@ -50,7 +50,7 @@ path-lines-short probabilities n list paths probability few bytes = rw (lines-at
     line : (k : ℕ) → k < paths → length (lineAt probabilities n list k) ≤ 41
     line k h =
         let entry = entryAt n list k in
-        entry-short n entry (classBorne n entry) (pathBound down probabilities n entry) (pathBound up probabilities n entry) few (class-byte n list k bytes)
+        entry-short n entry (classBorne n entry) (pathBound down probabilities n entry) (pathBound up probabilities n entry) few (class-small n list k bytes)
         (path-most down (omega arith) probabilities probability n n entry)
         (path-most up (omega arith) probabilities probability n n entry)
 
