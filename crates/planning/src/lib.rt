@@ -27,4 +27,5 @@ pub use listing::list_paths;
 pub use loads::load_bounds;
 pub use opening::open;
 pub use paths::path_bounds;
+pub use report_text::report;
 pub use study_figures::figures;

@@ -1,5 +1,5 @@
-pub mod CaseA
 pub mod Fits
+pub mod Opened
 pub mod Printed
 pub mod Reported
-pub mod Studied
+pub mod Tables

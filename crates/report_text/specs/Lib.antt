@@ -1,2 +1,1 @@
-pub mod CaseA
 pub mod Report

@@ -1,69 +1,89 @@
 -- The whole report of a study's bytes.
 use Prim.Native.Nat.{ℕ}
-use mathlib.Core.Bool.{cond}
 use mathlib.Core.List.{List, [], _∷_}
-use lib.Dec.{eqb}
 use lib.ListN.{length}
 use Rattle.lists.specs.Rows.{joined}
 use Rattle.text.specs.Letters.{letters}
 use Rattle.text.specs.Lines.{field, numberLine}
 use Rattle.words.specs.Words.{refusalWord}
 use Rattle.rules.specs.Table.{roomFault}
+use Rattle.study.specs.declared.Load.{Load}
+use Rattle.study.specs.declared.Study.{Study}
+use Rattle.answers.specs.Answered.{answered, filled}
+use Rattle.answers.specs.declared.counts.CountAnswer.{CountAnswer}
+use Rattle.answers.specs.declared.counts.CountAnswer.the-variants.{Count, Refused as NotWritten}
 use Rattle.answers.specs.declared.outcome.Outcome.{Outcome}
 use Rattle.answers.specs.declared.outcome.Outcome.the-variants.{Done, Refused}
-use Rattle.study.specs.declared.Study.{Study}
+use Rattle.model.specs.Model.{Model, components, pathsOf, probabilityTable}
+use Rattle.probability.specs.Totals.{lowerClasses, upperClasses, lowerLoads, upperLoads}
 use Rattle.opening.specs.Opening.{opened}
-use Rattle.evaluation.specs.Bounds.{chancesOf, componentsOf, lowerClasses, upperClasses, lowerLoads, upperLoads}
-use Rattle.evaluation.specs.Listing.{pathList}
-use Rattle.planning.specs.Bounds.{filled}
-use Rattle.planning.specs.Figures.{figuresGiven}
+use Rattle.study_model.specs.Model.{modelOf}
+use Rattle.evaluation.specs.Figures.{figuresBy}
 use Rattle.report_lines.specs.Paths.{pathLines}
 use Rattle.report_lines.specs.Classes.{allBearing, classLines}
 use Rattle.report_lines.specs.Loads.{loadLines}
 use Rattle.report_lines.specs.Figures.{figureLines}
-use Rattle.report_text.specs.declared.reporting.ReportAnswer.{ReportAnswer}
-use Rattle.report_text.specs.declared.reporting.ReportAnswer.the-variants.{Written, Refused as NotWritten}
 
 -- room for any report
-abbrev pub sheetBytes : ℕ
-sheetBytes = 180224
+abbrev pub reportBytes : ℕ
+reportBytes = 180224
 
--- the lines of its paths
-unfoldable pub studyPaths : Study → List ℕ
-studyPaths t = pathLines (chancesOf t) (componentsOf t) (pathList t)
+-- ---- the text from a table of probabilities, the entries of n components, and loads
 
--- the lines of its classes that occur
-unfoldable pub studyClasses : Study → List ℕ
-studyClasses t = classLines (allBearing (componentsOf t) (pathList t)) (lowerClasses t) (upperClasses t)
+-- the lines of the classes that occur
+unfoldable pub classesText : List ℕ → ℕ → List (List ℕ) → List ℕ
+classesText probabilities n entries =
+    classLines (allBearing n entries) (lowerClasses probabilities n entries) (upperClasses probabilities n entries)
 
 -- the lines of the loads, then those of the figures: both tell of losses
-unfoldable pub studyLosses : Study → List ℕ
-studyLosses t = joined (loadLines (lowerLoads t) (upperLoads t) (t .loads) ∷ figureLines (figuresGiven t) ∷ [])
+unfoldable pub lossesText : List ℕ → ℕ → List (List ℕ) → List Load → List ℕ
+lossesText probabilities n entries loads =
+    joined
+    (loadLines (lowerLoads probabilities n entries) (upperLoads probabilities n entries) (length loads)
+    ∷ figureLines (figuresBy (lowerLoads probabilities n entries) (upperLoads probabilities n entries) loads)
+    ∷ [])
 
--- an opened study: the number of paths, then its paths, classes, loads and figures
-unfoldable pub studyText : Study → List ℕ
-studyText t =
-    joined (numberLine (letters "PATHS") (length (pathList t)) ∷ studyPaths t ∷ studyClasses t ∷ studyLosses t ∷ [])
+-- the number of paths, then paths, classes, loads and figures
+unfoldable pub listText : List ℕ → ℕ → List (List ℕ) → List Load → List ℕ
+unfolding classesText lossesText
+listText probabilities n entries loads =
+    joined
+    (numberLine (letters "PATHS") (length entries)
+    ∷ pathLines probabilities n entries
+    ∷ classesText probabilities n entries
+    ∷ lossesText probabilities n entries loads
+    ∷ [])
 
--- a refused one: the number and its word
+-- ---- the report
+
+-- the text of a model
+unfoldable pub modelText : Model → List ℕ
+unfolding listText
+modelText m = listText (probabilityTable m) (components m) (pathsOf m) (m .loads)
+
+-- the line of a refused study: the number and its word
 unfoldable pub refusedText : ℕ → List ℕ
 refusedText n = joined (letters "REFUSED" ∷ field n ∷ letters " " ∷ refusalWord n ∷ letters "\n" ∷ [])
 
 -- by what opening answers
 unfoldable pub textBy : Outcome → Study → List ℕ
-textBy Done t = studyText t
+unfolding modelText refusedText modelOf
+textBy Done t = modelText (modelOf t)
 textBy (Refused n) t = refusedText n
 
 -- the report of a study's bytes
 unfoldable pub reportText : List ℕ → List ℕ
+unfolding textBy opened
 reportText bytes = textBy (opened bytes .outcome) (opened bytes .study)
 
 -- ---- in a lent buffer
 
 -- the answer: the number of bytes, or 18 where the buffer is too short for them
-unfoldable pub reported : List ℕ → List ℕ → ReportAnswer
-reported text buffer = cond (eqb (roomFault (length text) (length buffer)) 0) (Written (length text)) (NotWritten (roomFault (length text) (length buffer)))
+unfoldable pub reported : List ℕ → List ℕ → CountAnswer
+unfolding answered
+reported text buffer = answered NotWritten (roomFault (length text) (length buffer)) (Count (length text))
 
 -- the text fills the buffer's front, and nothing behind it changes; a buffer that is too short stays as it was
 unfoldable pub written : List ℕ → List ℕ → List ℕ
+unfolding filled
 written text buffer = filled (roomFault (length text) (length buffer)) text buffer

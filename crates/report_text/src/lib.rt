@@ -1,8 +1,7 @@
 // The report of a study as text in a lent buffer.
+mod buffer;
+mod list_text;
 mod reporting;
-mod sheet;
-mod study_text;
 
-pub use reporting::ReportAnswer;
+pub use buffer::empty_report;
 pub use reporting::report;
-pub use sheet::blank_sheet;

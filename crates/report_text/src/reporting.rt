@@ -1,11 +1,13 @@
 // The call for the report of a study's bytes.
-use crate::sheet::blank_sheet;
-use crate::study_text::study_text;
-use evaluation::blank_page;
-use evaluation::list_page;
-use rules::room_fault;
+use crate::buffer::empty_report;
+use crate::list_text::list_text;
+use answers::CountAnswer;
 use answers::Outcome;
+use entries::empty_list;
+use probability::first_components;
+use rules::room_fault;
 use study::Study;
+use study_model::slice_study;
 use text::copy;
 use text::field;
 use words::refusal_word;
@@ -14,61 +16,67 @@ ghost use mathlib.Core.Path.{_≡_};
 ghost use lib.ListN.{length};
 ghost use Rattle.text.specs.Writing.{Room, Wrote};
 ghost use Rattle.soundness.specs.Sound.{Sound};
-ghost use Rattle.report_text.specs.Report.{sheetBytes, studyText, refusedText, reportText, reported, written};
+ghost use Rattle.study_model.specs.Model.{modelOf};
+ghost use Rattle.report_text.specs.Report.{reportBytes, modelText, refusedText, reportText, reported, written};
 
-// What a call for a report answers: how many bytes it has, or the number of the refusal table by which it was refused.
-pub enum ReportAnswer {
-    Written(u32),
-    Refused(u8),
-}
-
-// Writes the text of a sound study on a sheet.
-fn sound_text(t: Study, sheet: &mut [u8]) -> usize
+// Writes the text of a sound study.
+fn sound_text(t: Study, out: &mut [u8]) -> usize
     requires { ⌜ Sound t ⌝ }
-    requires { ⌜ sheetBytes ≤ length (now sheet) ⌝ }
-    ensures { λ r. ⌜ Wrote (now (sheet .entry)) 0 (studyText t) (now (sheet .exit)) r ⌝ }
+    requires { ⌜ reportBytes ≤ length (now out) ⌝ }
+    ensures { λ r. ⌜ Wrote (now (out .entry)) 0 (modelText (modelOf t)) (now (out .exit)) r ⌝ }
 {
-    let mut page = blank_page();
-    let paths = list_page(t, &mut page);
-    study_text(t, &page, paths, sheet)
+    let mut list = empty_list();
+    let slices = slice_study(t, &mut list);
+    let table = slices.probabilities;
+    let n = t.components as usize;
+    let load = t.load;
+    list_text(
+        first_components(&table, n),
+        n,
+        &list,
+        slices.paths as usize,
+        load,
+        t.loads,
+        out,
+    )
 }
 
-// Writes the line of a refused study on a sheet.
-fn refused_text(refusal: u8, sheet: &mut [u8]) -> usize
-    requires { ⌜ Room (now sheet) 0 (refusedText refusal) ⌝ }
-    ensures { λ r. ⌜ Wrote (now (sheet .entry)) 0 (refusedText refusal) (now (sheet .exit)) r ⌝ }
+// Writes the line of a refused study.
+fn refused_text(refusal: u8, out: &mut [u8]) -> usize
+    requires { ⌜ Room (now out) 0 (refusedText refusal) ⌝ }
+    ensures { λ r. ⌜ Wrote (now (out .entry)) 0 (refusedText refusal) (now (out .exit)) r ⌝ }
 {
-    let first = copy(sheet, 0, b"REFUSED");
-    let second = field(sheet, first, refusal as u64);
-    let third = copy(sheet, second, b" ");
-    let last = refusal_word(sheet, third, refusal);
-    copy(sheet, last, b"\n")
+    let first = copy(out, 0, b"REFUSED");
+    let second = field(out, first, refusal as u64);
+    let third = copy(out, second, b" ");
+    let last = refusal_word(out, third, refusal);
+    copy(out, last, b"\n")
 }
 
-// Writes the report of a study's bytes on a sheet.
-fn report_text(bytes: &[u8], sheet: &mut [u8]) -> usize
-    requires { ⌜ sheetBytes ≤ length (now sheet) ⌝ }
-    ensures { λ r. ⌜ Wrote (now (sheet .entry)) 0 (reportText (now (bytes .entry))) (now (sheet .exit)) r ⌝ }
+// Writes the report of a study's bytes.
+fn report_text(bytes: &[u8], out: &mut [u8]) -> usize
+    requires { ⌜ reportBytes ≤ length (now out) ⌝ }
+    ensures { λ r. ⌜ Wrote (now (out .entry)) 0 (reportText (now (bytes .entry))) (now (out .exit)) r ⌝ }
 {
     let answer = opening::open(bytes);
     let outcome = answer.outcome;
     match outcome {
-        Outcome::Done => sound_text(answer.study, sheet),
-        Outcome::Refused(refusal) => refused_text(refusal, sheet),
+        Outcome::Done => sound_text(answer.study, out),
+        Outcome::Refused(refusal) => refused_text(refusal, out),
     }
 }
 
 // Writes the report of a study's bytes at the front of a lent buffer, and answers how many bytes it has. Refused by 18.
-pub fn report(bytes: &[u8], out: &mut [u8]) -> ReportAnswer
-    ensures { λ r. ⌜ r ≡ reported (reportText (now (bytes .entry))) (now (out .entry)) ⌝ }
-    ensures { λ r. ⌜ now (out .exit) ≡ written (reportText (now (bytes .entry))) (now (out .entry)) ⌝ }
+pub fn report(bytes: &[u8], out: &mut [u8]) -> CountAnswer
+    ensures answer { λ r. ⌜ r ≡ reported (reportText (now (bytes .entry))) (now (out .entry)) ⌝ }
+    ensures buffer { λ r. ⌜ now (out .exit) ≡ written (reportText (now (bytes .entry))) (now (out .entry)) ⌝ }
 {
-    let mut sheet = blank_sheet();
-    let size = report_text(bytes, &mut sheet);
+    let mut whole = empty_report();
+    let size = report_text(bytes, &mut whole);
     let fault = room_fault(size, out.len());
     if fault != 0 {
-        return ReportAnswer::Refused(fault);
+        return CountAnswer::Refused(fault);
     }
-    copy(out, 0, &sheet[..size]);
-    ReportAnswer::Written(size as u32)
+    copy(out, 0, &whole[..size]);
+    CountAnswer::Count(size as u32)
 }

@@ -1,7 +1,8 @@
 -- The table of a study's probabilities holds those of its model in front.
-use Prim.Native.Nat.{ℕ, zero, suc, _*_}
+use Prim.Native.Nat.{ℕ, zero, suc, _*_, _≤_}
 use mathlib.Core.Path.{_≡_, refl, sym, ap, _∙_}
 use mathlib.Core.List.{List, [], _∷_, map}
+use native.Mathlib.Omega.{arith}
 use lib.ListN.{length, take}
 use Rattle.lists.specs.Rows.{joined}
 use Rattle.lists.proofs.Elements.{Every, every-map}
@@ -11,9 +12,9 @@ use Rattle.study.specs.declared.Component.{Component}
 use Rattle.study.specs.declared.Study.{Study}
 use Rattle.study.specs.Zero.{zeroComponent}
 use Rattle.model.specs.Held.{Listed, HeldOf}
-use Rattle.model.specs.Model.{probabilityTable}
+use Rattle.model.specs.Model.{Model, probabilityTable}
 use Rattle.soundness.specs.Sound.{Sound}
-use Rattle.soundness.proofs.Ranges.{counts-long}
+use Rattle.soundness.proofs.Ranges.{components-most, counts-long}
 use Rattle.study_model.specs.Model.{stateProbabilities, placeProbabilities, modelOf}
 
 first-rows : (n : ℕ) (component : List Component) → take n (map stateProbabilities component) ≡ map stateProbabilities (take n component)
@@ -40,3 +41,11 @@ study-held {t} sound twelve is-table is-front listed =
       number = sym (counts-long t sound twelve);
       listed = listed;
     }
+
+-- the places of a study's components stand inside the table
+pub front-inside : {t : Study} {places : ℕ} → Sound t → places ≡ mostComponents * mostStates → t .components * mostStates ≤ places
+front-inside {t} sound e = omega (arith, e, components-most t sound)
+
+-- the front of the table, as the code cuts it
+pub held-front : {m : Model} {table front list : List ℕ} {n paths : ℕ} → HeldOf m table n list paths → front ≡ table → HeldOf m front n list paths
+held-front held e = record { is-table = e ∙ held .is-table; number = held .number; listed = held .listed }

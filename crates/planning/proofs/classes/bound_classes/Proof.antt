@@ -8,7 +8,7 @@ use Rattle.model.specs.Held.{HeldOf}
 use Rattle.probability.specs.Totals.{lowerClasses, upperClasses}
 use Rattle.study_model.specs.Model.{modelOf}
 use Rattle.evaluation.proofs.Bounding.{held-boundable, held-values}
-use Rattle.planning.proofs.StudySlices.{front-inside, held-front}
+use Rattle.study_model.proofs.Table.{front-inside, held-front}
 use borrow.Author.Needs.{needs}
 use Rattle.planning.proofs.classes.bound_classes.Statement.{statement}
 use Rattle.planning.proofs.classes.bound_classes.Tie as tie

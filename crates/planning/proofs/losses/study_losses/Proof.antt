@@ -3,7 +3,8 @@ use mathlib.Core.Path.{_≡_}
 use denote.Ref.{now}
 use Rattle.model.specs.Held.{HeldOf}
 use Rattle.study_model.specs.Model.{modelOf}
-use Rattle.planning.proofs.StudySlices.{front-inside, held-front, study-losses-are}
+use Rattle.study_model.proofs.Table.{front-inside, held-front}
+use Rattle.planning.proofs.StudySlices.{study-losses-are}
 use borrow.Author.Needs.{needs}
 use Rattle.planning.proofs.losses.study_losses.Statement.{statement}
 use Rattle.planning.proofs.losses.study_losses.Tie as tie

@@ -14,7 +14,7 @@ use Rattle.study_model.specs.Model.{modelOf}
 use Rattle.evaluation.proofs.Bounding.{held-boundable, held-values}
 use Rattle.planning.specs.Bounds.{pairRoom, pairFault}
 use Rattle.planning.proofs.Judged.{pair-room}
-use Rattle.planning.proofs.StudySlices.{front-inside, held-front}
+use Rattle.study_model.proofs.Table.{front-inside, held-front}
 use borrow.Author.Needs.{needs}
 use Rattle.planning.proofs.paths.bound_paths.Statement.{statement}
 use Rattle.planning.proofs.paths.bound_paths.Tie as tie

@@ -1,59 +1,79 @@
 -- `report_text::reporting::refused_text` meets its contract: its pieces stand one behind the other (`Pieces`).
+use Prim.Native.Nat.{ℕ}
+use mathlib.Core.List.{List, [], _∷_}
 use native.Mathlib.Omega.{arith}
-use Rattle.text.proofs.Pieces.{pieces-start, pieces-room, pieces-more, pieces-done}
+use denote.Ref.{now}
+use Rattle.text.specs.Letters.{letters}
+use Rattle.text.specs.Lines.{field}
+use Rattle.text.proofs.Pieces.{Pieces, pieces-start, pieces-room, pieces-more, pieces-done}
+use Rattle.words.specs.Words.{refusalWord}
 use Rattle.report_text.specs.Report.{refusedText}
 use borrow.Author.Needs.{needs}
 use Rattle.report_text.proofs.reporting.refused_text.Statement.{statement}
 use Rattle.report_text.proofs.reporting.refused_text.Tie as tie
+
+-- ---- the pieces, and the steps behind which each is written
+
+abbrev parts : tie.Start → List (List ℕ)
+parts s = letters "REFUSED" ∷ field (s .args .refusal) ∷ letters " " ∷ refusalWord (s .args .refusal) ∷ letters "\n" ∷ []
+
+abbrev start : tie.After-copy → tie.Start
+start c = c .before .before .before .before
+
+abbrev copied : tie.After-field → tie.After-copy
+copied c = c .before .before .before .before
+
+abbrev numbered : tie.After-copy2 → tie.After-field
+numbered c = c .before .before .before .before .before
+
+abbrev parted : tie.After-refusal-word → tie.After-copy2
+parted c = c .before .before .before .before
+
+abbrev worded : tie.After-copy3 → tie.After-refusal-word
+worded c = c .before .before .before .before .before
+
+-- ---- so many pieces are written
+
+one : (c : tie.After-copy) → Pieces (parts (start c)) (now (start c .args .out)) 0 1 (c .copy .last .0) (c .copy .result)
+unfolding refusedText
+one c = pieces-more (pieces-start _ (start c .pre)) (omega arith) (c .copy .ensures)
+
+two : (c : tie.After-field) → Pieces (parts (start (copied c))) (now (start (copied c) .args .out)) 0 2 (c .field .last .0) (c .field .result)
+two c = pieces-more (one (copied c)) (omega arith) (c .field .ensures)
+
+three : (c : tie.After-copy2)
+    → Pieces (parts (start (copied (numbered c)))) (now (start (copied (numbered c)) .args .out)) 0 3 (c .copy2 .last .0) (c .copy2 .result)
+three c = pieces-more (two (numbered c)) (omega arith) (c .copy2 .ensures)
+
+four : (c : tie.After-refusal-word)
+    → Pieces (parts (start (copied (numbered (parted c))))) (now (start (copied (numbered (parted c))) .args .out)) 0 4
+    (c .refusal-word .last .0) (c .refusal-word .result)
+four c = pieces-more (three (parted c)) (omega arith) (c .refusal-word .ensures)
 
 slice-aggregate-copy : tie.Need-slice-aggregate-copy
 slice-aggregate-copy c = search needs
 
 copy-requires : tie.Need-copy-requires
 unfolding refusedText
-copy-requires c κs =
-    let written0 = pieces-start _ (c .before .before .before .pre) in
-    pieces-room written0 (omega arith)
+copy-requires c κs = pieces-room (pieces-start _ (c .before .before .before .pre)) (omega arith)
 
 field-requires : tie.Need-field-requires
-unfolding refusedText
-field-requires c κs =
-    let written0 = pieces-start _ (c .before .before .before .before .before .before .before .pre) in
-    let written1 = pieces-more written0 (omega arith) (c .before .before .before .copy .ensures) in
-    pieces-room written1 (omega arith)
+field-requires c κs = pieces-room (one (c .before .before .before)) (omega arith)
 
 slice-aggregate-copy-2 : tie.Need-slice-aggregate-copy-2
 slice-aggregate-copy-2 c = search needs
 
 copy-requires-2 : tie.Need-copy-requires-2
-unfolding refusedText
-copy-requires-2 c κs =
-    let written0 = pieces-start _ (c .before .before .before .before .before .before .before .before .before .before .before .before .pre) in
-    let written1 = pieces-more written0 (omega arith) (c .before .before .before .before .before .before .before .before .copy .ensures) in
-    let written2 = pieces-more written1 (omega arith) (c .before .before .before .before .field .ensures) in
-    pieces-room written2 (omega arith)
+copy-requires-2 c κs = pieces-room (two (c .before .before .before .before)) (omega arith)
 
 refusal-word-requires : tie.Need-refusal-word-requires
-unfolding refusedText
-refusal-word-requires c κs =
-    let written0 = pieces-start _ (c .before .before .before .before .before .before .before .before .before .before .before .before .before .before .before .before .pre) in
-    let written1 = pieces-more written0 (omega arith) (c .before .before .before .before .before .before .before .before .before .before .before .before .copy .ensures) in
-    let written2 = pieces-more written1 (omega arith) (c .before .before .before .before .before .before .before .before .field .ensures) in
-    let written3 = pieces-more written2 (omega arith) (c .before .before .before .copy2 .ensures) in
-    pieces-room written3 (omega arith)
+refusal-word-requires c κs = pieces-room (three (c .before .before .before)) (omega arith)
 
 slice-aggregate-copy-3 : tie.Need-slice-aggregate-copy-3
 slice-aggregate-copy-3 c = search needs
 
 copy-requires-3 : tie.Need-copy-requires-3
-unfolding refusedText
-copy-requires-3 c κs =
-    let written0 = pieces-start _ (c .before .before .before .before .before .before .before .before .before .before .before .before .before .before .before .before .before .before .before .before .before .pre) in
-    let written1 = pieces-more written0 (omega arith) (c .before .before .before .before .before .before .before .before .before .before .before .before .before .before .before .before .before .copy .ensures) in
-    let written2 = pieces-more written1 (omega arith) (c .before .before .before .before .before .before .before .before .before .before .before .before .before .field .ensures) in
-    let written3 = pieces-more written2 (omega arith) (c .before .before .before .before .before .before .before .before .copy2 .ensures) in
-    let written4 = pieces-more written3 (omega arith) (c .before .before .before .before .refusal-word .ensures) in
-    pieces-room written4 (omega arith)
+copy-requires-3 c κs = pieces-room (four (c .before .before .before .before)) (omega arith)
 
 same-length : tie.Need-same-length
 same-length c = search needs
@@ -61,13 +81,8 @@ same-length c = search needs
 returns : tie.Need-returns
 unfolding refusedText
 returns c =
-    let written0 = pieces-start _ (c .before .before .before .before .before .before .before .before .before .before .before .before .before .before .before .before .before .before .before .before .before .before .before .before .pre) in
-    let written1 = pieces-more written0 (omega arith) (c .before .before .before .before .before .before .before .before .before .before .before .before .before .before .before .before .before .before .before .before .copy .ensures) in
-    let written2 = pieces-more written1 (omega arith) (c .before .before .before .before .before .before .before .before .before .before .before .before .before .before .before .before .field .ensures) in
-    let written3 = pieces-more written2 (omega arith) (c .before .before .before .before .before .before .before .before .before .before .before .copy2 .ensures) in
-    let written4 = pieces-more written3 (omega arith) (c .before .before .before .before .before .before .before .refusal-word .ensures) in
-    let written5 = pieces-more written4 (omega arith) (c .before .before .copy3 .ensures) in
-    pieces-done written5 (omega arith)
+    let all = c .before .before in
+    pieces-done (pieces-more (four (worded all)) (omega arith) (all .copy3 .ensures)) (omega arith)
 
 pub refused-text-spec : {M : Type 1} → statement M
 refused-text-spec =

@@ -1,41 +1,82 @@
--- `report_text::reporting::sound_text` meets its contract: the list on its page is the study's.
+-- `report_text::reporting::sound_text` meets its contract: the slices hold what the study's model is worked out of.
+use mathlib.Core.Path.{_≡_, sym}
+use denote.Ref.{now}
+use Rattle.model.specs.Held.{HeldOf}
+use Rattle.soundness.proofs.Ranges.{loads-most}
+use Rattle.study_model.specs.Model.{modelOf}
+use Rattle.study_model.proofs.Good.{sound-good}
+use Rattle.study_model.proofs.Table.{front-inside, held-front}
+use Rattle.evaluation.proofs.Bounding.{held-values}
+use Rattle.report_text.specs.Report.{modelText, listText}
 use borrow.Author.Needs.{needs}
 use Rattle.report_text.proofs.reporting.sound_text.Statement.{statement}
 use Rattle.report_text.proofs.reporting.sound_text.Tie as tie
-use Rattle.evaluation.proofs.blank_page.Reads as blank-page-reads
-use Rattle.evaluation.proofs.list_page.Reads as list-page-reads
-use Rattle.report_text.proofs.study_text.study_text.Reads as study-text-reads
 
-blank-page-requires : tie.Need-blank-page-requires
-blank-page-requires c κs = search needs
+abbrev sliced : tie.After-first-components → tie.After-slice-study
+sliced c = c .before .before .before .before .before .before
 
-slice-aggregate-list-page : tie.Need-slice-aggregate-list-page
-slice-aggregate-list-page c = search needs
+abbrev start : tie.After-slice-study → tie.Start
+start c = c .before .before .before .before
 
-list-page-requires : tie.Need-list-page-requires
-list-page-requires c κs = search needs
+held : (c : tie.After-first-components)
+    → HeldOf (modelOf (start (sliced c) .args .t)) (now (c .first-components .result)) (start (sliced c) .args .t .components)
+    (sliced c .slice-study .last .1 .0) (sliced c .slice-study .result .paths)
+held c = held-front (sliced c .slice-study .ensures) (c .first-components .ensures)
 
-slice-aggregate-study-text : tie.Need-slice-aggregate-study-text
-slice-aggregate-study-text c = search needs
+empty-list-requires : tie.Need-empty-list-requires
+empty-list-requires c κs = search needs
 
-study-text-requires : tie.Need-study-text-requires
-study-text-requires c κs =
-    (c .before .before .before .list-page .ensures, c .before .before .before .before .before .before .before .pre .1)
+slice-aggregate-slice-study : tie.Need-slice-aggregate-slice-study
+slice-aggregate-slice-study c = search needs
+
+slice-study-requires : tie.Need-slice-study-requires
+slice-study-requires c κs = search needs
+
+cast-n : tie.Need-cast-n
+cast-n c = search needs
+
+slice-aggregate-first-components : tie.Need-slice-aggregate-first-components
+slice-aggregate-first-components c = search needs
+
+first-components-requires : tie.Need-first-components-requires
+first-components-requires c κs = front-inside (start (c .before .before .before .before .before) .pre .0) (search needs)
+
+slice-aggregate-list-text : tie.Need-slice-aggregate-list-text
+slice-aggregate-list-text c = search needs
+
+cast-list-text : tie.Need-cast-list-text
+cast-list-text c = search needs
+
+list-text-requires : tie.Need-list-text-requires
+unfolding modelOf
+list-text-requires c κs =
+    let front = c .before .before .before in
+    let pre = start (sliced front) .pre in
+    (record { model = _; holds = held front }, (loads-most _ (pre .0), (sound-good _ (pre .0) .loads, pre .1)))
 
 same-length : tie.Need-same-length
 same-length c = search needs
 
 returns : tie.Need-returns
-returns c = search needs
+unfolding modelText modelOf
+returns c =
+    let written = c .before .before in
+    let front = written .before .before .before .before in
+    let loads = modelOf (start (sliced front) .args .t) .loads in
+    rw (sym (held-values (held front) (λ p n entries. listText p n entries loads))) (written .list-text .ensures)
 
 pub sound-text-spec : {M : Type 1} → statement M
 sound-text-spec =
     tie.close
     (tie.spec
-    blank-page-requires
-    slice-aggregate-list-page
-    list-page-requires
-    slice-aggregate-study-text
-    study-text-requires
+    empty-list-requires
+    slice-aggregate-slice-study
+    slice-study-requires
+    cast-n
+    slice-aggregate-first-components
+    first-components-requires
+    slice-aggregate-list-text
+    cast-list-text
+    list-text-requires
     same-length
     returns)

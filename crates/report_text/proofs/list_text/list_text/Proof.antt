@@ -1,0 +1,122 @@
+-- `report_text::list_text::list_text` meets its contract: the buffer has room for it (`list-fits`), and its parts stand one behind the other
+-- (`Pieces`).
+use Prim.Native.Nat.{ℕ}
+use mathlib.Core.Path.{sym, subst}
+use mathlib.Core.List.{List, [], _∷_}
+use native.Mathlib.Omega.{arith}
+use lib.ListN.{length, take}
+use denote.Ref.{now}
+use Rattle.text.specs.Letters.{letters}
+use Rattle.text.specs.Lines.{numberLine}
+use Rattle.text.specs.Writing.{Room, Wrote}
+use Rattle.text.proofs.Pieces.{Pieces, pieces-start, pieces-room, pieces-more, pieces-done}
+use Rattle.entries.specs.Entries.{entriesOf}
+use Rattle.entries.proofs.Entries.{entries-long}
+use Rattle.evaluation.proofs.Bounding.{held-boundable}
+use Rattle.report_lines.specs.Paths.{pathLines}
+use Rattle.report_text.specs.Report.{classesText, lossesText, listText}
+use Rattle.report_text.proofs.Fits.{list-fits}
+use borrow.Author.Needs.{needs}
+use Rattle.report_text.proofs.list_text.list_text.Statement.{statement}
+use Rattle.report_text.proofs.list_text.list_text.Tie as tie
+
+-- ---- the parts, and the steps behind which each is written
+
+abbrev entries : tie.Start → List (List ℕ)
+entries s = entriesOf (s .args .n) (s .args .paths) (now (s .args .list))
+
+abbrev parts : tie.Start → List (List ℕ)
+parts s =
+    numberLine (letters "PATHS") (length (entries s))
+    ∷ pathLines (now (s .args .probabilities)) (s .args .n) (entries s)
+    ∷ classesText (now (s .args .probabilities)) (s .args .n) (entries s)
+    ∷ lossesText (now (s .args .probabilities)) (s .args .n) (entries s) (take (s .args .loads) (s .args .load))
+    ∷ []
+
+abbrev origin : tie.After-number-line-arg2 → tie.Start
+origin c = c .before .before .before .before .before
+
+abbrev start : tie.After-number-line → tie.Start
+start c = origin (c .before)
+
+abbrev numbered : tie.After-path-lines → tie.After-number-line
+numbered c = c .before .before .before .before
+
+abbrev pathed : tie.After-classes-text → tie.After-path-lines
+pathed c = c .before .before .before .before
+
+abbrev classed : tie.After-losses-text → tie.After-classes-text
+classed c = c .before .before .before .before
+
+-- ---- so many parts are written
+
+begun : (c : tie.After-number-line-arg2) → Pieces (parts (origin c)) (now (origin c .args .out)) 0 0 (now (origin c .args .out)) 0
+unfolding listText
+begun c =
+    let pre = origin c .pre in
+    pieces-start _ (list-fits (pre .0) (λ i. omega (arith, c .before .before .before .shared-slice-known2 .given i)) _ (pre .1 .1 .0) _ (pre .1 .1 .1))
+
+one : (c : tie.After-number-line)
+    → Pieces (parts (start c)) (now (start c .args .out)) 0 1 (c .number-line .last .0) (c .number-line .result)
+one c =
+    let args = start c .args in
+    let number = sym (entries-long (args .n) (args .paths) (now (args .list))) in
+    pieces-more (begun (c .before)) (omega arith)
+    (subst (λ (k : ℕ). Wrote (now (args .out)) 0 (numberLine (letters "PATHS") k) (c .number-line .last .0) (c .number-line .result)) number
+    (c .number-line .ensures))
+
+two : (c : tie.After-path-lines)
+    → Pieces (parts (start (numbered c))) (now (start (numbered c) .args .out)) 0 2 (c .path-lines .last .0) (c .path-lines .result)
+two c = pieces-more (one (numbered c)) (omega arith) (c .path-lines .ensures)
+
+three : (c : tie.After-classes-text)
+    → Pieces (parts (start (numbered (pathed c)))) (now (start (numbered (pathed c)) .args .out)) 0 3 (c .classes-text .last .1 .1 .1 .1 .0)
+    (c .classes-text .result)
+three c = pieces-more (two (pathed c)) (omega arith) (c .classes-text .ensures)
+
+slice-aggregate-number-line : tie.Need-slice-aggregate-number-line
+slice-aggregate-number-line c = search needs
+
+number-line-requires : tie.Need-number-line-requires
+number-line-requires c κs =
+    let args = origin c .args in
+    subst (λ (k : ℕ). Room (now (args .out)) 0 (numberLine (letters "PATHS") k)) (entries-long (args .n) (args .paths) (now (args .list)))
+    (pieces-room (begun c) (omega arith))
+
+path-lines-requires : tie.Need-path-lines-requires
+path-lines-requires c κs =
+    let numbered = c .before .before .before in
+    let known = held-boundable (start numbered .pre .0 .holds) in
+    (known .table, (known .room, pieces-room (one numbered) (omega arith)))
+
+classes-text-requires : tie.Need-classes-text-requires
+classes-text-requires c κs =
+    let pathed = c .before .before .before in
+    (held-boundable (start (numbered pathed) .pre .0 .holds), pieces-room (two pathed) (omega arith))
+
+losses-text-requires : tie.Need-losses-text-requires
+losses-text-requires c κs =
+    let classed = c .before .before .before in
+    let pre = start (numbered (pathed classed)) .pre in
+    (pre .0, (pre .1 .0, (pre .1 .1 .0, pieces-room (three classed) (omega arith))))
+
+same-length : tie.Need-same-length
+same-length c = search needs
+
+returns : tie.Need-returns
+unfolding listText
+returns c =
+    let all = c .before .before in
+    pieces-done (pieces-more (three (classed all)) (omega arith) (all .losses-text .ensures)) (omega arith)
+
+pub list-text-spec : {M : Type 1} → statement M
+list-text-spec =
+    tie.close
+    (tie.spec
+    slice-aggregate-number-line
+    number-line-requires
+    path-lines-requires
+    classes-text-requires
+    losses-text-requires
+    same-length
+    returns)
