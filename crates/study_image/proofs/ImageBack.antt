@@ -1,110 +1,100 @@
 -- The image of a study holds that study, whatever stood in the slice and stands behind the image: `image-back`.
-use Prim.Native.Nat.{ℕ, zero, suc, _+_, _*_, _<_, _≤_}
-use mathlib.Core.Path.{_≡_, refl, sym, ap, _∙_}
-use mathlib.Core.List.{List, [], _∷_, _++_, map, append-assoc}
-use native.Mathlib.Nat.{zero-mul, not-suc-le-zero, le-of-suc-le-suc}
+use Prim.Native.Nat.{ℕ, _+_, _≤_}
+use mathlib.Core.Path.{_≡_, refl}
+use mathlib.Core.List.{List, [], _∷_}
 use native.Mathlib.Omega.{arith}
-use lib.ListN.{length, getD, drop}
-use lib.Seq.{drop-drop, drop-at, drop-append-add}
+use lib.ListN.{length, drop, length-append}
 use borrow.Author.Tests.{le-ltb}
 use Rattle.lists.specs.Rows.{put, joined}
-use Rattle.lists.proofs.Elements.{Every}
 use Rattle.lists.proofs.Puts.{put-size}
-use Rattle.lists.proofs.Tabulated.{tabulated}
-use Rattle.rules.specs.Limits.{mostComponents, mostGates, mostLoads}
+use Rattle.rules.specs.Limits.{mostComponents, mostGates, mostLoads, mostTests, mostGateInputs}
+use Rattle.study.specs.declared.Component.{Component}
+use Rattle.study.specs.declared.Gate.{Gate}
+use Rattle.study.specs.declared.Load.{Load}
 use Rattle.study.specs.declared.Study.{Study}
 use Rattle.study.specs.Zero.{zeroComponent, zeroLoad}
 use Rattle.study.specs.Places.{noGate}
-use Rattle.study_image.specs.Places.{componentBytes, gateBytes, loadBytes, componentsAt, gatesAt, loadsAt, imageBytes}
-use Rattle.study_image.specs.Image.{componentRow, gateRow, loadRow, imageOf, componentIn, gateIn, loadIn, placesIn, studyIn}
+use Rattle.study_image.specs.Places.{p1At, p2At, p3At, componentBytes, componentPlace}
+use Rattle.study_image.specs.Places.{testCountAt, testComponentsAt, testMasksAt, inputCountAt, inputsAt, gateBytes, gatePlace}
+use Rattle.study_image.specs.Places.{customersAt, minutesAt, loadBytes, loadPlace}
+use Rattle.study_image.specs.Places.{componentsAt, gatesAt, loadsAt, imageBytes}
+use Rattle.study_image.specs.Image.{bytesOf, byteOf, componentRow, gateFields, gateRow, loadRow, studyFields, imageOf}
+use Rattle.study_image.specs.Image.{componentIn, gateIn, loadIn, studyIn}
 use Rattle.study_image.specs.Fits.{ComponentFits, GateFits, LoadFits, StudyFits}
-use Rattle.study_image.proofs.Back.{component-back, gate-back, load-back}
-use Rattle.study_image.proofs.Widths.{component-long, gate-long, load-long, components-long, gates-long, image-long}
+use Rattle.study_image.proofs.Standing.{Stands, stands-behind, stands-inside, stands-byte, stands-first, stands-bytes, stands-number, records-back}
+use Rattle.study_image.proofs.Widths.{gate-long, components-long, gates-long, image-long}
 
-module _ {A : Type 0} (row : A → List ℕ) (a : A) (width : ℕ) where
-  -- what stands from the row of place k on
-  row-behind : (l : List A) (rest : List ℕ) (k : ℕ) → Every (λ (x : A). length (row x) ≡ width) a l → k < length l
-      → drop (k * width) (joined (map row l) ++ rest) ≡ row (getD l k a) ++ (joined (map row (drop (suc k) l)) ++ rest)
+module _ {image : List ℕ} {fields : List (List ℕ)} where
+  component-back : (i : ℕ) (c : Component) → ComponentFits c → Stands image (componentPlace i) (componentRow c ∷ fields) → componentIn image i ≡ c
   unfolding joined
-  row-behind [] rest k wide h = absurd (not-suc-le-zero h)
-  row-behind (x ∷ l) rest zero wide h = rw zero-mul (append-assoc (row x) (joined (map row l)) rest)
-  row-behind (x ∷ l) rest (suc k) wide h =
-      let place : suc k * width ≡ length (row x) + k * width = omega (arith, wide 0 (omega arith)) in
-      ap (drop (suc k * width)) (append-assoc (row x) (joined (map row l)) rest)
-      ∙ ap (λ (n : ℕ). drop n (row x ++ (joined (map row l) ++ rest))) place
-      ∙ drop-append-add (row x) (joined (map row l) ++ rest) (k * width)
-      ∙ row-behind l rest k (λ i less. wide (suc i) (omega arith)) (le-of-suc-le-suc h)
+  component-back i c fits s =
+      let inner : Stands image (componentPlace i) (byteOf (c .states) ∷ bytesOf (c .p1) ∷ bytesOf (c .p2) ∷ bytesOf (c .p3) ∷ []) = stands-inside s in
+      let states = stands-first inner (omega arith) in
+      let p1 = stands-number (stands-behind inner 1 p1At refl) (fits .p1) in
+      let p2 = stands-number (stands-behind inner 2 p2At refl) (fits .p2) in
+      let p3 = stands-number (stands-behind inner 3 p3At refl) (fits .p3) in
+      λ k. record { states = states k; p1 = p1 k; p2 = p2 k; p3 = p3 k }
 
-  -- the records of places whose rows hold them
-  places-back : (Fits : A → Type 0) (recordIn : List ℕ → ℕ → A)
-      → ((image : List ℕ) (at : ℕ) (x : A) (rest : List ℕ) → Fits x → drop at image ≡ row x ++ rest → recordIn image at ≡ x)
-      → ((x : A) → Fits x → length (row x) ≡ width) → (image : List ℕ) (from n : ℕ) (l : List A) (rest : List ℕ) → length l ≡ n
-      → ((k : ℕ) → k < n → Fits (getD l k a)) → drop from image ≡ joined (map row l) ++ rest → placesIn recordIn from width n image ≡ l
-  places-back Fits recordIn back wide image from n l rest long fits e =
-      sym
-      (tabulated (λ (k : ℕ). recordIn image (from + k * width)) n l a long
-      (λ k h. sym (back image (from + k * width) (getD l k a) _ (fits k h)
-      (sym (drop-drop (k * width) from image) ∙ ap (drop (k * width)) e ∙ row-behind l rest k (λ i less. wide (getD l i a) (fits i (omega (arith, long)))) (omega (arith, long))))))
+  load-back : (j : ℕ) (l : Load) → LoadFits l → Stands image (loadPlace j) (loadRow l ∷ fields) → loadIn image j ≡ l
+  unfolding joined
+  load-back j l fits s =
+      let inner : Stands image (loadPlace j) (byteOf (l .gate) ∷ bytesOf (l .customers) ∷ bytesOf (l .minutes) ∷ []) = stands-inside s in
+      let gate = stands-first inner (omega arith) in
+      let customers = stands-number (stands-behind inner 1 customersAt refl) (fits .customers) in
+      let minutes = stands-number (stands-behind inner 2 minutesAt refl) (fits .minutes) in
+      λ k. record { gate = gate k; customers = customers k; minutes = minutes k }
+
+  gate-back : (i : ℕ) (g : Gate) → GateFits g → Stands image (gatePlace i) (gateRow g ∷ fields) → gateIn image i ≡ g
+  unfolding gateRow joined
+  gate-back i g fits s =
+      let inner : Stands image (gatePlace i) (gateFields g) = stands-inside s in
+      let masks = stands-behind inner 2 testMasksAt (simp length-append (omega (arith, fits .component))) in
+      let count = stands-behind inner 3 inputCountAt (simp length-append (omega (arith, fits .component, fits .mask))) in
+      let inputs = stands-behind inner 4 inputsAt (simp length-append (omega (arith, fits .component, fits .mask))) in
+      let component = stands-bytes (stands-behind inner 1 testComponentsAt refl) mostTests (fits .component) in
+      let mask = stands-bytes masks mostTests (fits .mask) in
+      let input = stands-bytes inputs mostGateInputs (fits .input) in
+      λ k. record {
+        threshold = stands-first inner (omega arith) k;
+        tests = stands-byte inner testCountAt (omega arith) k;
+        component = component k;
+        mask = mask k;
+        gates = stands-first count (omega arith) k;
+        input = input k;
+      }
 
 module _ (t : Study) (old : List ℕ) where
-  -- the slice, and what stands in it from the load places, the gate places and the component places on
   abbrev image : List ℕ
   image = put old 0 (imageOf t)
 
-  abbrev from-loads : List ℕ
-  from-loads = joined (map loadRow (t .load)) ++ drop (0 + length (imageOf t)) old
-
-  abbrev from-gates : List ℕ
-  from-gates = joined (map gateRow (t .gate)) ++ from-loads
-
-  abbrev from-components : List ℕ
-  from-components = joined (map componentRow (t .component)) ++ from-gates
-
-  image-pieces : image ≡ t .components ∷ t .gates ∷ t .loads ∷ from-components
+  stands : Stands image 0 (studyFields t)
   unfolding put imageOf
-  image-pieces =
-      let rest = drop (0 + length (imageOf t)) old in
-      let gates = joined (map gateRow (t .gate)) in
-      let loads = joined (map loadRow (t .load)) in
-      ap (λ (l : List ℕ). t .components ∷ t .gates ∷ t .loads ∷ l)
-      (append-assoc (joined (map componentRow (t .component))) (gates ++ loads) rest
-      ∙ ap (λ (l : List ℕ). joined (map componentRow (t .component)) ++ l) (append-assoc gates loads rest))
+  stands = record { rest = drop (0 + length (imageOf t)) old; there = refl }
 
   module _ (fits : StudyFits t) where
-    components-behind : drop componentsAt image ≡ from-components
-    components-behind = ap (drop componentsAt) image-pieces
-
-    gates-behind : drop gatesAt image ≡ from-gates
-    gates-behind =
-        sym (drop-drop (mostComponents * componentBytes) componentsAt image)
-        ∙ ap (drop (mostComponents * componentBytes)) components-behind
-        ∙ drop-at (joined (map componentRow (t .component))) from-gates (mostComponents * componentBytes) (components-long t fits)
-
-    loads-behind : drop loadsAt image ≡ from-loads
-    loads-behind =
-        sym (drop-drop (mostGates * gateBytes) gatesAt image)
-        ∙ ap (drop (mostGates * gateBytes)) gates-behind
-        ∙ drop-at (joined (map gateRow (t .gate))) from-loads (mostGates * gateBytes) (gates-long t fits)
-
     pub image-back : imageBytes ≤ length old → studyIn image ≡ t
-    unfolding studyIn
+    unfolding studyIn joined
     image-back room =
         let size : length image ≡ length old = put-size old image 0 (imageOf t) (omega (arith, image-long t fits)) refl in
         let whole : imageBytes ≤ length image = omega (arith, size) in
+        let components = stands-inside (stands-behind stands 1 componentsAt refl) in
+        let gates = stands-inside (stands-behind stands 2 gatesAt (simp length-append (omega (arith, components-long t fits)))) in
+        let loads = stands-inside (stands-behind stands 3 loadsAt (simp length-append (omega (arith, components-long t fits, gates-long t fits)))) in
         let component =
-        places-back componentRow zeroComponent componentBytes ComponentFits componentIn component-back (λ c fit. component-long c) image componentsAt
-        mostComponents (t .component) from-gates (fits .components) (fits .component) components-behind in
+        records-back _ componentBytes mostComponents (λ i h. refl) components (componentIn image) (t .component) zeroComponent (fits .components)
+        (λ i h. component-back i _ (fits .component i h)) in
         let gate =
-        places-back gateRow noGate gateBytes GateFits gateIn gate-back gate-long image gatesAt mostGates (t .gate) from-loads (fits .gates) (fits .gate) gates-behind in
+        records-back _ gateBytes mostGates (λ i h. gate-long _ (fits .gate i h)) gates (gateIn image) (t .gate) noGate (fits .gates)
+        (λ i h. gate-back i _ (fits .gate i h)) in
         let load =
-        places-back loadRow zeroLoad loadBytes LoadFits loadIn load-back (λ l fit. load-long l) image loadsAt mostLoads (t .load) _ (fits .loads)
-        (fits .load) loads-behind in
+        records-back _ loadBytes mostLoads (λ j h. refl) loads (loadIn image) (t .load) zeroLoad (fits .loads)
+        (λ j h. load-back j _ (fits .load j h)) in
         rw (le-ltb (length image) imageBytes whole)
-        (λ i. record {
-          components = getD (image-pieces i) 0 0;
-          gates = getD (image-pieces i) 1 0;
-          loads = getD (image-pieces i) 2 0;
-          component = component i;
-          gate = gate i;
-          load = load i;
+        (λ k. record {
+          components = stands-byte stands 0 (omega arith) k;
+          gates = stands-byte stands 1 (omega arith) k;
+          loads = stands-byte stands 2 (omega arith) k;
+          component = component k;
+          gate = gate k;
+          load = load k;
         })

@@ -1,6 +1,5 @@
-pub mod Back
 pub mod ImageBack
-pub mod Pieces
+pub mod Owned
 pub mod Reading
-pub mod Rows
+pub mod Standing
 pub mod Widths

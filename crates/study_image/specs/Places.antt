@@ -1,5 +1,5 @@
 -- Where everything stands in the image of a study. The numbers are those of the format; the code adds them up from the places of a study.
-use Prim.Native.Nat.{ℕ}
+use Prim.Native.Nat.{ℕ, _+_, _*_}
 
 -- ---- the image: the numbers of components, of gates and of loads, then the places of each
 
@@ -72,3 +72,14 @@ minutesAt = 5
 
 abbrev pub loadBytes : ℕ
 loadBytes = 9
+
+-- ---- where component i, gate i and load j stand
+
+abbrev pub componentPlace : ℕ → ℕ
+componentPlace i = componentsAt + i * componentBytes
+
+abbrev pub gatePlace : ℕ → ℕ
+gatePlace i = gatesAt + i * gateBytes
+
+abbrev pub loadPlace : ℕ → ℕ
+loadPlace j = loadsAt + j * loadBytes

@@ -1,25 +1,13 @@
-// The fields of a place in an image: numbers of four bytes, and rows of bytes.
+// The fields of an image: numbers of four bytes, and rows of bytes.
 use reading::number;
 use rules::INPUT_PLACES;
 use rules::TEST_PLACES;
 ghost use Prim.Native.Nat.{_+_, _≤_};
 ghost use mathlib.Core.Path.{_≡_};
 ghost use lib.ListN.{length};
-ghost use Rattle.lists.specs.Rows.{put};
 ghost use Rattle.rules.specs.Limits.{mostTests, mostGateInputs};
 ghost use Rattle.study_image.specs.Places.{numberBytes};
-ghost use Rattle.study_image.specs.Image.{bytesOf, numberIn, bytesIn};
-
-// Writes the four bytes of a number, lowest byte first, at a place.
-pub fn write_number(n: u32, image: &mut [u8], at: usize)
-    requires { ⌜ at + numberBytes ≤ length (now image) ⌝ }
-    ensures { λ r. ⌜ now (image .exit) ≡ put (now (image .entry)) at (bytesOf n) ⌝ }
-{
-    image[at] = (n % 256) as u8;
-    image[at + 1] = (n / 256 % 256) as u8;
-    image[at + 2] = (n / 65536 % 256) as u8;
-    image[at + 3] = (n / 16777216 % 256) as u8;
-}
+ghost use Rattle.study_image.specs.Image.{numberIn, bytesIn};
 
 // The number of the four bytes at a place.
 pub fn read_number(image: &[u8], at: usize) -> u32
@@ -29,12 +17,13 @@ pub fn read_number(image: &[u8], at: usize) -> u32
     number(image[at], image[at + 1], image[at + 2], image[at + 3])
 }
 
-// Writes a row of bytes at a place.
-pub fn write_row(row: &[u8], image: &mut [u8], at: usize)
+// Fills a row with the bytes from a place on.
+fn read_row(image: &[u8], at: usize, row: &mut [u8])
     requires { ⌜ at + length (now row) ≤ length (now image) ⌝ }
-    ensures { λ r. ⌜ now (image .exit) ≡ put (now (image .entry)) at (now (row .entry)) ⌝ }
+    ensures { λ r. ⌜ now (row .exit) ≡ bytesIn (now (image .entry)) at (length (now (row .entry))) ⌝ }
 {
-    text::copy(image, at, row);
+    let end = at + row.len();
+    text::copy(row, 0, &image[at..end]);
 }
 
 // The bytes at the test places of a gate, from a place on.
@@ -43,7 +32,7 @@ pub fn read_tests(image: &[u8], at: usize) -> [u8; TEST_PLACES]
     ensures { λ r. ⌜ r ≡ bytesIn (now (image .entry)) at mostTests ⌝ }
 {
     let mut row = [0u8; TEST_PLACES];
-    write_row(&image[at..at + TEST_PLACES], &mut row, 0);
+    read_row(image, at, &mut row);
     row
 }
 
@@ -53,6 +42,6 @@ pub fn read_inputs(image: &[u8], at: usize) -> [u8; INPUT_PLACES]
     ensures { λ r. ⌜ r ≡ bytesIn (now (image .entry)) at mostGateInputs ⌝ }
 {
     let mut row = [0u8; INPUT_PLACES];
-    write_row(&image[at..at + INPUT_PLACES], &mut row, 0);
+    read_row(image, at, &mut row);
     row
 }

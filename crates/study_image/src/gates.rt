@@ -1,7 +1,6 @@
 // The gate places of an image.
 use crate::fields::read_inputs;
 use crate::fields::read_tests;
-use crate::fields::write_row;
 use crate::places::GATE_BYTES;
 use crate::places::GATES_AT;
 use crate::places::INPUT_COUNT_AT;
@@ -12,53 +11,55 @@ use crate::places::TEST_MASKS_AT;
 use rules::GATE_PLACES;
 use study::Gate;
 use study::no_gates;
-ghost use Prim.Native.Nat.{ℕ, _+_, _<_, _≤_};
+use text::copy;
+ghost use Prim.Native.Nat.{_<_, _≤_};
 ghost use mathlib.Core.Path.{_≡_};
-ghost use mathlib.Core.List.{map};
-ghost use lib.ListN.{length, getD};
-ghost use Rattle.lists.specs.Rows.{put, joined};
+ghost use lib.ListN.{length};
+ghost use Rattle.lists.specs.Tabulate.{tabulate};
 ghost use Rattle.rules.specs.Limits.{mostGates};
-ghost use Rattle.study.specs.Places.{noGate};
-ghost use Rattle.study_image.specs.Places.{gatesAt, gateBytes, imageBytes};
-ghost use Rattle.study_image.specs.Image.{gateRow, gateIn, placesIn};
-ghost use Rattle.study_image.specs.Fits.{GateFits};
+ghost use Rattle.text.specs.Writing.{Room, Wrote};
+ghost use Rattle.study_image.specs.Places.{imageBytes};
+ghost use Rattle.study_image.specs.Image.{gateRow, gateRows, gateIn};
 
-// Writes a gate at a place. Each gate fits, which the contract tells: the definition does not know it.
-fn write_gate(g: Gate, image: &mut [u8], at: usize)
-    requires { ⌜ at + gateBytes ≤ length (now image) ⌝ }
-    ensures { λ r. ⌜ now (image .exit) ≡ put (now (image .entry)) at (gateRow g) ⌝ }
-    ensures { λ r. ⌜ GateFits g ⌝ }
+// Writes a gate.
+fn write_gate(g: Gate, image: &mut [u8], at: usize) -> usize
+    requires { ⌜ Room (now image) at (gateRow g) ⌝ }
+    ensures { λ r. ⌜ Wrote (now (image .entry)) at (gateRow g) (now (image .exit)) r ⌝ }
 {
     let component = g.component;
     let mask = g.mask;
     let input = g.input;
-    image[at] = g.threshold;
-    image[at + TEST_COUNT_AT] = g.tests;
-    write_row(&component, image, at + TEST_COMPONENTS_AT);
-    write_row(&mask, image, at + TEST_MASKS_AT);
-    image[at + INPUT_COUNT_AT] = g.gates;
-    write_row(&input, image, at + INPUTS_AT);
+    let front = [g.threshold, g.tests];
+    let gates = [g.gates];
+    let tests_at = copy(image, at, &front);
+    let masks_at = copy(image, tests_at, &component);
+    let count_at = copy(image, masks_at, &mask);
+    let inputs_at = copy(image, count_at, &gates);
+    copy(image, inputs_at, &input)
 }
 
 // Writes the gates of all places.
-pub fn write_gates(gate: [Gate; GATE_PLACES], image: &mut [u8])
-    requires { ⌜ imageBytes ≤ length (now image) ⌝ }
-    ensures { λ r. ⌜ now (image .exit) ≡ put (now (image .entry)) gatesAt (joined (map gateRow gate)) ⌝ }
-    ensures { λ r. ⌜ ((k : ℕ) → k < mostGates → GateFits (getD gate k noGate)) ⌝ }
+pub fn write_gates(gate: [Gate; GATE_PLACES], image: &mut [u8], at: usize) -> usize
+    requires { ⌜ Room (now image) at (gateRows gate) ⌝ }
+    ensures { λ r. ⌜ Wrote (now (image .entry)) at (gateRows gate) (now (image .exit)) r ⌝ }
 {
+    let mut next = at;
     let mut i: usize = 0;
     while i < GATE_PLACES {
         let g = gate[i];
-        write_gate(g, image, GATES_AT + i * GATE_BYTES);
+        next = write_gate(g, image, next);
         i = i + 1;
     }
+    next
 }
 
-// The gate at a place.
-fn read_gate(image: &[u8], at: usize) -> Gate
-    requires { ⌜ at + gateBytes ≤ length (now image) ⌝ }
-    ensures { λ r. ⌜ r ≡ gateIn (now (image .entry)) at ⌝ }
+// The gate of a place.
+fn read_gate(image: &[u8], i: usize) -> Gate
+    requires place { ⌜ i < mostGates ⌝ }
+    requires whole { ⌜ imageBytes ≤ length (now image) ⌝ }
+    ensures { λ r. ⌜ r ≡ gateIn (now (image .entry)) i ⌝ }
 {
+    let at = GATES_AT + i * GATE_BYTES;
     let component = read_tests(image, at + TEST_COMPONENTS_AT);
     let mask = read_tests(image, at + TEST_MASKS_AT);
     let input = read_inputs(image, at + INPUTS_AT);
@@ -75,12 +76,12 @@ fn read_gate(image: &[u8], at: usize) -> Gate
 // The gates of all places.
 pub fn read_gates(image: &[u8]) -> [Gate; GATE_PLACES]
     requires { ⌜ imageBytes ≤ length (now image) ⌝ }
-    ensures { λ r. ⌜ r ≡ placesIn gateIn gatesAt gateBytes mostGates (now (image .entry)) ⌝ }
+    ensures { λ r. ⌜ r ≡ tabulate (gateIn (now (image .entry))) mostGates ⌝ }
 {
     let mut gate = no_gates();
     let mut i: usize = 0;
     while i < GATE_PLACES {
-        let g = read_gate(image, GATES_AT + i * GATE_BYTES);
+        let g = read_gate(image, i);
         gate[i] = g;
         i = i + 1;
     }

@@ -29,18 +29,17 @@ ghost use Rattle.study_image.specs.Fits.{StudyFits};
 // Writes the image of a study at the front of a slice that has the room. Each study fits, so that its image holds it (`image-back`).
 pub fn write_image(t: Study, image: &mut [u8])
     requires { ⌜ imageBytes ≤ length (now image) ⌝ }
-    ensures { λ r. ⌜ now (image .exit) ≡ put (now (image .entry)) 0 (imageOf t) ⌝ }
-    ensures { λ r. ⌜ StudyFits t ⌝ }
+    ensures written { λ r. ⌜ now (image .exit) ≡ put (now (image .entry)) 0 (imageOf t) ⌝ }
+    ensures fits { λ r. ⌜ StudyFits t ⌝ }
 {
     let component = t.component;
     let gate = t.gate;
     let load = t.load;
-    image[COMPONENT_COUNT_AT] = t.components;
-    image[GATE_COUNT_AT] = t.gates;
-    image[LOAD_COUNT_AT] = t.loads;
-    write_components(component, image);
-    write_gates(gate, image);
-    write_loads(load, image);
+    let counts = [t.components, t.gates, t.loads];
+    let components_at = text::copy(image, 0, &counts);
+    let gates_at = write_components(component, image, components_at);
+    let loads_at = write_gates(gate, image, gates_at);
+    write_loads(load, image, loads_at);
 }
 
 // The study that an image holds; a slice too short for one holds a study of zeros.

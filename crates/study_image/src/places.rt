@@ -6,7 +6,7 @@ use rules::LOAD_PLACES;
 use rules::TEST_PLACES;
 
 // A number of four bytes.
-const NUMBER_BYTES: usize = 4;
+pub const NUMBER_BYTES: usize = 4;
 
 // In a component place: its state count, then the probabilities of states 1 to 3.
 pub const P1_AT: usize = 1;

@@ -1,5 +1,5 @@
 -- A number of one digit, one of more, and how many digits a number has at most. What carries it: any fuel that is enough gives the same digits.
-use Prim.Native.Nat.{ℕ, zero, suc, _+_, _/_, _%_, _^_, _<_, _≤_}
+use Prim.Native.Nat.{ℕ, zero, suc, _/_, _%_, _^_, _<_, _≤_}
 use mathlib.Core.Path.{_≡_, refl, sym, ap}
 use mathlib.Core.Bool.{Bool, true, false}
 use mathlib.Core.List.{List, [], _∷_, _++_}
@@ -35,7 +35,8 @@ pub decimal-more : (n : ℕ) → 10 ≤ n → decimal n ≡ decimal (n / 10) ++ 
 unfolding decimal decimalWithin
 decimal-more zero h = absurd (omega arith)
 decimal-more (suc m) h =
-    rw (le-ltb (suc m) 10 h) (ap (λ (front : List ℕ). front ++ (digit (suc m % 10) ∷ [])) (enough m (suc m / 10) (suc m / 10) (tenth-less (suc m) m h (omega arith)) (omega arith)))
+    let front = enough m (suc m / 10) (suc m / 10) (tenth-less (suc m) m h (omega arith)) (omega arith) in
+    rw (le-ltb (suc m) 10 h) (ap (λ (digits : List ℕ). digits ++ (digit (suc m % 10) ∷ [])) front)
 
 -- below ten to the power of w, a number has at most w digits
 pub decimal-short : (w n : ℕ) → 1 ≤ w → n < 10 ^ w → length (decimal n) ≤ w

@@ -11,8 +11,8 @@ pub const ZERO: u8 = 48;
 
 // Writes a digit.
 fn digit(out: &mut [u8], at: usize, n: u8) -> usize
-    requires { ⌜ Room (now out) at (Numbers·digit n ∷ []) ⌝ }
-    requires { ⌜ n < 10 ⌝ }
+    requires room { ⌜ Room (now out) at (Numbers·digit n ∷ []) ⌝ }
+    requires one { ⌜ n < 10 ⌝ }
     ensures { λ r. ⌜ Wrote (now (out .entry)) at (Numbers·digit n ∷ []) (now (out .exit)) r ⌝ }
 {
     out[at] = ZERO + n;

@@ -1,28 +1,33 @@
--- Laws of a number times a chance, over one, rounded: how near it is to the product, by what a quotient tells of its dividend.
+-- Laws of a number times a chance, over one, rounded: which quotient it is, and so how near it is to the product.
 use Prim.Native.Nat.{ℕ, _+_, _*_, _<_, _≤_}
-use mathlib.Core.Path.{_≡_}
-use native.Mathlib.Nat.{mul-le-mul, div-mul-le-self, lt-div-mul-add}
+use mathlib.Core.Path.{_≡_, refl}
+use native.Mathlib.Nat.{add-zero, mul-le-mul}
 use native.Mathlib.Omega.{arith}
 use lib.Dec.{lit<}
 use Rattle.units.specs.One.{one}
-use Rattle.units.specs.Rounding.{down, up, scale}
+use Rattle.units.specs.Rounding.{down, up, scale, quotientDown, quotientUp}
+use Rattle.units.proofs.Quotients.{quotient-below, quotient-near-below, quotient-above, quotient-near-above}
 
 module _ (a p : ℕ) where
+  pub scale-down : scale down a p ≡ quotientDown (a * p) one
+  unfolding scale quotientDown
+  scale-down = rw (add-zero (a * p))
+
+  pub scale-up : scale up a p ≡ quotientUp (a * p) one
+  unfolding scale quotientUp
+  scale-up = refl
+
   pub down-below : scale down a p * one ≤ a * p
-  unfolding scale
-  down-below = omega (arith, div-mul-le-self (a * p + down) one)
+  down-below = rw scale-down (quotient-below (a * p) one)
 
   pub down-near : a * p < scale down a p * one + one
-  unfolding scale
-  down-near = omega (arith, lt-div-mul-add {a = a * p + down} {b = one} (lit< tt))
+  down-near = rw scale-down (quotient-near-below (a * p) one (lit< tt))
 
   pub up-above : a * p ≤ scale up a p * one
-  unfolding scale
-  up-above = omega (arith, lt-div-mul-add {a = a * p + up} {b = one} (lit< tt))
+  up-above = rw scale-up (quotient-above (a * p) one (lit< tt))
 
   pub up-near : scale up a p * one < a * p + one
-  unfolding scale
-  up-near = omega (arith, div-mul-le-self (a * p + up) one)
+  up-near = rw scale-up (quotient-near-above (a * p) one (lit< tt))
 
   -- no more than one
   pub up-most : a ≤ one → p ≤ one → scale up a p ≤ one

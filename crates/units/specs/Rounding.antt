@@ -1,20 +1,20 @@
--- Products and quotients of whole numbers, rounded down or up. What is added before the division decides: nothing rounds down, and one less
--- than the divisor rounds up.
+-- Quotients of whole numbers, rounded down or up.
 use Prim.Native.Nat.{ℕ, _+_, _-_, _*_, _/_}
 use Rattle.units.specs.One.{one}
-
-abbrev pub down : ℕ
-down = 0
-
-abbrev pub up : ℕ
-up = 999999999
-
--- a number of units times a chance, over one, rounded by what is added
-unfoldable pub scale : ℕ → ℕ → ℕ → ℕ
-scale rounding a p = (a * p + rounding) / one
 
 unfoldable pub quotientDown : ℕ → ℕ → ℕ
 quotientDown a b = a / b
 
 unfoldable pub quotientUp : ℕ → ℕ → ℕ
 quotientUp a b = (a + (b - 1)) / b
+
+-- The two ways to round a quotient over one, by what is added before the division, so that one definition serves both.
+abbrev pub down : ℕ
+down = 0
+
+abbrev pub up : ℕ
+up = one - 1
+
+-- a number of units times a chance, over one: `quotientDown (a * p) one` with down, `quotientUp (a * p) one` with up (`scale-down`, `scale-up`)
+unfoldable pub scale : ℕ → ℕ → ℕ → ℕ
+scale rounding a p = (a * p + rounding) / one

@@ -1,24 +1,35 @@
--- The word that letters spell; that a number which the table lacks has none; and that no word is longer than all of them together.
-use Prim.Native.Nat.{ℕ, zero, suc, _≤_}
-use mathlib.Core.Path.{_≡_, refl, sym, ap, _∙_}
+-- The word of a number that is known, that a number which the table lacks has none, and that no word is longer than all of them together.
+use Prim.Native.Nat.{ℕ, zero, suc, _≤_, _<_}
+use mathlib.Core.Path.{_≡_, refl, sym}
 use mathlib.Core.List.{List, [], _∷_}
 use native.Mathlib.Omega.{arith}
-use lib.ListN.{length, getD, take, List·getD-eq-default}
+use lib.ListN.{length, getD, List·getD-eq-default}
 use Rattle.lists.specs.Counting.{sumOver}
-use Rattle.words.specs.declared.Word.{Word}
+use Rattle.text.specs.Writing.{Room, Wrote}
 use Rattle.words.specs.Words.{refusalWords, refusalWord}
 
--- the word that so many letters spell
-pub worded : (word : Word) (letters : List ℕ) (size n : ℕ) → (word .letters ≡ letters) × (word .size ≡ size) → take size letters ≡ refusalWord n → size ≤ length letters
-    → (take (word .size) (word .letters) ≡ refusalWord n) × (word .size ≤ length (word .letters))
-worded word letters size n spelt spells inside =
-    let front : take (word .size) (word .letters) ≡ take size letters = λ i. take (spelt .1 i) (spelt .0 i) in
-    (front ∙ spells, omega (arith, inside, spelt .1, ap length (spelt .0)))
+-- where the number is k, whose word is known
+module _ {d word : List ℕ} {at n k : ℕ} (number : n ≡ k) (spelt : refusalWord k ≡ word) where
+  pub word-room : Room d at (refusalWord n) → Room d at word
+  word-room room = rw (number, spelt) at room
 
-pub no-word : (n : ℕ) → (1 ≤ n → 20 ≤ n) → [] ≡ refusalWord n
+  pub word-wrote : {d′ : List ℕ} {next : ℕ} → Wrote d at word d′ next → Wrote d at (refusalWord n) d′ next
+  word-wrote wrote = rw (number, spelt) wrote
+
+-- n is none of 1 to k
+abbrev pub NoneOf : ℕ → ℕ → Type 0
+NoneOf n zero = Unit {0}
+NoneOf n (suc k) = NoneOf n k × (n ≡ suc k → ⊥)
+
+beyond : (n k : ℕ) → NoneOf n k → 1 ≤ n → k < n
+beyond n zero none some = some
+beyond n (suc k) none some = omega (arith, beyond n k (none .0) some, none .1)
+
+-- a number that has no word
+pub no-word : (n : ℕ) → NoneOf n 19 → [] ≡ refusalWord n
 unfolding refusalWord refusalWords
-no-word zero beyond = refl
-no-word (suc n) beyond = sym (List·getD-eq-default refusalWords [] {n = suc n} (beyond (omega arith)))
+no-word zero none = refl
+no-word (suc n) none = sym (List·getD-eq-default refusalWords [] {n = suc n} (beyond (suc n) 19 none (omega arith)))
 
 one-of : (rows : List (List ℕ)) (n : ℕ) → length (getD rows n []) ≤ sumOver length rows
 unfolding sumOver

@@ -1,62 +1,33 @@
 // The words of the refusal table.
-ghost use Prim.Native.Nat.{_≤_};
-ghost use mathlib.Core.Path.{_≡_};
-ghost use lib.ListN.{length, take};
+use text::copy;
 ghost use Rattle.text.specs.Writing.{Room, Wrote};
 ghost use Rattle.words.specs.Words.{refusalWord};
 
-// The letters of the longest word.
-const WORD_PLACES: usize = 12;
-
-// A word at the front of its places.
-struct Word {
-    letters: [u8; WORD_PLACES],
-    size: usize,
-}
-
-// So many letters of these.
-fn spelt(letters: [u8; WORD_PLACES], size: usize) -> Word
-    ensures { λ r. ⌜ r .letters ≡ letters ⌝ }
-    ensures { λ r. ⌜ r .size ≡ size ⌝ }
-{
-    Word { letters, size }
-}
-
-// The word of a refusal; none for a number that the table lacks.
-fn word_of(refusal: u8) -> Word
-    ensures { λ r. ⌜ take (r .size) (r .letters) ≡ refusalWord refusal ⌝ }
-    ensures { λ r. ⌜ r .size ≤ length (r .letters) ⌝ }
-{
-    match refusal {
-        1 => spelt(*b"short       ", 5),
-        2 => spelt(*b"counts      ", 6),
-        3 => spelt(*b"stray bit   ", 9),
-        4 => spelt(*b"states      ", 6),
-        5 => spelt(*b"no state    ", 8),
-        6 => spelt(*b"over one    ", 8),
-        7 => spelt(*b"too wide    ", 8),
-        8 => spelt(*b"inputs      ", 6),
-        9 => spelt(*b"no component", 12),
-        10 => spelt(*b"mask        ", 4),
-        11 => spelt(*b"gate ahead  ", 10),
-        12 => spelt(*b"threshold   ", 9),
-        13 => spelt(*b"no gate     ", 7),
-        14 => spelt(*b"load size   ", 9),
-        15 => spelt(*b"left over   ", 9),
-        16 => spelt(*b"unsound     ", 7),
-        17 => spelt(*b"no item     ", 7),
-        18 => spelt(*b"no room     ", 7),
-        19 => spelt(*b"no customers", 12),
-        _ => spelt(*b"            ", 0),
-    }
-}
-
-// Writes the word of a refusal.
+// Writes the word of a refusal; nothing for a number that the table lacks.
 pub fn refusal_word(out: &mut [u8], at: usize, refusal: u8) -> usize
     requires { ⌜ Room (now out) at (refusalWord refusal) ⌝ }
     ensures { λ r. ⌜ Wrote (now (out .entry)) at (refusalWord refusal) (now (out .exit)) r ⌝ }
 {
-    let word = word_of(refusal);
-    let letters = word.letters;
-    text::copy(out, at, &letters[..word.size])
+    match refusal {
+        1 => copy(out, at, b"short"),
+        2 => copy(out, at, b"counts"),
+        3 => copy(out, at, b"stray bit"),
+        4 => copy(out, at, b"states"),
+        5 => copy(out, at, b"no state"),
+        6 => copy(out, at, b"over one"),
+        7 => copy(out, at, b"too wide"),
+        8 => copy(out, at, b"inputs"),
+        9 => copy(out, at, b"no component"),
+        10 => copy(out, at, b"mask"),
+        11 => copy(out, at, b"gate ahead"),
+        12 => copy(out, at, b"threshold"),
+        13 => copy(out, at, b"no gate"),
+        14 => copy(out, at, b"load size"),
+        15 => copy(out, at, b"left over"),
+        16 => copy(out, at, b"unsound"),
+        17 => copy(out, at, b"no item"),
+        18 => copy(out, at, b"no room"),
+        19 => copy(out, at, b"no customers"),
+        _ => at,
+    }
 }

@@ -1,66 +1,67 @@
--- `study_image::write_image` meets its contract: the three counts and the rows of the three kinds are the pieces.
-use mathlib.Core.Path.{_∙_}
-use mathlib.Core.List.{map}
+-- `study_image::write_image` meets its contract: its fields stand one behind the other (`Pieces`). What is owned of the study tells that it fits.
+use Prim.Native.Nat.{ℕ}
+use mathlib.Core.List.{List}
 use native.Mathlib.Omega.{arith}
-use lib.ListN.{length-set}
-use Rattle.lists.specs.Rows.{joined}
-use Rattle.lists.proofs.Maps.{mapped}
-use Rattle.study_image.specs.Image.{componentRow, gateRow, imageOf}
+use Rattle.text.proofs.Pieces.{Pieces, pieces-start, pieces-room, pieces-more, pieces-done}
+use Rattle.study_image.specs.Image.{studyFields, imageOf}
 use Rattle.study_image.specs.Fits.{StudyFits}
-use Rattle.study_image.proofs.Pieces.{first-piece, byte-piece, row-piece}
-use Rattle.study_image.proofs.Widths.{components-long, gates-long, image-long}
+use Rattle.study_image.proofs.Owned.{study-fits}
+use Rattle.study_image.proofs.Widths.{image-long}
 use borrow.Author.Needs.{needs}
 use Rattle.study_image.proofs.write_image.Statement.{statement}
 use Rattle.study_image.proofs.write_image.Tie as tie
 
-slice-write-image : tie.Need-slice-write-image
-slice-write-image c = search needs
+-- the entry, from where the first call stands and from behind each of the first three
+abbrev start : tie.After-counts → tie.Start
+start c =
+    let component = c .before .before .before .before in
+    component .before .before
 
-slice-write-image-2 : tie.Need-slice-write-image-2
-slice-write-image-2 c = simp length-set (omega arith)
+abbrev start1 : tie.After-copy → tie.Start
+start1 c = start (c .before)
 
-slice-write-image-3 : tie.Need-slice-write-image-3
-slice-write-image-3 c = simp length-set (omega arith)
+abbrev start2 : tie.After-write-components → tie.Start
+start2 c = start1 (c .before .before .before .before)
 
-write-components-requires : tie.Need-write-components-requires
-write-components-requires c κs = search needs
+abbrev start3 : tie.After-write-gates → tie.Start
+start3 c = start2 (c .before .before .before .before)
 
-write-gates-requires : tie.Need-write-gates-requires
-write-gates-requires c κs = omega (arith, simp length-set at (c .before .before .before .write-components .kept .1 .0))
+fits : (s : tie.Start) → StudyFits (s .args .t)
+fits s = study-fits _ _ (s .good .0)
 
-write-loads-requires : tie.Need-write-loads-requires
-write-loads-requires c κs = omega (arith, simp length-set at (c .before .before .before .before .before .before .before .write-components .kept .1 .0), c .before .before .before .write-gates .kept .1 .0)
+-- the fields below k are written
+abbrev Written : tie.Start → ℕ → List ℕ → ℕ → Type 0
+Written s k d p = Pieces (studyFields (s .args .t)) (s .args .image .now) 0 k d p
 
-same-length : tie.Need-same-length
-same-length c = omega (arith, simp length-set at (c .before .before .before .before .before .before .before .before .before .before .write-components .kept .1 .0), c .before .before .before .before .before .before .write-gates .kept .1 .0, c .before .before .write-loads .kept .1 .0)
+written0 : (s : tie.Start) → Written s 0 (s .args .image .now) 0
+unfolding imageOf
+written0 s = pieces-start _ (record { fits = omega (arith, s .pre, image-long _ (fits s)) })
+
+written1 : (c : tie.After-copy) → Written (start1 c) 1 (c .copy .last .0) (c .copy .result)
+written1 c = pieces-more (written0 (start1 c)) (omega arith) (c .copy .ensures)
+
+written2 : (c : tie.After-write-components) → Written (start2 c) 2 (c .write-components .last .1 .0) (c .write-components .result)
+written2 c = pieces-more (written1 (c .before .before .before .before)) (omega arith) (c .write-components .ensures)
+
+written3 : (c : tie.After-write-gates) → Written (start3 c) 3 (c .write-gates .last .1 .0) (c .write-gates .result)
+written3 c = pieces-more (written2 (c .before .before .before .before)) (omega arith) (c .write-gates .ensures)
 
 returns : tie.Need-returns
 unfolding imageOf
 returns c =
-    let t = c .before .before .before .before .before .before .before .before .before .before .before .before .before .before .before .before .args .t in
-    let fits : StudyFits t =
-    record {
-      components = search (mapped, needs);
-      gates = search (mapped, needs);
-      loads = search (mapped, needs);
-      component = c .before .before .before .before .before .before .before .before .before .before .write-components .ensures .1;
-      gate = c .before .before .before .before .before .before .write-gates .ensures .1;
-      load = c .before .before .write-loads .ensures .1;
-    } in
-    let counts = byte-piece (byte-piece (first-piece (c .before .before .before .before .before .before .before .before .before .before .before .before .before .before .before .before .pre) (image-long t fits))) in
-    let components = row-piece (joined (map componentRow (t .component))) _ counts (c .before .before .before .before .before .before .before .before .before .before .write-components .ensures .0) (components-long t fits) in
-    let gates = row-piece (joined (map gateRow (t .gate))) _ components (c .before .before .before .before .before .before .write-gates .ensures .0) (gates-long t fits) in
-    (c .before .before .write-loads .ensures .0 ∙ gates .due .same, fits)
+    let called = c .before .before .before in
+    let gates = called .before .before .before in
+    let fields = pieces-more (written3 gates) (omega arith) (c .before .before .write-loads .ensures) in
+    (pieces-done fields (omega arith) .holds, fits (start3 gates))
 
 pub write-image-spec : {M : Type 1} → statement M
 write-image-spec =
     tie.close
     (tie.spec
-    slice-write-image
-    slice-write-image-2
-    slice-write-image-3
-    write-components-requires
-    write-gates-requires
-    write-loads-requires
-    same-length
+    (λ c. search needs)
+    (λ c κs. pieces-room (written0 (start c)) (omega arith))
+    (λ c κs. pieces-room (written1 (c .before .before .before)) (omega arith))
+    (λ c κs. pieces-room (written2 (c .before .before .before)) (omega arith))
+    (λ c κs. pieces-room (written3 (c .before .before .before)) (omega arith))
+    (λ c. search needs)
     returns)

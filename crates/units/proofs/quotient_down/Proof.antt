@@ -5,12 +5,9 @@ use Rattle.units.specs.Rounding.{quotientDown}
 use Rattle.units.proofs.quotient_down.Statement.{statement}
 use Rattle.units.proofs.quotient_down.Tie as tie
 
-div-result : tie.Need-div-result
-div-result c = search needs
-
 returns : tie.Need-returns
 unfolding quotientDown
 returns c = refl
 
 pub quotient-down-spec : {M : Type 1} → statement M
-quotient-down-spec = tie.close (tie.spec div-result returns)
+quotient-down-spec = tie.close (tie.spec (λ c. search needs) returns)

@@ -9,27 +9,18 @@ use borrow.Author.Needs.{needs}
 use Rattle.units.proofs.scale.Statement.{statement}
 use Rattle.units.proofs.scale.Tie as tie
 
+most : (c : tie.Start) → c .args .a * c .args .p ≤ one * one
+most c = mul-le-mul (c .pre .1 .0) (c .pre .1 .1)
+
 mul-result : tie.Need-mul-result
-mul-result c =
-    let most : c .args .a * c .args .p ≤ one * one = mul-le-mul (c .pre .1 .0) (c .pre .1 .1) in
-    record { fits = omega (arith, most) }
+mul-result c = record { fits = omega (arith, most c) }
 
 add-result : tie.Need-add-result
-add-result c =
-    let most : c .args .a * c .args .p ≤ one * one = mul-le-mul (c .pre .1 .0) (c .pre .1 .1) in
-    record { fits = omega (arith, most, c .pre .0) }
-
-cast-result : tie.Need-cast-result
-cast-result c = search needs
-
-div-result : tie.Need-div-result
-div-result c = search needs
+add-result c = record { fits = omega (arith, most c, c .pre .0) }
 
 returns : tie.Need-returns
 unfolding scale
-returns c =
-    let most : c .args .a * c .args .p ≤ one * one = mul-le-mul (c .pre .1 .0) (c .pre .1 .1) in
-    (refl, omega (arith, most, c .pre .0))
+returns c = (refl, omega (arith, most c, c .pre .0))
 
 pub scale-spec : {M : Type 1} → statement M
-scale-spec = tie.close (tie.spec mul-result add-result cast-result div-result returns)
+scale-spec = tie.close (tie.spec mul-result add-result (λ c. search needs) (λ c. search needs) returns)

@@ -1,61 +1,31 @@
--- `study_image::components::write_components` meets its contract. The rows of the components below i are written (`RowsDone`).
-use Prim.Native.Nat.{_-_}
-use mathlib.Core.Path.{_≡_}
-use native.Mathlib.Omega.{arith}
-use lib.ListN.{length}
+-- `study_image::components::write_components` meets its contract. The rows of the components below i are written (`Tabled`).
+use Prim.Native.Nat.{ℕ, _-_}
+use lib.ListN.{getD}
 use borrow.Author.Needs.{needs}
 use Rattle.rules.specs.Limits.{mostComponents}
 use Rattle.study.specs.Zero.{zeroComponent}
-use Rattle.study_image.specs.Places.{componentsAt, componentBytes}
+use Rattle.text.proofs.Pieces.{Tabled, tabled-start, tabled-room, tabled-more, tabled-size, tabled-done}
 use Rattle.study_image.specs.Image.{componentRow}
-use Rattle.study_image.specs.Fits.{ComponentFits}
-use Rattle.study_image.proofs.Rows.{RowsDone, rows-start, rows-room, rows-more, rows-done}
-use Rattle.study_image.proofs.Widths.{component-long}
 use Rattle.study_image.proofs.components.write_components.Statement.{statement}
 use Rattle.study_image.proofs.components.write_components.Tie as tie
 
 abbrev Inv-loop : tie.InvT-loop
-Inv-loop image₀ component i₀ image i = RowsDone ComponentFits componentRow zeroComponent componentBytes mostComponents componentsAt component image₀ image i
+Inv-loop image₀ at component next₀ i₀ image next i = Tabled (λ (k : ℕ). componentRow (getD component k zeroComponent)) mostComponents image₀ at i image next
 
 abbrev μ-loop : tie.MeasureT-loop
-μ-loop image₀ component i₀ image i = mostComponents - i
+μ-loop image₀ at component next₀ i₀ image next i = mostComponents - i
 
-loop-holds : tie.Need-loop-holds Inv-loop μ-loop
-loop-holds c =
-    let all : length (c .before .args .t1) ≡ mostComponents = search needs in
-    rows-start all (omega (arith, c .before .pre))
-
-mul-c : tie.Need-mul-c Inv-loop μ-loop
-mul-c c = omega arith
-
-array-copy-out-c : tie.Need-array-copy-out-c Inv-loop μ-loop
-array-copy-out-c c = c .loop-test .taken
-
-mul-write-component : tie.Need-mul-write-component Inv-loop μ-loop
-mul-write-component c = omega arith
-
-add-write-component : tie.Need-add-write-component Inv-loop μ-loop
-add-write-component c = omega arith
-
-write-component-requires : tie.Need-write-component-requires Inv-loop μ-loop
-write-component-requires c κs = rows-room (c .before .before .before .loop .inv) (c .before .before .loop-test .taken)
-
-add-i : tie.Need-add-i Inv-loop μ-loop
-add-i c = omega arith
-
-loop-less : tie.Need-loop-less Inv-loop μ-loop
-loop-less c = omega arith
+copy-requires : tie.Need-copy-requires Inv-loop μ-loop
+copy-requires c κs =
+    let turn = c .before .before .before .before in
+    rw (c .before .before .component-row .ensures) (tabled-room (turn .before .loop .inv) (turn .loop-test .taken))
 
 loop-again : tie.Need-loop-again Inv-loop μ-loop
 loop-again c =
-    let written = c .before .before .write-component .ensures in
-    rows-more (c .before .before .before .before .before .before .loop .inv) (c .before .before .before .before .before .loop-test .taken) (component-long _) (written .0) (written .1)
-
-same-length : tie.Need-same-length Inv-loop μ-loop
-same-length c = c .before .loop .inv .size
-
-returns : tie.Need-returns Inv-loop μ-loop
-returns c = rows-done (c .before .loop .inv) (c .loop-test .left)
+    let called = c .before .before .before in
+    let turn = called .before .before .before .before in
+    let written = rw (called .before .before .component-row .ensures) at (c .before .before .copy .ensures) in
+    tabled-more (turn .before .loop .inv) (turn .loop-test .taken) written
 
 pub write-components-spec : {M : Type 1} → statement M
 write-components-spec =
@@ -63,14 +33,14 @@ write-components-spec =
     (tie.spec
     Inv-loop
     μ-loop
-    loop-holds
-    mul-c
-    array-copy-out-c
-    mul-write-component
-    add-write-component
-    write-component-requires
-    add-i
-    loop-less
+    (λ c. tabled-start _ _ (c .before .pre))
+    (λ c. search needs)
+    (λ c. c .loop-test .taken)
+    (λ c κs. search needs)
+    (λ c. search needs)
+    copy-requires
+    (λ c. search needs)
+    (λ c. search needs)
     loop-again
-    same-length
-    returns)
+    (λ c. tabled-size (c .before .loop .inv))
+    (λ c. tabled-done (c .before .loop .inv) (c .loop-test .left)))

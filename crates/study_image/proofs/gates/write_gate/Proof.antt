@@ -1,95 +1,78 @@
--- `study_image::gates::write_gate` meets its contract: its numbers and its rows are the pieces.
-use mathlib.Core.Path.{_≡_, _∙_}
+-- `study_image::gates::write_gate` meets its contract: its fields stand one behind the other (`Pieces`).
+use Prim.Native.Nat.{ℕ}
+use mathlib.Core.Path.{_≡_, sym}
+use mathlib.Core.List.{List}
 use native.Mathlib.Omega.{arith}
-use lib.ListN.{length, length-set}
+use lib.ListN.{length}
+use Rattle.rules.specs.Limits.{mostGateInputs}
+use Rattle.text.proofs.Pieces.{Pieces, pieces-start, pieces-room, pieces-more, pieces-done}
+use Rattle.study_image.specs.Image.{gateFields, gateRow}
 use borrow.Author.Needs.{needs}
-use Rattle.rules.specs.Limits.{mostTests}
-use Rattle.study_image.specs.Image.{gateRow}
-use Rattle.study_image.specs.Fits.{GateFits}
-use Rattle.study_image.proofs.Pieces.{first-piece, byte-piece, row-piece}
-use Rattle.study_image.proofs.Widths.{gate-long}
 use Rattle.study_image.proofs.gates.write_gate.Statement.{statement}
 use Rattle.study_image.proofs.gates.write_gate.Tie as tie
 
-slice-write-image : tie.Need-slice-write-image
-slice-write-image c = search needs
+-- the entry, from where the first copy is called and from behind each of the first four
+abbrev start : tie.After-front → tie.Start
+start c =
+    let component = c .before .before .before .before in
+    component .before .before
 
-add-image : tie.Need-add-image
-add-image c = search needs
+abbrev start1 : tie.After-copy → tie.Start
+start1 c = start (c .before)
 
-slice-write-image-2 : tie.Need-slice-write-image-2
-slice-write-image-2 c = simp length-set (omega arith)
+abbrev start2 : tie.After-copy2 → tie.Start
+start2 c = start1 (c .before .before .before .before .before)
 
-slice-aggregate-write-row : tie.Need-slice-aggregate-write-row
-slice-aggregate-write-row c = search needs
+abbrev start3 : tie.After-copy3 → tie.Start
+start3 c = start2 (c .before .before .before .before .before)
 
-add-write-row : tie.Need-add-write-row
-add-write-row c = search needs
+abbrev start4 : tie.After-copy4 → tie.Start
+start4 c = start3 (c .before .before .before .before .before)
 
-write-row-requires : tie.Need-write-row-requires
-write-row-requires c κs =
-    let twelve : length (c .before .before .before .before .before .before .args .g .component) ≡ 12 = search needs in
-    simp length-set (omega (arith, twelve))
+-- the fields below k are written
+abbrev Written : tie.Start → ℕ → List ℕ → ℕ → Type 0
+Written s k d p = Pieces (gateFields (s .args .g)) (s .args .image .now) (s .args .at) k d p
 
-slice-aggregate-write-row-2 : tie.Need-slice-aggregate-write-row-2
-slice-aggregate-write-row-2 c = search needs
+written0 : (s : tie.Start) → Written s 0 (s .args .image .now) (s .args .at)
+unfolding gateRow
+written0 s = pieces-start _ (s .pre)
 
-add-write-row-2 : tie.Need-add-write-row-2
-add-write-row-2 c = search needs
+written1 : (c : tie.After-copy) → Written (start1 c) 1 (c .copy .last .0) (c .copy .result)
+written1 c = pieces-more (written0 (start1 c)) (omega arith) (c .copy .ensures)
 
-write-row-requires-2 : tie.Need-write-row-requires-2
-write-row-requires-2 c κs =
-    let twelve : length (c .before .before .before .before .before .before .before .before .before .before .before .args .g .mask) ≡ 12 = search needs in
-    omega (arith, twelve, simp length-set at (c .before .before .before .before .write-row .kept .1 .0))
+written2 : (c : tie.After-copy2) → Written (start2 c) 2 (c .copy2 .last .0) (c .copy2 .result)
+written2 c = pieces-more (written1 (c .before .before .before .before .before)) (omega arith) (c .copy2 .ensures)
 
-add-image-2 : tie.Need-add-image-2
-add-image-2 c = search needs
+written3 : (c : tie.After-copy3) → Written (start3 c) 3 (c .copy3 .last .0) (c .copy3 .result)
+written3 c = pieces-more (written2 (c .before .before .before .before .before)) (omega arith) (c .copy3 .ensures)
 
-slice-write-image-3 : tie.Need-slice-write-image-3
-slice-write-image-3 c = omega (arith, simp length-set at (c .before .before .before .before .before .before .before .write-row .kept .1 .0), c .before .before .write-row2 .kept .1 .0)
+written4 : (c : tie.After-copy4) → Written (start4 c) 4 (c .copy4 .last .0) (c .copy4 .result)
+written4 c = pieces-more (written3 (c .before .before .before .before .before)) (omega arith) (c .copy4 .ensures)
 
-slice-aggregate-write-row-3 : tie.Need-slice-aggregate-write-row-3
-slice-aggregate-write-row-3 c = search needs
-
-add-write-row-3 : tie.Need-add-write-row-3
-add-write-row-3 c = search needs
-
-write-row-requires-3 : tie.Need-write-row-requires-3
-write-row-requires-3 c κs =
-    let inputs : length (c .before .before .before .before .before .before .before .before .before .before .before .before .before .before .before .before .args .g .input) ≡ 31 = search needs in
-    simp length-set (omega (arith, inputs, simp length-set at (c .before .before .before .before .before .before .before .before .before .write-row .kept .1 .0), c .before .before .before .before .write-row2 .kept .1 .0))
-
-same-length : tie.Need-same-length
-same-length c =
-    omega (arith, simp length-set at (c .before .before .before .before .before .before .before .before .before .before .before .before .write-row .kept .1 .0), c .before .before .before .before .before .before .before .write-row2 .kept .1 .0, simp length-set at (c .before .before .write-row3 .kept .1 .0))
+-- the gate inputs fill their places
+inputs-long : (s : tie.Start) → length (s .args .g .input) ≡ mostGateInputs
+inputs-long s = search needs
 
 returns : tie.Need-returns
 unfolding gateRow
 returns c =
-    let g = c .before .before .before .before .before .before .before .before .before .before .before .before .before .before .before .before .before .before .before .args .g in
-    let fits : GateFits g = record { component = search needs; mask = search needs; input = search needs } in
-    let first = byte-piece (first-piece (c .before .before .before .before .before .before .before .before .before .before .before .before .before .before .before .before .before .before .before .pre) (gate-long g fits)) in
-    let component = row-piece (g .component) mostTests first (c .before .before .before .before .before .before .before .before .before .before .before .before .write-row .ensures) (fits .component) in
-    let mask = row-piece (g .mask) mostTests component (c .before .before .before .before .before .before .before .write-row2 .ensures) (fits .mask) in
-    (c .before .before .write-row3 .ensures ∙ byte-piece mask .due .same, fits)
+    let called = c .before .before .before in
+    let fields = written4 (called .before .before .before .before) in
+    pieces-done (pieces-more fields (omega arith) (c .before .before .copy5 .ensures)) (omega arith)
 
 pub write-gate-spec : {M : Type 1} → statement M
 write-gate-spec =
     tie.close
     (tie.spec
-    slice-write-image
-    add-image
-    slice-write-image-2
-    slice-aggregate-write-row
-    add-write-row
-    write-row-requires
-    slice-aggregate-write-row-2
-    add-write-row-2
-    write-row-requires-2
-    add-image-2
-    slice-write-image-3
-    slice-aggregate-write-row-3
-    add-write-row-3
-    write-row-requires-3
-    same-length
+    (λ c. search needs)
+    (λ c κs. pieces-room (written0 (start c)) (omega arith))
+    (λ c. search needs)
+    (λ c κs. pieces-room (written1 (c .before .before .before .before)) (omega arith))
+    (λ c. search needs)
+    (λ c κs. pieces-room (written2 (c .before .before .before .before)) (omega arith))
+    (λ c. search needs)
+    (λ c κs. pieces-room (written3 (c .before .before .before .before)) (omega arith))
+    (λ c. sym (inputs-long (start4 (c .before .before .before .before))))
+    (λ c κs. pieces-room (written4 (c .before .before .before .before)) (omega arith))
+    (λ c. search needs)
     returns)

@@ -1,61 +1,27 @@
--- `study_image::gates::write_gates` meets its contract. The rows of the gates below i are written (`RowsDone`).
-use Prim.Native.Nat.{_-_}
-use mathlib.Core.Path.{_≡_}
-use native.Mathlib.Omega.{arith}
-use lib.ListN.{length}
+-- `study_image::gates::write_gates` meets its contract. The rows of the gates below i are written (`Tabled`).
+use Prim.Native.Nat.{ℕ, _-_}
+use lib.ListN.{getD}
 use borrow.Author.Needs.{needs}
 use Rattle.rules.specs.Limits.{mostGates}
 use Rattle.study.specs.Places.{noGate}
-use Rattle.study_image.specs.Places.{gatesAt, gateBytes}
+use Rattle.text.proofs.Pieces.{Tabled, tabled-start, tabled-room, tabled-more, tabled-size, tabled-done}
 use Rattle.study_image.specs.Image.{gateRow}
-use Rattle.study_image.specs.Fits.{GateFits}
-use Rattle.study_image.proofs.Rows.{RowsDone, rows-start, rows-room, rows-more, rows-done}
-use Rattle.study_image.proofs.Widths.{gate-long}
 use Rattle.study_image.proofs.gates.write_gates.Statement.{statement}
 use Rattle.study_image.proofs.gates.write_gates.Tie as tie
 
 abbrev Inv-loop : tie.InvT-loop
-Inv-loop image₀ gate i₀ image i = RowsDone GateFits gateRow noGate gateBytes mostGates gatesAt gate image₀ image i
+Inv-loop image₀ at gate next₀ i₀ image next i = Tabled (λ (k : ℕ). gateRow (getD gate k noGate)) mostGates image₀ at i image next
 
 abbrev μ-loop : tie.MeasureT-loop
-μ-loop image₀ gate i₀ image i = mostGates - i
-
-loop-holds : tie.Need-loop-holds Inv-loop μ-loop
-loop-holds c =
-    let all : length (c .before .args .t1) ≡ mostGates = search needs in
-    rows-start all (omega (arith, c .before .pre))
-
-mul-g : tie.Need-mul-g Inv-loop μ-loop
-mul-g c = omega arith
-
-array-copy-out-g : tie.Need-array-copy-out-g Inv-loop μ-loop
-array-copy-out-g c = c .loop-test .taken
-
-mul-write-gate : tie.Need-mul-write-gate Inv-loop μ-loop
-mul-write-gate c = omega arith
-
-add-write-gate : tie.Need-add-write-gate Inv-loop μ-loop
-add-write-gate c = omega arith
+μ-loop image₀ at gate next₀ i₀ image next i = mostGates - i
 
 write-gate-requires : tie.Need-write-gate-requires Inv-loop μ-loop
-write-gate-requires c κs = rows-room (c .before .before .before .loop .inv) (c .before .before .loop-test .taken)
-
-add-i : tie.Need-add-i Inv-loop μ-loop
-add-i c = omega arith
-
-loop-less : tie.Need-loop-less Inv-loop μ-loop
-loop-less c = omega arith
+write-gate-requires c κs = tabled-room (c .before .before .before .loop .inv) (c .before .before .loop-test .taken)
 
 loop-again : tie.Need-loop-again Inv-loop μ-loop
 loop-again c =
-    let written = c .before .before .write-gate .ensures in
-    rows-more (c .before .before .before .before .before .before .loop .inv) (c .before .before .before .before .before .loop-test .taken) (gate-long _ (written .1)) (written .0) (written .1)
-
-same-length : tie.Need-same-length Inv-loop μ-loop
-same-length c = c .before .loop .inv .size
-
-returns : tie.Need-returns Inv-loop μ-loop
-returns c = rows-done (c .before .loop .inv) (c .loop-test .left)
+    let turn = c .before .before .before .before .before in
+    tabled-more (turn .before .loop .inv) (turn .loop-test .taken) (c .before .before .write-gate .ensures)
 
 pub write-gates-spec : {M : Type 1} → statement M
 write-gates-spec =
@@ -63,14 +29,12 @@ write-gates-spec =
     (tie.spec
     Inv-loop
     μ-loop
-    loop-holds
-    mul-g
-    array-copy-out-g
-    mul-write-gate
-    add-write-gate
+    (λ c. tabled-start _ _ (c .before .pre))
+    (λ c. search needs)
+    (λ c. c .loop-test .taken)
     write-gate-requires
-    add-i
-    loop-less
+    (λ c. search needs)
+    (λ c. search needs)
     loop-again
-    same-length
-    returns)
+    (λ c. tabled-size (c .before .loop .inv))
+    (λ c. tabled-done (c .before .loop .inv) (c .loop-test .left)))

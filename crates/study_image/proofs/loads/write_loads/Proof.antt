@@ -1,61 +1,31 @@
--- `study_image::loads::write_loads` meets its contract. The rows of the loads below j are written (`RowsDone`).
-use Prim.Native.Nat.{_-_}
-use mathlib.Core.Path.{_≡_}
-use native.Mathlib.Omega.{arith}
-use lib.ListN.{length}
+-- `study_image::loads::write_loads` meets its contract. The rows of the loads below j are written (`Tabled`).
+use Prim.Native.Nat.{ℕ, _-_}
+use lib.ListN.{getD}
 use borrow.Author.Needs.{needs}
 use Rattle.rules.specs.Limits.{mostLoads}
 use Rattle.study.specs.Zero.{zeroLoad}
-use Rattle.study_image.specs.Places.{loadsAt, loadBytes}
+use Rattle.text.proofs.Pieces.{Tabled, tabled-start, tabled-room, tabled-more, tabled-size, tabled-done}
 use Rattle.study_image.specs.Image.{loadRow}
-use Rattle.study_image.specs.Fits.{LoadFits}
-use Rattle.study_image.proofs.Rows.{RowsDone, rows-start, rows-room, rows-more, rows-done}
-use Rattle.study_image.proofs.Widths.{load-long}
 use Rattle.study_image.proofs.loads.write_loads.Statement.{statement}
 use Rattle.study_image.proofs.loads.write_loads.Tie as tie
 
 abbrev Inv-loop : tie.InvT-loop
-Inv-loop image₀ load j₀ image j = RowsDone LoadFits loadRow zeroLoad loadBytes mostLoads loadsAt load image₀ image j
+Inv-loop image₀ at load next₀ j₀ image next j = Tabled (λ (k : ℕ). loadRow (getD load k zeroLoad)) mostLoads image₀ at j image next
 
 abbrev μ-loop : tie.MeasureT-loop
-μ-loop image₀ load j₀ image j = mostLoads - j
+μ-loop image₀ at load next₀ j₀ image next j = mostLoads - j
 
-loop-holds : tie.Need-loop-holds Inv-loop μ-loop
-loop-holds c =
-    let all : length (c .before .args .t1) ≡ mostLoads = search needs in
-    rows-start all (omega (arith, c .before .pre))
-
-mul-l : tie.Need-mul-l Inv-loop μ-loop
-mul-l c = omega arith
-
-array-copy-out-l : tie.Need-array-copy-out-l Inv-loop μ-loop
-array-copy-out-l c = c .loop-test .taken
-
-mul-write-load : tie.Need-mul-write-load Inv-loop μ-loop
-mul-write-load c = omega arith
-
-add-write-load : tie.Need-add-write-load Inv-loop μ-loop
-add-write-load c = omega arith
-
-write-load-requires : tie.Need-write-load-requires Inv-loop μ-loop
-write-load-requires c κs = rows-room (c .before .before .before .loop .inv) (c .before .before .loop-test .taken)
-
-add-j : tie.Need-add-j Inv-loop μ-loop
-add-j c = omega arith
-
-loop-less : tie.Need-loop-less Inv-loop μ-loop
-loop-less c = omega arith
+copy-requires : tie.Need-copy-requires Inv-loop μ-loop
+copy-requires c κs =
+    let turn = c .before .before .before .before in
+    rw (c .before .before .load-row .ensures) (tabled-room (turn .before .loop .inv) (turn .loop-test .taken))
 
 loop-again : tie.Need-loop-again Inv-loop μ-loop
 loop-again c =
-    let written = c .before .before .write-load .ensures in
-    rows-more (c .before .before .before .before .before .before .loop .inv) (c .before .before .before .before .before .loop-test .taken) (load-long _) (written .0) (written .1)
-
-same-length : tie.Need-same-length Inv-loop μ-loop
-same-length c = c .before .loop .inv .size
-
-returns : tie.Need-returns Inv-loop μ-loop
-returns c = rows-done (c .before .loop .inv) (c .loop-test .left)
+    let called = c .before .before .before in
+    let turn = called .before .before .before .before in
+    let written = rw (called .before .before .load-row .ensures) at (c .before .before .copy .ensures) in
+    tabled-more (turn .before .loop .inv) (turn .loop-test .taken) written
 
 pub write-loads-spec : {M : Type 1} → statement M
 write-loads-spec =
@@ -63,14 +33,14 @@ write-loads-spec =
     (tie.spec
     Inv-loop
     μ-loop
-    loop-holds
-    mul-l
-    array-copy-out-l
-    mul-write-load
-    add-write-load
-    write-load-requires
-    add-j
-    loop-less
+    (λ c. tabled-start _ _ (c .before .pre))
+    (λ c. search needs)
+    (λ c. c .loop-test .taken)
+    (λ c κs. search needs)
+    (λ c. search needs)
+    copy-requires
+    (λ c. search needs)
+    (λ c. search needs)
     loop-again
-    same-length
-    returns)
+    (λ c. tabled-size (c .before .loop .inv))
+    (λ c. tabled-done (c .before .loop .inv) (c .loop-test .left)))

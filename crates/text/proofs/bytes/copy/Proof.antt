@@ -1,4 +1,4 @@
--- `text::bytes::copy` meets its contract. The bytes below k are written (`Writing`).
+-- `text::bytes::copy` meets its contract. The bytes below k are written (`Writing`), and those from k on are still to come: their number falls.
 use Prim.Native.Nat.{_-_}
 use mathlib.Core.Path.{refl}
 use lib.ListN.{length}
@@ -13,32 +13,16 @@ Inv-loop out₀ at bytes place₀ k₀ out place k = Writing bytes out₀ at k o
 abbrev μ-loop : tie.MeasureT-loop
 μ-loop out₀ at bytes place₀ k₀ out place k = length bytes - k
 
-loop-holds : tie.Need-loop-holds Inv-loop μ-loop
-loop-holds c = writing-start (c .pre .fits)
-
-shared-slice-read-out : tie.Need-shared-slice-read-out Inv-loop μ-loop
-shared-slice-read-out c = search needs
-
 slice-write-out : tie.Need-slice-write-out Inv-loop μ-loop
 slice-write-out c = writing-room (c .before .before .loop .inv) (c .before .loop-test .taken)
-
-add-place : tie.Need-add-place Inv-loop μ-loop
-add-place c = search needs
-
-add-k : tie.Need-add-k Inv-loop μ-loop
-add-k c = search needs
-
-loop-less : tie.Need-loop-less Inv-loop μ-loop
-loop-less c = search needs
 
 loop-again : tie.Need-loop-again Inv-loop μ-loop
 loop-again c = writing-more (c .before .before .loop .inv) (c .before .loop-test .taken) refl
 
-same-length : tie.Need-same-length Inv-loop μ-loop
-same-length c = c .before .loop .inv .due .size
-
 returns : tie.Need-returns Inv-loop μ-loop
-returns c = record { holds = writing-done (c .before .loop .inv) (c .loop-test .left); behind = writing-end (c .before .loop .inv) (c .loop-test .left) }
+returns c =
+    let all = c .before .loop .inv in
+    record { holds = writing-done all (c .loop-test .left); behind = writing-end all (c .loop-test .left) }
 
 pub copy-spec : {M : Type 1} → statement M
 copy-spec =
@@ -46,12 +30,12 @@ copy-spec =
     (tie.spec
     Inv-loop
     μ-loop
-    loop-holds
-    shared-slice-read-out
+    (λ c. writing-start (c .pre .fits))
+    (λ c. search needs)
     slice-write-out
-    add-place
-    add-k
-    loop-less
+    (λ c. search needs)
+    (λ c. search needs)
+    (λ c. search needs)
     loop-again
-    same-length
+    (λ c. c .before .loop .inv .due .size)
     returns)

@@ -2,8 +2,9 @@
 -- the last digit and that digit.
 use mathlib.Core.Path.{sym}
 use native.Mathlib.Omega.{arith}
-use Rattle.text.proofs.Decimals.{decimal-one, decimal-tens}
-use Rattle.text.proofs.Pieces.{pieces-start, pieces-room, pieces-more, pieces-done}
+use mathlib.Core.List.{List}
+use Rattle.text.proofs.Decimals.{decimal-one, tens, decimal-tens}
+use Rattle.text.proofs.Pieces.{Pieces, pieces-start, pieces-room, pieces-more, pieces-done}
 use borrow.Author.Needs.{needs}
 use Prim.Native.Nat.{ℕ, _<_}
 use borrow.Fn.Kinds.{In}
@@ -28,49 +29,51 @@ abbrev claims : ℕ → decimal-lts.Claims
 claims t = (digit-reads.Asked, digit-reads.Learnt, under-t t, decimal.Post)
 
 module _ (t : ℕ) where
-  cast-digit : decimal-lts.Need-cast-digit (claims t) (at t) decimal.Post
-  cast-digit c = search needs
+  abbrev start : decimal-lts.Else1 (claims t) (at t) decimal.Post → decimal-lts.Start (claims t) (at t) decimal.Post
+  start c = c .before .before
+
+  -- of a number of more digits than one, the pieces below k are written
+  abbrev Written : decimal-lts.Start (claims t) (at t) decimal.Post → ℕ → List ℕ → ℕ → Type 0
+  Written s k d p = Pieces (tens (s .args .n)) (s .args .out .now) (s .args .at) k d p
+
+  begun : (c : decimal-lts.Else1 (claims t) (at t) decimal.Post) → Written (start c) 0 (start c .args .out .now) (start c .args .at)
+  begun c = pieces-start _ (rw (decimal-tens (start c .args .n) (c .if1 .left)) at (start c .pre .1))
+
+  front : (c : decimal-lts.After-decimal (claims t) (at t) decimal.Post) → Written (start (c .before .before)) 1 (c .decimal .last .0) (c .decimal .result)
+  front c = pieces-more (begun (c .before .before)) (omega arith) (c .decimal .ensures)
 
   digit-requires : decimal-lts.Need-digit-requires (claims t) (at t) decimal.Post
-  digit-requires c κs = (rw (decimal-one _ (c .before .if1 .taken)) (c .before .before .before .pre .1), c .before .if1 .taken)
-
-  same-length : decimal-lts.Need-same-length (claims t) (at t) decimal.Post
-  same-length c = search needs
+  digit-requires c κs =
+      let one = c .before .if1 .taken in
+      (rw (decimal-one _ one) (c .before .before .before .pre .1), one)
 
   returns : decimal-lts.Need-returns (claims t) (at t) decimal.Post
-  returns c = rw (sym (decimal-one _ (c .before .before .before .before .if1 .taken))) (c .before .before .digit .ensures)
+  returns c = rw (sym (decimal-one _ (c .before .before .before .before .if1 .taken))) (search)
 
   decimal-requires : decimal-lts.Need-decimal-requires (claims t) (at t) decimal.Post
-  decimal-requires c κs =
-      let start = c .before .before .before in
-      let more = c .before .if1 .left in
-      let written0 = pieces-start _ (rw (decimal-tens (start .args .n) more) at (start .pre .1)) in
-      (omega (arith, start .pre .0, more), pieces-room written0 (omega arith))
-
-  cast-digit-2 : decimal-lts.Need-cast-digit-2 (claims t) (at t) decimal.Post
-  cast-digit-2 c = search needs
+  decimal-requires c κs = (omega (arith, start (c .before) .pre .0, c .before .if1 .left), pieces-room (begun (c .before)) (omega arith))
 
   digit-requires-2 : decimal-lts.Need-digit-requires-2 (claims t) (at t) decimal.Post
-  digit-requires-2 c κs =
-      let start = c .before .before .before .before .before .before .before in
-      let more = c .before .before .before .before .before .if1 .left in
-      let written0 = pieces-start _ (rw (decimal-tens (start .args .n) more) at (start .pre .1)) in
-      let written1 = pieces-more written0 (omega arith) (c .before .before .before .decimal .ensures) in
-      (pieces-room written1 (omega arith), omega arith)
-
-  same-length-2 : decimal-lts.Need-same-length-2 (claims t) (at t) decimal.Post
-  same-length-2 c = search needs
+  digit-requires-2 c κs = (pieces-room (front (c .before .before .before)) (omega arith), omega arith)
 
   returns-2 : decimal-lts.Need-returns-2 (claims t) (at t) decimal.Post
   returns-2 c =
-      let start = c .before .before .before .before .before .before .before .before .before .before in
-      let more = c .before .before .before .before .before .before .before .before .if1 .left in
-      let written0 = pieces-start _ (rw (decimal-tens (start .args .n) more) at (start .pre .1)) in
-      let written1 = pieces-more written0 (omega arith) (c .before .before .before .before .before .before .decimal .ensures) in
-      let written2 = pieces-more written1 (omega arith) (c .before .before .digit2 .ensures) in
-      rw (decimal-tens (start .args .n) more) (pieces-done written2 (omega arith))
+      let called = c .before .before .before in
+      let tenth = called .before .before .before in
+      let more = tenth .before .before in
+      let both = pieces-more (front tenth) (omega arith) (c .before .before .digit2 .ensures) in
+      rw (decimal-tens (start more .args .n) (more .if1 .left)) (pieces-done both (omega arith))
 
 pub +decimal-spec : {M : Type 1} → statement M
 +decimal-spec =
     close μ
-    λ t. decimal-lts.spec (claims t) (at t) decimal.Post (cast-digit t) (digit-requires t) (same-length t) (returns t) (decimal-requires t) (cast-digit-2 t) (digit-requires-2 t) (same-length-2 t) (returns-2 t)
+    λ t. decimal-lts.spec (claims t) (at t) decimal.Post
+    (λ c. search needs)
+    (digit-requires t)
+    (λ c. search needs)
+    (returns t)
+    (decimal-requires t)
+    (λ c. search needs)
+    (digit-requires-2 t)
+    (λ c. search needs)
+    (returns-2 t)
