@@ -36,9 +36,9 @@ use check_tools::hexadecimal::byte_at;
 use check_tools::hexadecimal::number_at;
 use check_tools::numbers;
 use check_tools::show::show;
-use study::Outcome;
+use planning::Outcome;
 use study::Study;
-use study::StudyAnswer;
+use planning::StudyAnswer;
 ghost use Rattle.io.specs.Counts.{Counts};
 
 // The number by which a call was refused, and 0 for one that was done.

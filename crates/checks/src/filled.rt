@@ -6,8 +6,8 @@ use check_tools::places::front_count;
 use check_tools::places::show_filled;
 use check_tools::places::untouched_places;
 use planning::Listing;
-use planning::PathsBounded;
-use study::Outcome;
+use planning::CountAnswer;
+use planning::Outcome;
 use study::Study;
 ghost use Prim.Native.Nat.{_≤_};
 ghost use lib.ListN.{length};
@@ -19,13 +19,13 @@ struct Filled {
 }
 
 // What a call for the bounds of paths answers.
-fn paths_bounded(answer: PathsBounded) -> Filled {
+fn paths_bounded(answer: CountAnswer) -> Filled {
     match answer {
-        PathsBounded::Bounded(paths) => Filled {
+        CountAnswer::Count(paths) => Filled {
             refusal: 0,
             count: paths,
         },
-        PathsBounded::Refused(number) => Filled {
+        CountAnswer::Refused(number) => Filled {
             refusal: number,
             count: 0,
         },

@@ -2,15 +2,15 @@
 use check_tools::numbers;
 use planning::Caidi;
 use planning::FiguresAnswer;
-use planning::LoadBounded;
+use planning::BoundsAnswer;
 use study::Study;
 
 // Shows a refusal, 0 for none, and the two bounds of a load on a line.
 pub fn bound_load(study: Study, load: usize) {
     let answer = planning::load_bounds(study, load);
     match answer {
-        LoadBounded::Bounds(pair) => numbers::three(0, pair.lower, pair.upper),
-        LoadBounded::Refused(number) => numbers::three(number as u64, 0, 0),
+        BoundsAnswer::Bounds(pair) => numbers::three(0, pair.lower, pair.upper),
+        BoundsAnswer::Refused(number) => numbers::three(number as u64, 0, 0),
     }
 }
 

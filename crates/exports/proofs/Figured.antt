@@ -12,11 +12,10 @@ use Rattle.soundness.specs.Check.{sound}
 use Rattle.answers.specs.declared.figures.Caidi.{Caidi}
 use Rattle.answers.specs.declared.figures.Caidi.the-variants.{Bounds, NotStated}
 use Rattle.answers.specs.declared.figures.FiguresAnswer.the-variants.{Refused}
-use Rattle.evaluation.proofs.Figured.{figures-refused}
-use Rattle.evaluation.proofs.Listed.{room-kept}
-use Rattle.planning.specs.Figures.{figuresGiven}
-use Rattle.planning.proofs.FigureCalls.{figures-sound}
-use Rattle.exports.specs.Figures.{figurePlaces, placesFault, threeFault, threeFigures, caidiRow}
+use Rattle.answers.proofs.Answered.{answered-refused}
+use Rattle.rules.proofs.Rows.{room-kept}
+use Rattle.planning.specs.Figures.{figuresFault, figuresGiven}
+use Rattle.exports.specs.Figures.{figurePlaces, placesFault, figuresInFault, figuresIn, caidiRow}
 
 -- CAIDI takes two places or none
 pub caidi-short : (caidi : Caidi) → length (caidiRow caidi) ≤ 2
@@ -31,9 +30,9 @@ places-is t places fault unsound room e is-unsound is-room = rw (first-last, ←
 
 module _ (t : Study) (places fault : ℕ) (is-fault : fault ≡ placesFault t places) where
   -- 16 and 18 come before 19
-  pub three-refused : (fault ≡ 0 → ⊥) → Refused fault ≡ threeFigures t places
-  unfolding threeFigures threeFault firstBreach
-  three-refused some = rw (← is-fault, first-some fault _ some) (figures-refused _ _ some)
+  pub figures-refused-in : (fault ≡ 0 → ⊥) → Refused fault ≡ figuresIn t places
+  unfolding figuresIn figuresInFault firstBreach
+  figures-refused-in some = rw (← is-fault, first-some fault _ some) (sym (answered-refused Refused _ _ some))
 
   module _ (none : fault ≡ 0) where
     both-kept : Neither (unsoundFault (sound t)) (firstBreach (roomFault figurePlaces places ∷ []))
@@ -44,6 +43,6 @@ module _ (t : Study) (places fault : ℕ) (is-fault : fault ≡ placesFault t pl
     places-room = room-kept figurePlaces places (list-kept _ _ (both-kept .right) .left)
 
     -- without either, the call's own answer stands
-    pub three-given : figuresGiven t ≡ threeFigures t places
-    unfolding threeFigures threeFault firstBreach figuresGiven
-    three-given = rw (first-next _ _ (sym is-fault ∙ none), first-last, figures-sound t (both-kept .left)) refl
+    pub figures-given-in : figuresGiven t ≡ figuresIn t places
+    unfolding figuresIn figuresInFault firstBreach figuresGiven figuresFault
+    figures-given-in = rw (first-next _ _ (sym is-fault ∙ none), first-next _ _ (both-kept .left), first-last) refl

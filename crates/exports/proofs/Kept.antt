@@ -18,7 +18,7 @@ use Rattle.study.specs.Zero.{zeroStudy}
 use Rattle.soundness.specs.Check.{frontFault, sound}
 use Rattle.study_image.specs.Places.{imageBytes}
 use Rattle.study_image.specs.Image.{studyIn}
-use Rattle.evaluation.proofs.Listed.{room-kept}
+use Rattle.rules.proofs.Rows.{room-kept}
 use Rattle.answers.specs.Numbers.{refusalOf}
 use Rattle.editing.specs.Edits.{edited}
 use Rattle.exports.specs.Images.{openFault, Keeps, Opens, Edits}

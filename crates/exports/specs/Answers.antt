@@ -3,12 +3,10 @@ use Prim.Native.Nat.{ℕ}
 use lib.IntN.{ℤ, pos, negℤ}
 use Rattle.answers.specs.declared.counts.Listing.{Listing}
 use Rattle.answers.specs.declared.counts.Listing.the-variants.{Listed, Refused as NotListed}
-use Rattle.planning.specs.declared.bounds.PathsBounded.{PathsBounded}
-use Rattle.planning.specs.declared.bounds.PathsBounded.the-variants.{Bounded, Refused as NotBounded}
-use Rattle.planning.specs.declared.loads.LoadBounded.{LoadBounded}
-use Rattle.planning.specs.declared.loads.LoadBounded.the-variants.{Bounds, Refused as NoBounds}
-use Rattle.report_text.specs.declared.reporting.ReportAnswer.{ReportAnswer}
-use Rattle.report_text.specs.declared.reporting.ReportAnswer.the-variants.{Written, Refused as NotWritten}
+use Rattle.answers.specs.declared.counts.CountAnswer.{CountAnswer}
+use Rattle.answers.specs.declared.counts.CountAnswer.the-variants.{Count, Refused as NoCount}
+use Rattle.answers.specs.declared.bounds.BoundsAnswer.{BoundsAnswer}
+use Rattle.answers.specs.declared.bounds.BoundsAnswer.the-variants.{Bounds, Refused as NoBounds}
 
 -- a refusal by its number, 0 being none
 abbrev pub below : ℕ → ℤ
@@ -18,14 +16,10 @@ abbrev pub listAnswered : Listing → ℤ
 listAnswered (Listed count) = pos (count .paths)
 listAnswered (NotListed number) = below number
 
-abbrev pub pathsAnswered : PathsBounded → ℤ
-pathsAnswered (Bounded paths) = pos paths
-pathsAnswered (NotBounded number) = below number
+abbrev pub countAnswered : CountAnswer → ℤ
+countAnswered (Count number) = pos number
+countAnswered (NoCount number) = below number
 
-abbrev pub lossAnswered : LoadBounded → ℤ
+abbrev pub lossAnswered : BoundsAnswer → ℤ
 lossAnswered (Bounds pair) = pos 0
 lossAnswered (NoBounds number) = below number
-
-abbrev pub reportAnswered : ReportAnswer → ℤ
-reportAnswered (Written size) = pos size
-reportAnswered (NotWritten number) = below number

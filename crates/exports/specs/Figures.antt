@@ -1,4 +1,4 @@
--- What the call for the three figures answers, and what it leaves in the six places that it was lent.
+-- What the call for the figures answers, and what it leaves in the six places that it was lent.
 use Prim.Native.Nat.{ℕ}
 use mathlib.Core.List.{List, [], _∷_, _++_}
 use lib.IntN.{ℤ, pos}
@@ -11,10 +11,13 @@ use Rattle.soundness.specs.Check.{sound}
 use Rattle.answers.specs.declared.bounds.Enclosure.{Enclosure}
 use Rattle.answers.specs.declared.figures.Caidi.{Caidi}
 use Rattle.answers.specs.declared.figures.Caidi.the-variants.{Bounds, NotStated}
-use Rattle.answers.specs.declared.figures.Figures.{Figures as Triple}
+use Rattle.answers.specs.declared.figures.Figures.{Figures as FigureValues}
 use Rattle.answers.specs.declared.figures.FiguresAnswer.{FiguresAnswer}
 use Rattle.answers.specs.declared.figures.FiguresAnswer.the-variants.{Figures, Refused}
-use Rattle.evaluation.specs.Figures.{customersOf, studyFigures, figuresBy}
+use Rattle.answers.specs.Answered.{answered}
+use Rattle.study_model.specs.Model.{modelOf}
+use Rattle.evaluation.specs.Figures.{modelFigures}
+use Rattle.planning.specs.Figures.{customersOf}
 use Rattle.exports.specs.Answers.{below}
 
 abbrev pub figurePlaces : ℕ
@@ -25,13 +28,13 @@ unfoldable pub placesFault : Study → ℕ → ℕ
 placesFault t room = firstBreach (unsoundFault (sound t) ∷ roomFault figurePlaces room ∷ [])
 
 -- then 19
-unfoldable pub threeFault : Study → ℕ → ℕ
+unfoldable pub figuresInFault : Study → ℕ → ℕ
 unfolding placesFault
-threeFault t room = firstBreach (placesFault t room ∷ customersFault (customersOf t) ∷ [])
+figuresInFault t room = firstBreach (placesFault t room ∷ customersFault (customersOf t) ∷ [])
 
-unfoldable pub threeFigures : Study → ℕ → FiguresAnswer
-unfolding figuresBy
-threeFigures t room = figuresBy (threeFault t room) (studyFigures t)
+unfoldable pub figuresIn : Study → ℕ → FiguresAnswer
+unfolding answered
+figuresIn t room = answered Refused (figuresInFault t room) (Figures (modelFigures (modelOf t)))
 
 -- ---- the answer: how many figures are stated
 
@@ -40,7 +43,7 @@ stated (Bounds pair) = 3
 stated NotStated = 2
 
 abbrev pub figuresAnswered : FiguresAnswer → ℤ
-figuresAnswered (Figures three) = pos (stated (three .caidi))
+figuresAnswered (Figures figures) = pos (stated (figures .caidi))
 figuresAnswered (Refused number) = below number
 
 -- ---- the places: a pair for each figure that is stated, and the rest as it was; a refusal leaves them all as they were
@@ -52,9 +55,9 @@ abbrev pub caidiRow : Caidi → List ℕ
 caidiRow (Bounds pair) = pairRow pair
 caidiRow NotStated = []
 
-abbrev pub figuresRow : Triple → List ℕ
-figuresRow three = pairRow (three .saifi) ++ (pairRow (three .saidi) ++ caidiRow (three .caidi))
+abbrev pub figuresRow : FigureValues → List ℕ
+figuresRow figures = pairRow (figures .saifi) ++ (pairRow (figures .saidi) ++ caidiRow (figures .caidi))
 
 abbrev pub figuresWritten : FiguresAnswer → List ℕ → List ℕ
-figuresWritten (Figures three) places = put places 0 (figuresRow three)
+figuresWritten (Figures figures) places = put places 0 (figuresRow figures)
 figuresWritten (Refused number) places = places

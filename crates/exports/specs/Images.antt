@@ -11,7 +11,7 @@ use Rattle.answers.specs.declared.outcome.StudyAnswer.{StudyAnswer}
 use Rattle.study_image.specs.Places.{imageBytes}
 use Rattle.study_image.specs.Image.{imageOf, studyIn}
 use Rattle.answers.specs.Numbers.{refusalOf}
-use Rattle.planning.specs.Bounds.{filled}
+use Rattle.answers.specs.Answered.{filled}
 use Rattle.exports.specs.Answers.{below}
 
 -- a call that keeps a study: what it answers, and what it leaves of a slice

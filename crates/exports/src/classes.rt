@@ -1,8 +1,8 @@
 // The classes of an opened study, and the loss of a load.
-use crate::answers::counted;
-use crate::answers::refusal;
-use crate::answers::refused;
-use planning::LoadBounded;
+use crate::numbers::counted;
+use crate::numbers::refusal;
+use crate::numbers::refused;
+use planning::BoundsAnswer;
 use study_image::read_image;
 ghost use mathlib.Core.Path.{_≡_};
 ghost use lib.IntN.{pos};
@@ -37,12 +37,12 @@ pub extern "C" fn grid_load_bounds(
 {
     let answer = planning::load_bounds(read_image(study), load);
     match answer {
-        LoadBounded::Bounds(pair) => {
+        BoundsAnswer::Bounds(pair) => {
             *lower = pair.lower;
             *upper = pair.upper;
             0
         }
-        LoadBounded::Refused(number) => refused(number),
+        BoundsAnswer::Refused(number) => refused(number),
     }
 }
 

@@ -27,5 +27,6 @@ pub use listing::list_paths;
 pub use loads::load_bounds;
 pub use opening::open;
 pub use paths::path_bounds;
+pub use report_text::empty_report;
 pub use report_text::report;
 pub use study_figures::figures;

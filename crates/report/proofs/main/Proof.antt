@@ -1,22 +1,22 @@
--- `report::main` is safe: a report that was written stands inside the page.
+-- `report::main` is safe: a report that was written stands inside the buffer.
 use Prim.Native.Nat.{_≤_}
 use mathlib.Core.Path.{_≡_, sym}
 use native.Mathlib.Omega.{arith}
 use lib.ListN.{length}
 use lib.Seq.{length-take-le}
-use Rattle.report_text.specs.Report.{sheetBytes}
+use Rattle.report_text.specs.Report.{reportBytes}
 use Rattle.report_text.proofs.Reported.{told-inside}
 use borrow.Author.Needs.{needs}
 use Rattle.report.proofs.main.Statement.{statement}
 use Rattle.report.proofs.main.Tie as tie
 
--- a report that was written stands inside the page, which is as long as it was
+-- a report that was written stands inside the buffer, which is as long as it was
 inside : (c : tie.After-answer) → c .answer .given .0 .0 ≤ length (c .before .before .before .report .last .1 .0)
 inside c =
     let reported = c .before .before .before in
-    let same : length (reported .report .last .1 .0) ≡ sheetBytes = search needs in
-    let sheet = reported .before .before .before .blank-sheet .ensures in
-    omega (arith, told-inside _ _ _ _ (reported .report .ensures .0) (c .answer .given .1), same, sheet)
+    let same : length (reported .report .last .1 .0) ≡ reportBytes = search needs in
+    let whole = reported .before .before .before .empty-report .ensures in
+    omega (arith, told-inside _ _ _ _ (reported .report .ensures .0) (c .answer .given .1), same, whole)
 
 pub main-spec : {M : Type 1} → statement M
 main-spec =

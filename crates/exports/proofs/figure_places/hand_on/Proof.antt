@@ -1,12 +1,12 @@
--- `exports::three_figures::hand_on` meets its contract: each kind of answer by its own clause.
+-- `exports::figure_places::hand_on` meets its contract: each kind of answer by its own clause.
 use mathlib.Core.Path.{sym, ap, _∙_}
 use lib.IntN.{pos}
 use Rattle.answers.specs.declared.figures.FiguresAnswer.{FiguresAnswer}
 use Rattle.exports.specs.Figures.{figuresAnswered, figuresWritten}
 use Rattle.exports.proofs.Signed.{handed}
 use borrow.Author.Needs.{needs}
-use Rattle.exports.proofs.three_figures.hand_on.Statement.{statement}
-use Rattle.exports.proofs.three_figures.hand_on.Tie as tie
+use Rattle.exports.proofs.figure_places.hand_on.Statement.{statement}
+use Rattle.exports.proofs.figure_places.hand_on.Tie as tie
 
 enum-known-answer : tie.Need-enum-known-answer
 enum-known-answer c = search needs

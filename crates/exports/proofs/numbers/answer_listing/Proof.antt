@@ -1,10 +1,10 @@
--- `exports::answers::answer_listing` meets its contract: each kind of answer by its own clause.
+-- `exports::numbers::answer_listing` meets its contract: each kind of answer by its own clause.
 use mathlib.Core.Path.{sym, ap, _∙_}
 use Rattle.exports.specs.Answers.{listAnswered}
 use Rattle.exports.proofs.Signed.{handed}
 use borrow.Author.Needs.{needs}
-use Rattle.exports.proofs.answers.answer_listing.Statement.{statement}
-use Rattle.exports.proofs.answers.answer_listing.Tie as tie
+use Rattle.exports.proofs.numbers.answer_listing.Statement.{statement}
+use Rattle.exports.proofs.numbers.answer_listing.Tie as tie
 
 enum-known-listing : tie.Need-enum-known-listing
 enum-known-listing c = search needs

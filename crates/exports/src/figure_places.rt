@@ -1,6 +1,6 @@
 // The three figures of an opened study, a pair of places each.
-use crate::answers::counted;
-use crate::answers::refused;
+use crate::numbers::counted;
+use crate::numbers::refused;
 use planning::Caidi;
 use planning::Enclosure;
 use planning::Figures;
@@ -16,7 +16,7 @@ ghost use mathlib.Core.Path.{_≡_};
 ghost use lib.ListN.{length};
 ghost use Rattle.lists.specs.Rows.{put};
 ghost use Rattle.study_image.specs.Image.{studyIn};
-ghost use Rattle.exports.specs.Figures.{figurePlaces, placesFault, threeFigures, stated, figuresAnswered};
+ghost use Rattle.exports.specs.Figures.{figurePlaces, placesFault, figuresIn, stated, figuresAnswered};
 ghost use Rattle.exports.specs.Figures.{pairRow, caidiRow, figuresRow, figuresWritten};
 
 const SAIFI_AT: usize = 0;
@@ -90,8 +90,8 @@ fn places_fault(t: Study, places: usize) -> u8
 // Refused by 16, 18, 19, in this order.
 #[no_mangle]
 pub extern "C" fn grid_figures(study: &[u8], figures: &mut [u64]) -> i64
-    ensures { λ r. ⌜ r ≡ figuresAnswered (threeFigures (studyIn (now (study .entry))) (length (now (figures .entry)))) ⌝ }
-    ensures { λ r. ⌜ now (figures .exit) ≡ figuresWritten (threeFigures (studyIn (now (study .entry))) (length (now (figures .entry)))) (now (figures .entry)) ⌝ }
+    ensures { λ r. ⌜ r ≡ figuresAnswered (figuresIn (studyIn (now (study .entry))) (length (now (figures .entry)))) ⌝ }
+    ensures { λ r. ⌜ now (figures .exit) ≡ figuresWritten (figuresIn (studyIn (now (study .entry))) (length (now (figures .entry)))) (now (figures .entry)) ⌝ }
 {
     let t = read_image(study);
     let fault = places_fault(t, figures.len());

@@ -1,14 +1,14 @@
--- `exports::three_figures::grid_figures` meets its contract: 16 and 18 are looked at first; without them the call for the figures decides.
+-- `exports::figure_places::grid_figures` meets its contract: 16 and 18 are looked at first; without them the call for the figures decides.
 use mathlib.Core.Path.{ap, _∙_}
 use lib.ListN.{length}
 use Rattle.study_image.specs.Image.{studyIn}
 use Rattle.answers.specs.declared.figures.FiguresAnswer.{FiguresAnswer}
 use Rattle.exports.specs.Figures.{figuresAnswered, figuresWritten}
-use Rattle.exports.proofs.Figured.{three-refused, places-room, three-given}
+use Rattle.exports.proofs.Figured.{figures-refused-in, places-room, figures-given-in}
 use Rattle.exports.proofs.Signed.{handed}
 use borrow.Author.Needs.{needs}
-use Rattle.exports.proofs.three_figures.grid_figures.Statement.{statement}
-use Rattle.exports.proofs.three_figures.grid_figures.Tie as tie
+use Rattle.exports.proofs.figure_places.grid_figures.Statement.{statement}
+use Rattle.exports.proofs.figure_places.grid_figures.Tie as tie
 
 read-image-requires : tie.Need-read-image-requires
 read-image-requires c κs = search needs
@@ -23,7 +23,7 @@ returns : tie.Need-returns
 returns c =
     let start = c .before .before .before .before .before .before in
     let fault = rw (c .before .before .before .read-image .ensures) at (c .before .before .places-fault .ensures) in
-    let answer = three-refused (studyIn (start .args .study .now)) (length (start .args .figures .now)) _ fault (c .before .if1 .taken) in
+    let answer = figures-refused-in (studyIn (start .args .study .now)) (length (start .args .figures .now)) _ fault (c .before .if1 .taken) in
     (handed _ _ (c .refused .ok) (c .refused .ensures ∙ ap figuresAnswered answer), ap (λ (a : FiguresAnswer). figuresWritten a (start .args .figures .now)) answer)
 
 figures-requires : tie.Need-figures-requires
@@ -43,7 +43,7 @@ returns-2 c =
     let start = c .before .before .before .before .before .before .before .before .before .before in
     let fault = rw (c .before .before .before .before .before .before .before .read-image .ensures) at (c .before .before .before .before .before .before .places-fault .ensures) in
     let given = rw (c .before .before .before .before .before .before .before .read-image .ensures) at (c .before .before .before .before .figures .ensures) in
-    let answer = given ∙ three-given (studyIn (start .args .study .now)) (length (start .args .figures .now)) _ fault (c .before .before .before .before .before .if1 .left) in
+    let answer = given ∙ figures-given-in (studyIn (start .args .study .now)) (length (start .args .figures .now)) _ fault (c .before .before .before .before .before .if1 .left) in
     let handed-over = c .before .before .hand-on .ensures in
     (handed _ _ (c .before .before .hand-on .ok) (handed-over .0 ∙ ap figuresAnswered answer), handed-over .1 ∙ ap (λ (a : FiguresAnswer). figuresWritten a (start .args .figures .now)) answer)
 

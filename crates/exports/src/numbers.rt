@@ -1,12 +1,11 @@
 // What a call answers in C: a count or 0, or the number of its refusal below 0.
+use planning::CountAnswer;
 use planning::Listing;
-use planning::PathsBounded;
-use report_text::ReportAnswer;
-use answers::Outcome;
+use planning::Outcome;
 ghost use mathlib.Core.Path.{_≡_};
 ghost use lib.IntN.{pos};
 ghost use Rattle.answers.specs.Numbers.{refusalOf};
-ghost use Rattle.exports.specs.Answers.{below, listAnswered, pathsAnswered, reportAnswered};
+ghost use Rattle.exports.specs.Answers.{below, listAnswered, countAnswered};
 
 // A count.
 pub fn counted(number: u32) -> i64
@@ -41,20 +40,11 @@ pub fn answer_listing(listing: Listing) -> i64
     }
 }
 
-pub fn answer_paths(answer: PathsBounded) -> i64
-    ensures { λ r. ⌜ r ≡ pathsAnswered answer ⌝ }
+pub fn answer_count(answer: CountAnswer) -> i64
+    ensures { λ r. ⌜ r ≡ countAnswered answer ⌝ }
 {
     match answer {
-        PathsBounded::Bounded(paths) => counted(paths),
-        PathsBounded::Refused(number) => refused(number),
-    }
-}
-
-pub fn answer_report(answer: ReportAnswer) -> i64
-    ensures { λ r. ⌜ r ≡ reportAnswered answer ⌝ }
-{
-    match answer {
-        ReportAnswer::Written(size) => counted(size),
-        ReportAnswer::Refused(number) => refused(number),
+        CountAnswer::Count(number) => counted(number),
+        CountAnswer::Refused(number) => refused(number),
     }
 }

@@ -1,8 +1,8 @@
--- `exports::answers::refused` meets its contract: a byte fits, and so does the number below 0.
+-- `exports::numbers::refused` meets its contract: a byte fits, and so does the number below 0.
 use Rattle.exports.proofs.Signed.{minus-fits, minus-is}
 use borrow.Author.Needs.{needs}
-use Rattle.exports.proofs.answers.refused.Statement.{statement}
-use Rattle.exports.proofs.answers.refused.Tie as tie
+use Rattle.exports.proofs.numbers.refused.Statement.{statement}
+use Rattle.exports.proofs.numbers.refused.Tie as tie
 
 cast-result : tie.Need-cast-result
 cast-result c = search needs

@@ -1,4 +1,4 @@
--- `exports::three_figures::write_figures` meets its contract: three pieces, one behind the other, the last of which may be empty.
+-- `exports::figure_places::write_figures` meets its contract: three pieces, one behind the other, the last of which may be empty.
 use Prim.Native.Nat.{_+_, _≤_}
 use mathlib.Core.Path.{refl, _∙_}
 use mathlib.Core.List.{_++_}
@@ -8,8 +8,8 @@ use Rattle.lists.proofs.Puts.{due-start, due-more}
 use Rattle.exports.specs.Figures.{pairRow, caidiRow, figuresRow}
 use Rattle.exports.proofs.Figured.{caidi-short}
 use borrow.Author.Needs.{needs}
-use Rattle.exports.proofs.three_figures.write_figures.Statement.{statement}
-use Rattle.exports.proofs.three_figures.write_figures.Tie as tie
+use Rattle.exports.proofs.figure_places.write_figures.Statement.{statement}
+use Rattle.exports.proofs.figure_places.write_figures.Tie as tie
 
 write-pair-requires : tie.Need-write-pair-requires
 write-pair-requires c κs = search needs
@@ -27,9 +27,9 @@ returns : tie.Need-returns
 returns c =
     let start = c .before .before .before .before .before .before .before .before .before .before .before .before .before in
     let three = start .args .figures in
-    let room : 0 + length (figuresRow three) ≤ length (start .args .places .now) = omega (arith, caidi-short (three .caidi), start .pre) in
-    let saifi = due-more (pairRow (three .saifi)) (pairRow (three .saidi) ++ caidiRow (three .caidi)) (due-start {x = figuresRow three} room) (c .before .before .before .before .before .before .before .before .before .before .write-pair .ensures) refl in
-    let saidi = due-more (pairRow (three .saidi)) (caidiRow (three .caidi)) saifi (c .before .before .before .before .before .before .write-pair2 .ensures) refl in
+    let room : 0 + length (figuresRow figures) ≤ length (start .args .places .now) = omega (arith, caidi-short (figures .caidi), start .pre) in
+    let saifi = due-more (pairRow (figures .saifi)) (pairRow (figures .saidi) ++ caidiRow (figures .caidi)) (due-start {x = figuresRow figures} room) (c .before .before .before .before .before .before .before .before .before .before .write-pair .ensures) refl in
+    let saidi = due-more (pairRow (figures .saidi)) (caidiRow (figures .caidi)) saifi (c .before .before .before .before .before .before .write-pair2 .ensures) refl in
     let caidi = c .before .before .write-caidi .ensures in
     (caidi .0, caidi .1 ∙ saidi .same)
 

@@ -1,8 +1,8 @@
--- `exports::three_figures::places_fault` meets its contract: 16 is looked at first.
+-- `exports::figure_places::places_fault` meets its contract: 16 is looked at first.
 use Rattle.exports.proofs.Figured.{places-is}
 use borrow.Author.Needs.{needs}
-use Rattle.exports.proofs.three_figures.places_fault.Statement.{statement}
-use Rattle.exports.proofs.three_figures.places_fault.Tie as tie
+use Rattle.exports.proofs.figure_places.places_fault.Statement.{statement}
+use Rattle.exports.proofs.figure_places.places_fault.Tie as tie
 
 is-sound-requires : tie.Need-is-sound-requires
 is-sound-requires c κs = search needs

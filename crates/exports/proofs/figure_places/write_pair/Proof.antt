@@ -1,10 +1,10 @@
--- `exports::three_figures::write_pair` meets its contract: two places, one behind the other.
+-- `exports::figure_places::write_pair` meets its contract: two places, one behind the other.
 use native.Mathlib.Omega.{arith}
 use lib.ListN.{length-set}
 use Rattle.lists.proofs.Puts.{due-start, due-set, due-done}
 use borrow.Author.Needs.{needs}
-use Rattle.exports.proofs.three_figures.write_pair.Statement.{statement}
-use Rattle.exports.proofs.three_figures.write_pair.Tie as tie
+use Rattle.exports.proofs.figure_places.write_pair.Statement.{statement}
+use Rattle.exports.proofs.figure_places.write_pair.Tie as tie
 
 mul-places : tie.Need-mul-places
 mul-places c = search needs

@@ -1,4 +1,4 @@
--- `exports::three_figures::write_caidi` meets its contract: each kind of CAIDI by its own clause.
+-- `exports::figure_places::write_caidi` meets its contract: each kind of CAIDI by its own clause.
 use Prim.Native.Nat.{_+_, _≤_}
 use mathlib.Core.Path.{sym, ap, _∙_}
 use mathlib.Core.List.{[]}
@@ -9,8 +9,8 @@ use Rattle.lists.proofs.Puts.{due-start, due-done}
 use Rattle.answers.specs.declared.figures.Caidi.{Caidi}
 use Rattle.exports.specs.Figures.{stated, caidiRow}
 use borrow.Author.Needs.{needs}
-use Rattle.exports.proofs.three_figures.write_caidi.Statement.{statement}
-use Rattle.exports.proofs.three_figures.write_caidi.Tie as tie
+use Rattle.exports.proofs.figure_places.write_caidi.Statement.{statement}
+use Rattle.exports.proofs.figure_places.write_caidi.Tie as tie
 
 enum-known-caidi : tie.Need-enum-known-caidi
 enum-known-caidi c = search needs

@@ -1,10 +1,10 @@
--- `exports::answers::counted` meets its contract: 32 bits fit the 63 of a count.
+-- `exports::numbers::counted` meets its contract: 32 bits fit the 63 of a count.
 use native.Mathlib.Omega.{arith}
 use mir.Syntax.{w64}
 use mir.ValLaws.{toZ-pos}
 use borrow.Author.Needs.{needs}
-use Rattle.exports.proofs.answers.counted.Statement.{statement}
-use Rattle.exports.proofs.answers.counted.Tie as tie
+use Rattle.exports.proofs.numbers.counted.Statement.{statement}
+use Rattle.exports.proofs.numbers.counted.Tie as tie
 
 cast-result : tie.Need-cast-result
 cast-result c = search needs
