@@ -25,12 +25,17 @@ same-length c = search needs
 
 returns : tie.Need-returns
 returns c =
-    let start = c .before .before .before .before .before .before .before .before .before .before .before .before .before in
-    let three = start .args .figures in
+    let last = c .before .before in
+    let second = last .before .before .before .before in
+    let first = second .before .before .before .before in
+    let start = first .before .before .before in
+    let figures = start .args .figures in
     let room : 0 + length (figuresRow figures) ≤ length (start .args .places .now) = omega (arith, caidi-short (figures .caidi), start .pre) in
-    let saifi = due-more (pairRow (figures .saifi)) (pairRow (figures .saidi) ++ caidiRow (figures .caidi)) (due-start {x = figuresRow figures} room) (c .before .before .before .before .before .before .before .before .before .before .write-pair .ensures) refl in
-    let saidi = due-more (pairRow (figures .saidi)) (caidiRow (figures .caidi)) saifi (c .before .before .before .before .before .before .write-pair2 .ensures) refl in
-    let caidi = c .before .before .write-caidi .ensures in
+    let saifi =
+    due-more (pairRow (figures .saifi)) (pairRow (figures .saidi) ++ caidiRow (figures .caidi)) (due-start {x = figuresRow figures} room)
+    (first .write-pair .ensures) refl in
+    let saidi = due-more (pairRow (figures .saidi)) (caidiRow (figures .caidi)) saifi (second .write-pair2 .ensures) refl in
+    let caidi = last .write-caidi .ensures in
     (caidi .0, caidi .1 ∙ saidi .same)
 
 pub write-figures-spec : {M : Type 1} → statement M

@@ -2,7 +2,7 @@
 use mathlib.Core.Path.{sym, ap, _∙_}
 use Rattle.study_image.specs.Image.{studyIn}
 use Rattle.study_image.proofs.ImageBack.{image-back}
-use Rattle.planning.proofs.Paired.{filled-kept, filled-done}
+use Rattle.answers.proofs.Answered.{filled-refused, filled-done}
 use Rattle.exports.specs.Answers.{below}
 use Rattle.exports.proofs.Kept.{open-is, open-room}
 use Rattle.exports.proofs.Signed.{handed}
@@ -30,7 +30,7 @@ returns c =
     rw (← fault)
     (record {
       answered = handed _ _ (c .refused .ok) (c .refused .ensures);
-      written = filled-kept _ _ _ some;
+      written = sym (filled-refused _ _ _ some);
       held = λ none. absurd (some none);
     })
 
@@ -52,7 +52,7 @@ returns-2 c =
     let wrote = c .before .before .write-image .ensures in
     record {
       answered = ap below (sym none);
-      written = wrote .0 ∙ filled-done _ _ _ none;
+      written = wrote .0 ∙ sym (filled-done _ _ _ none);
       held = λ _. ap studyIn (wrote .0) ∙ image-back _ _ (wrote .1) room;
     }
 
