@@ -25,10 +25,9 @@ ghost use Rattle.planning.specs.Bounds.{pairBreach, classesFault, classe
 fn classes_breach(study: Study, lower: usize, upper: usize) -> u8
     ensures { λ r. ⌜ r ≡ pairBreach study classPlaces lower upper ⌝ }
 {
-    first(
-        unsound_fault(is_sound(study)),
-        pair_fault(CLASS_PLACES, lower, upper),
-    )
+    let unsound = unsound_fault(is_sound(study));
+    let room = pair_fault(CLASS_PLACES, lower, upper);
+    first(unsound, room)
 }
 
 // Bounds for the classes of a sound study, in slices that have the room.
