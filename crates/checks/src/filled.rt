@@ -1,7 +1,7 @@
 // Makes the calls that fill lent space, and shows what each answers and what it wrote.
-use check_tools::entries::front_size;
-use check_tools::entries::page;
-use check_tools::entries::show_listing;
+use check_tools::listing::front_size;
+use check_tools::listing::filled_list;
+use check_tools::listing::show_listing;
 use check_tools::places::front_count;
 use check_tools::places::show_filled;
 use check_tools::places::untouched_places;
@@ -86,7 +86,7 @@ fn list_into(study: Study, lent: &mut [u8], fill: u8, sums: bool)
 
 // Lists the paths of a study into so many bytes that hold a value, and shows it all.
 pub fn list(study: Study, size: usize, fill: u8, sums: bool) {
-    let mut room = page(fill);
+    let mut room = filled_list(fill);
     let end = front_size(&room, size);
     list_into(study, &mut room[..end], fill, sums);
 }

@@ -5,6 +5,7 @@ mod reading;
 mod writing;
 
 pub use layout::BLANK;
+pub use layout::CLASS_BYTES;
 pub use layout::CLASS_PLACES;
 pub use layout::Class;
 pub use layout::LIST_BYTES;

@@ -1,9 +1,9 @@
--- `check_tools::entries::held` meets its contract: so far no more bytes count than were looked at.
+-- `check_tools::listing::held` meets its contract: so far no more bytes count than were looked at.
 use Prim.Native.Nat.{_≤_, _-_}
 use lib.ListN.{length}
 use borrow.Author.Needs.{needs}
-use Rattle.check_tools.proofs.entries.held.Statement.{statement}
-use Rattle.check_tools.proofs.entries.held.Tie as tie
+use Rattle.check_tools.proofs.listing.held.Statement.{statement}
+use Rattle.check_tools.proofs.listing.held.Tie as tie
 
 abbrev Inv-loop : tie.InvT-loop
 Inv-loop bytes value count₀ i₀ count i = (count ≤ i) × (i ≤ length bytes)

@@ -1,9 +1,9 @@
--- `check_tools::entries::show_entries` is safe and ends: each byte leaves fewer.
+-- `check_tools::listing::show_entries` is safe and ends: each byte leaves fewer.
 use Prim.Native.Nat.{_-_}
 use lib.ListN.{length}
 use borrow.Author.Needs.{needs}
-use Rattle.check_tools.proofs.entries.show_entries.Statement.{statement}
-use Rattle.check_tools.proofs.entries.show_entries.Tie as tie
+use Rattle.check_tools.proofs.listing.show_entries.Statement.{statement}
+use Rattle.check_tools.proofs.listing.show_entries.Tie as tie
 
 abbrev Inv-loop : tie.InvT-loop
 Inv-loop list components i₀ i = Unit {0}

@@ -1,10 +1,10 @@
--- `check_tools::entries::list_size` meets its contract: four bytes times a byte and one more fit in eight.
+-- `check_tools::listing::list_size` meets its contract: four bytes times a byte and one more fit in eight.
 use Prim.Native.Nat.{_+_, _≤_}
 use native.Mathlib.Omega.{arith}
 use native.Mathlib.Nat.{mul-le-mul}
 use borrow.Author.Needs.{needs}
-use Rattle.check_tools.proofs.entries.list_size.Statement.{statement}
-use Rattle.check_tools.proofs.entries.list_size.Tie as tie
+use Rattle.check_tools.proofs.listing.list_size.Statement.{statement}
+use Rattle.check_tools.proofs.listing.list_size.Tie as tie
 
 mul-front-size : tie.Need-mul-front-size
 mul-front-size c =

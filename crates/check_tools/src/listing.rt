@@ -3,17 +3,20 @@
 use crate::hexadecimal::byte_at;
 use crate::numbers;
 use crate::numbers::one_if;
-use rules::BLANK;
+use entries::BLANK;
+use entries::CLASS_BYTES;
+use entries::LIST_BYTES;
 ghost use Prim.Native.Nat.{_≤_};
 ghost use mathlib.Core.Path.{_≡_};
 ghost use lib.ListN.{length};
+ghost use Rattle.entries.specs.Entries.{listBytes};
 ghost use Rattle.io.specs.Counts.{Counts};
 
-// Room for the longest list that there is, 4,096 entries of 13 bytes, with a value in each byte.
-pub fn page(fill: u8) -> [u8; 53248]
-    ensures { λ r. ⌜ 53248 ≡ length r ⌝ }
+// Room for the longest list that there is, with a value in each byte.
+pub fn filled_list(fill: u8) -> [u8; LIST_BYTES]
+    ensures { λ r. ⌜ listBytes ≡ length r ⌝ }
 {
-    [fill; 53248]
+    [fill; LIST_BYTES]
 }
 
 // The size of a front part of some bytes: the one asked for, or that of them all where it is less.
@@ -45,7 +48,7 @@ fn show_entries(list: &[u8], components: u8) {
     while i < list.len() {
         show_byte(
             list[i],
-            i % (components as usize + 1) == components as usize,
+            i % (components as usize + CLASS_BYTES) == components as usize,
         );
         i = i + 1;
     }
@@ -53,7 +56,7 @@ fn show_entries(list: &[u8], components: u8) {
 
 // The sum of the bytes in a column of entries of this width.
 fn column_sum(list: &[u8], width: usize, column: usize) -> u64
-    requires { ⌜ length (now list) ≤ 53248 ⌝ }
+    requires { ⌜ length (now list) ≤ listBytes ⌝ }
     requires { ⌜ 1 ≤ width ⌝ }
     requires { ⌜ width ≤ 256 ⌝ }
 {
@@ -68,9 +71,9 @@ fn column_sum(list: &[u8], width: usize, column: usize) -> u64
 
 // Shows the sum of each column of a list on a line.
 fn show_sums(list: &[u8], components: u8)
-    requires { ⌜ length (now list) ≤ 53248 ⌝ }
+    requires { ⌜ length (now list) ≤ listBytes ⌝ }
 {
-    let width = components as usize + 1;
+    let width = components as usize + CLASS_BYTES;
     let mut column: usize = 0;
     while column < width {
         numbers::number(column_sum(list, width, column), column + 1 == width);
@@ -80,7 +83,7 @@ fn show_sums(list: &[u8], components: u8)
 
 // Shows the entries of a list, or the sums of its columns; nothing where there is no entry.
 fn show_list(list: &[u8], components: u8, sums: bool)
-    requires { ⌜ length (now list) ≤ 53248 ⌝ }
+    requires { ⌜ length (now list) ≤ listBytes ⌝ }
 {
     if list.len() == 0 {
         return;
@@ -115,12 +118,12 @@ fn show_held(bytes: &[u8], value: u8) {
 fn list_size(lent: &[u8], paths: u32, components: u8) -> usize
     ensures { λ r. ⌜ Counts r (now (lent .entry)) ⌝ }
 {
-    front_size(lent, paths as usize * (components as usize + 1))
+    front_size(lent, paths as usize * (components as usize + CLASS_BYTES))
 }
 
 // Shows the refusal, 0 for none, and the number of paths on a line; then the list, and how many of the bytes behind it hold what all bytes held.
 pub fn show_listing(refusal: u8, paths: u32, lent: &[u8], components: u8, fill: u8, sums: bool)
-    requires { ⌜ length (now lent) ≤ 53248 ⌝ }
+    requires { ⌜ length (now lent) ≤ listBytes ⌝ }
 {
     numbers::two(refusal as u64, paths as u64);
     let size = list_size(lent, paths, components);

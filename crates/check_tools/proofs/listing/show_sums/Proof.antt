@@ -1,8 +1,8 @@
--- `check_tools::entries::show_sums` is safe and ends: each column leaves fewer.
+-- `check_tools::listing::show_sums` is safe and ends: each column leaves fewer.
 use Prim.Native.Nat.{_-_}
 use borrow.Author.Needs.{needs}
-use Rattle.check_tools.proofs.entries.show_sums.Statement.{statement}
-use Rattle.check_tools.proofs.entries.show_sums.Tie as tie
+use Rattle.check_tools.proofs.listing.show_sums.Statement.{statement}
+use Rattle.check_tools.proofs.listing.show_sums.Tie as tie
 
 abbrev Inv-loop : tie.InvT-loop
 Inv-loop list components width column₀ column = Unit {0}
