@@ -6,28 +6,29 @@ use mathlib.Core.Bool.{Bool, true, false, cond}
 use mathlib.Core.List.{List, [], _∷_, map}
 use native.Mathlib.Omega.{arith}
 use lib.Dec.{eqb}
-use lib.ListN.{length, length-set}
+use lib.ListN.{length, take, length-set}
 use lib.Seq.{getD-set-other, map-set-same}
 use borrow.Author.Tests.{eqb-true, eqb-false}
 use Rattle.lists.proofs.Sets.{set-keeps, set-column, set-column-kept}
 use Rattle.rules.specs.Limits.{mostCustomers, mostMinutes}
-use Rattle.rules.specs.Table.{sizeFault}
-use Rattle.rules.proofs.Kept.{list-kept}
+use Rattle.rules.specs.Breach.{firstBreach}
+use Rattle.rules.specs.Table.{unsoundFault, itemFault, sizeFault}
+use Rattle.rules.proofs.Kept.{list-kept, both-kept}
 use Rattle.study.specs.declared.Component.{Component}
 use Rattle.study.specs.declared.Load.{Load}
-use Rattle.answers.specs.declared.outcome.Outcome.the-variants.{Done, Refused}
+use Rattle.study.specs.declared.Outcome.the-variants.{Done}
 use Rattle.study.specs.declared.Study.{Study}
-use Rattle.answers.specs.declared.outcome.StudyAnswer.{StudyAnswer}
 use Rattle.study.specs.Edits.{withProbabilities, withCustomers, withMinutes, withComponent, withLoad}
 use Rattle.study.specs.Joint.{states, stateCounts}
 use Rattle.study.specs.Places.{componentAt, gateAt, loadAt}
 use Rattle.study.specs.Zero.{zeroComponent, zeroLoad}
 use Rattle.soundness.specs.Sound.{SoundComponent, SoundGate, SoundLoad, Sound}
-use Rattle.soundness.specs.Check.{probabilitiesFault}
-use Rattle.answers.specs.Numbers.{refusalOf}
+use Rattle.soundness.specs.Check.{sound, probabilitiesFault}
+use Rattle.planning.specs.Answers.{refusalOf}
 use Rattle.editing.specs.Edits.{edited, componentEditFault, probabilitiesSet, loadEditFault, customersSet, minutesSet}
+use Rattle.soundness.proofs.Checked.{probabilities-sound}
 use Rattle.soundness.proofs.Ranges.{components-most, loads-most}
-use Rattle.editing.proofs.Edited.{present, edited-done, edited-refused}
+use Rattle.editing.proofs.Edited.{Present, present, edited-done, edited-refused}
 use Rattle.demands.specs.Demand1.{EditRefused, EditedSound, EditFields, Shaped}
 use Rattle.demands.specs.Edits.{Edit, probabilities, customers, minutes, edit, breach, after, tableOf, write, tableAfter, othersOf}
 
@@ -49,9 +50,9 @@ number : (b : ℕ) (old new : Study) → refusalOf (edited b old new .outcome) �
 unfolding edited
 number b old new = go (eqb b 0) refl
   where
-    go : (t : Bool) → eqb b 0 ≡ t → refusalOf ((cond {A = StudyAnswer} t (record { outcome = Done; study = new }) (record { outcome = Refused b; study = old })) .outcome) ≡ b
-    go true e = sym (eqb-true b 0 e)
-    go false e = refl
+    go : (t : Bool) → eqb b 0 ≡ t → refusalOf (edited b old new .outcome) ≡ b
+    go true e = rw e (sym (eqb-true b 0 e))
+    go false e = rw e
 
 pub edit-refused : EditRefused
 edit-refused =
@@ -69,52 +70,38 @@ done-study e t none = rw (edit-is e t, edited-done (breach e t) t (changed e t) 
 
 -- ---- an edit that is done leaves a sound study
 
--- what no breach tells of an edit of a component, and of a load
-record ComponentEdit (t : Study) (i p1 p2 p3 : ℕ) : Type 0 where
-  is-sound : Sound t
-  below : i < t .components
-  rules : probabilitiesFault (componentAt t i .states) p1 p2 p3 ≡ 0
+-- what no breach tells: the study is sound and has the item, and the new numbers keep their rule
+record Taken (t : Study) (count number rule : ℕ) : Type 0 where
+  item : Present t count number
+  kept : rule ≡ 0
 
-component-edit : (t : Study) (i p1 p2 p3 : ℕ) → componentEditFault t i p1 p2 p3 ≡ 0 → ComponentEdit t i p1 p2 p3
+taken : (t : Study) (count item rule : ℕ) → firstBreach (unsoundFault (sound t) ∷ itemFault count item ∷ rule ∷ []) ≡ 0 → Taken t count item rule
+taken t count item rule none =
+    let unsound = list-kept _ _ none in
+    let missing = both-kept _ _ (unsound .right) in
+    record { item = present t count item (unsound .left) (missing .left); kept = missing .right }
+
+component-taken : (t : Study) (i p1 p2 p3 : ℕ) → componentEditFault t i p1 p2 p3 ≡ 0
+    → Taken t (t .components) i (probabilitiesFault (componentAt t i .states) p1 p2 p3)
 unfolding componentEditFault
-component-edit t i p1 p2 p3 none =
-    let unsound = list-kept _ _ none in
-    let missing = list-kept _ _ (unsound .right) in
-    let item = present t (t .components) i (unsound .left) (missing .left) in
-    record { is-sound = item .is-sound; below = item .below; rules = list-kept _ _ (missing .right) .left }
+component-taken t i p1 p2 p3 none = taken t (t .components) i _ none
 
-record LoadEdit (t : Study) (j most n : ℕ) : Type 0 where
-  is-sound : Sound t
-  below : j < t .loads
-  size : sizeFault most n ≡ 0
-
-load-edit : (t : Study) (j most n : ℕ) → loadEditFault t j most n ≡ 0 → LoadEdit t j most n
+load-taken : (t : Study) (j most n : ℕ) → loadEditFault t j most n ≡ 0 → Taken t (t .loads) j (sizeFault most n)
 unfolding loadEditFault
-load-edit t j most n none =
-    let unsound = list-kept _ _ none in
-    let missing = list-kept _ _ (unsound .right) in
-    let item = present t (t .loads) j (unsound .left) (missing .left) in
-    record { is-sound = item .is-sound; below = item .below; size = list-kept _ _ (missing .right) .left }
+load-taken t j most n none = taken t (t .loads) j _ none
 
--- a component with probabilities that keep their rules
-new-sound : (c : Component) (p1 p2 p3 : ℕ) → SoundComponent c → probabilitiesFault (c .states) p1 p2 p3 ≡ 0 → SoundComponent (withProbabilities p1 p2 p3 c)
-unfolding probabilitiesFault
-new-sound c p1 p2 p3 s rules =
-    let one = list-kept _ _ rules in
-    let two = list-kept _ _ (one .right) in
-    let three = list-kept _ _ (two .right) in
-    record { states = s .states; state1 = one .left; state2 = two .left; state3 = three .left; sum = list-kept _ _ (three .right) .left }
-
-component-edited : (t : Study) (i : ℕ) (c : Component) → Sound t → i < t .components → c .states ≡ componentAt t i .states → SoundComponent c
+component-edited : (t : Study) (i : ℕ) (c : Component) → Present t (t .components) i → c .states ≡ componentAt t i .states → SoundComponent c
     → Sound (withComponent i c t)
-component-edited t i c s below same new =
-    let counts : stateCounts (withComponent i c t) ≡ stateCounts t = ap (lib.ListN.take (t .components)) (map-set-same (λ (x : Component). x .states) (t .component) i c zeroComponent same) in
+component-edited t i c item same new =
+    let s = item .is-sound in
+    let counts : stateCounts (withComponent i c t) ≡ stateCounts t =
+    ap (take (t .components)) (map-set-same (λ (x : Component). x .states) (t .component) i c zeroComponent same) in
     record {
       components = s .components;
       gates = s .gates;
       loads = s .loads;
       component = λ k less. set-keeps (t .component) i c zeroComponent SoundComponent k (s .component k less) (λ here. new);
-      no-component = λ k from less. getD-set-other (t .component) i k c zeroComponent (λ here. omega arith) ∙ s .no-component k from less;
+      no-component = λ k from less. getD-set-other (t .component) i k c zeroComponent (λ here. omega (arith, item .below)) ∙ s .no-component k from less;
       width = rw counts (s .width);
       gate = λ k less. subst (λ (l : List ℕ). SoundGate l k (gateAt t k)) (sym counts) (s .gate k less);
       no-gate = s .no-gate;
@@ -122,8 +109,9 @@ component-edited t i c s below same new =
       no-load = s .no-load;
     }
 
-load-edited : (t : Study) (j : ℕ) (l : Load) → Sound t → j < t .loads → SoundLoad (t .gates) l → Sound (withLoad j l t)
-load-edited t j l s below new =
+load-edited : (t : Study) (j : ℕ) (l : Load) → Present t (t .loads) j → SoundLoad (t .gates) l → Sound (withLoad j l t)
+load-edited t j l item new =
+    let s = item .is-sound in
     record {
       components = s .components;
       gates = s .gates;
@@ -134,22 +122,22 @@ load-edited t j l s below new =
       gate = s .gate;
       no-gate = s .no-gate;
       load = λ k less. set-keeps (t .load) j l zeroLoad (SoundLoad (t .gates)) k (s .load k less) (λ here. new);
-      no-load = λ k from less. getD-set-other (t .load) j k l zeroLoad (λ here. omega arith) ∙ s .no-load k from less;
+      no-load = λ k from less. getD-set-other (t .load) j k l zeroLoad (λ here. omega (arith, item .below)) ∙ s .no-load k from less;
     }
 
 changed-sound : (e : Edit) (t : Study) → breach e t ≡ 0 → Sound (changed e t)
 changed-sound (probabilities i p1 p2 p3) t none =
-    let e = component-edit t i p1 p2 p3 none in
-    component-edited t i (withProbabilities p1 p2 p3 (componentAt t i)) (e .is-sound) (e .below) refl
-    (new-sound (componentAt t i) p1 p2 p3 (e .is-sound .component i (e .below)) (e .rules))
+    let e = component-taken t i p1 p2 p3 none in
+    let was = e .item .is-sound .component i (e .item .below) in
+    component-edited t i (withProbabilities p1 p2 p3 (componentAt t i)) (e .item) refl (probabilities-sound (componentAt t i) p1 p2 p3 (was .states) (e .kept))
 changed-sound (customers j n) t none =
-    let e = load-edit t j mostCustomers n none in
-    let was = e .is-sound .load j (e .below) in
-    load-edited t j (withCustomers n (loadAt t j)) (e .is-sound) (e .below) (record { gate = was .gate; customers = e .size; minutes = was .minutes })
+    let e = load-taken t j mostCustomers n none in
+    let was = e .item .is-sound .load j (e .item .below) in
+    load-edited t j (withCustomers n (loadAt t j)) (e .item) (record { gate = was .gate; customers = e .kept; minutes = was .minutes })
 changed-sound (minutes j n) t none =
-    let e = load-edit t j mostMinutes n none in
-    let was = e .is-sound .load j (e .below) in
-    load-edited t j (withMinutes n (loadAt t j)) (e .is-sound) (e .below) (record { gate = was .gate; customers = was .customers; minutes = e .size })
+    let e = load-taken t j mostMinutes n none in
+    let was = e .item .is-sound .load j (e .item .below) in
+    load-edited t j (withMinutes n (loadAt t j)) (e .item) (record { gate = was .gate; customers = was .customers; minutes = e .kept })
 
 pub edited-sound : EditedSound
 edited-sound e t done =
@@ -160,13 +148,13 @@ edited-sound e t done =
 
 component-room : (t : Study) (i p1 p2 p3 : ℕ) → Shaped t → componentEditFault t i p1 p2 p3 ≡ 0 → i < length (t .component)
 component-room t i p1 p2 p3 shaped none =
-    let e = component-edit t i p1 p2 p3 none in
-    omega (arith, shaped .components, e .below, components-most t (e .is-sound))
+    let item = component-taken t i p1 p2 p3 none .item in
+    omega (arith, shaped .components, item .below, components-most t (item .is-sound))
 
 load-room : (t : Study) (j most n : ℕ) → Shaped t → loadEditFault t j most n ≡ 0 → j < length (t .load)
 load-room t j most n shaped none =
-    let e = load-edit t j most n none in
-    omega (arith, shaped .loads, e .below, loads-most t (e .is-sound))
+    let item = load-taken t j most n none .item in
+    omega (arith, shaped .loads, item .below, loads-most t (item .is-sound))
 
 changed-table : (e : Edit) (t : Study) → Shaped t → breach e t ≡ 0 → tableOf (changed e t) ≡ write e (tableOf t)
 changed-table (probabilities i p1 p2 p3) t shaped none =

@@ -8,7 +8,7 @@ use mathlib.Core.Logic.{⊎-elim}
 use native.Mathlib.Nat.{eq-or-lt-of-le, le-of-suc-le-suc}
 use native.Mathlib.Omega.{arith}
 use lib.Dec.{leb, eqb}
-use lib.ListN.{length, getD, length-set, length-replicate}
+use lib.ListN.{getD}
 use lib.Seq.{getD-set-same, getD-set-other}
 use borrow.Author.Tests.{eqb-false, ne-eqb}
 use Rattle.lists.specs.Bits.{bit}
@@ -20,6 +20,7 @@ use Rattle.study.specs.declared.Study.{Study}
 use Rattle.study.specs.Places.{noGate, gateAt, loadAt}
 use Rattle.soundness.proofs.Ranges.{gates-most, input-lower}
 use Rattle.fault_tree.specs.Truth.{trueTests, trueGates, gateTrue, withTruth, gateTruths}
+use Rattle.fault_tree.proofs.GateTruths.{truths-long}
 use Rattle.fault_tree.specs.Classes.{lost, classBy, classOf}
 use Rattle.demands.specs.Demand2.{isTrue, GatesAgree, LossGateTrue, LostIff}
 
@@ -38,15 +39,10 @@ module _ (gates : List Gate) (x : List ℕ) where
   abbrev trueBy : ℕ → ℕ → Bool
   trueBy n k = getD (gateTruths gates x n) k false
 
-  truths-long : (n : ℕ) → length (gateTruths gates x n) ≡ mostGates
-  unfolding gateTruths withTruth
-  truths-long zero = length-replicate mostGates false
-  truths-long (suc n) = length-set (gateTruths gates x n) n (gateTrue (getD gates n noGate) x (trueBy n)) ∙ truths-long n
-
   -- a gate's truth is set from those below it
   truth-set : (i : ℕ) → i < mostGates → trueBy (suc i) i ≡ gateTrue (getD gates i noGate) x (trueBy i)
   unfolding gateTruths withTruth
-  truth-set i h = getD-set-same (gateTruths gates x i) i (gateTrue (getD gates i noGate) x (trueBy i)) false (omega (arith, truths-long i))
+  truth-set i h = getD-set-same (gateTruths gates x i) i (gateTrue (getD gates i noGate) x (trueBy i)) false (omega (arith, truths-long gates x i))
 
   -- and stays
   truth-stays : (m n k : ℕ) → k < m → m ≤ n → trueBy n k ≡ trueBy m k

@@ -1,10 +1,9 @@
 -- What an edit answers where a breach stands, and where none does; and what its lack of a breach tells.
 use Prim.Native.Nat.{ℕ, _<_}
 use mathlib.Core.Path.{_≡_}
-use borrow.Author.Tests.{eq-eqb, ne-eqb, leb-false}
-use lib.Dec.{leb}
+use borrow.Author.Tests.{eq-eqb, ne-eqb}
 use Rattle.rules.specs.Table.{unsoundFault, itemFault}
-use Rattle.rules.proofs.Kept.{refuse-kept}
+use Rattle.rules.proofs.Rows.{item-kept}
 use Rattle.study.specs.declared.Study.{Study}
 use Rattle.answers.specs.declared.outcome.Outcome.the-variants.{Done, Refused}
 use Rattle.soundness.specs.Check.{sound}
@@ -29,5 +28,5 @@ pub present : (t : Study) (count item : ℕ) → unsoundFault (sound t) ≡ 0 �
 present t count item unsound missing =
     record {
       is-sound = no-unsound t unsound;
-      below = leb-false count item (refuse-kept 16 (leb count item) missing);
+      below = item-kept count item missing;
     }

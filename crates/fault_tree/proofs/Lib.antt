@@ -1,5 +1,5 @@
-pub mod Bits
-pub mod Ones
-pub mod Ready
+pub mod ClassBits
+pub mod GateTruths
+pub mod OnesCounted
+pub mod SoundReadable
 pub mod Tables
-pub mod Truths

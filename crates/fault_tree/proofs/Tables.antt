@@ -17,6 +17,7 @@ use Rattle.study.specs.declared.Study.{Study}
 use Rattle.study.specs.Joint.{stateCounts}
 use Rattle.soundness.specs.Sound.{Sound}
 use Rattle.soundness.proofs.Ranges.{joint-most}
+use Rattle.fault_tree.specs.Readable.{TableBegins}
 use Rattle.fault_tree.specs.Classes.{classOf, classes, cleared, classTable}
 
 pub classes-long : (t : Study) → length (classes t) ≡ product (stateCounts t)
@@ -24,7 +25,8 @@ unfolding classes
 classes-long t = length-map (jointStates (stateCounts t)) (classOf t) ∙ length-jointStates (stateCounts t)
 
 -- the class of the joint state numbered k
-pub class-at : (t : Study) (counts x : List ℕ) → counts ≡ stateCounts t → JointState counts x → (k : ℕ) → numberOf counts x ≡ k → getD (classes t) k 0 ≡ classOf t x
+pub class-at : (t : Study) (counts x : List ℕ) → counts ≡ stateCounts t → JointState counts x → (k : ℕ) → numberOf counts x ≡ k
+    → getD (classes t) k 0 ≡ classOf t x
 unfolding classes
 class-at t counts x same j k e =
     let inside : k < length (jointStates counts) = omega (arith, e, number-below counts x j, length-jointStates counts) in
@@ -44,17 +46,16 @@ pub record Tabled (t : Study) (counts : List ℕ) (all k : ℕ) (x table : List 
   pub writing : Writing (classes t) cleared 0 k table k
 
 module _ {t : Study} {counts : List ℕ} {all : ℕ} where
-  pub tabled-start : {x table : List ℕ} → Sound t → counts ≡ stateCounts t → JointState counts x → numberOf counts x ≡ 0
-      → all ≡ product counts → table ≡ cleared → Tabled t counts all 0 x table
+  pub tabled-start : {x table : List ℕ} → TableBegins t counts x → all ≡ product counts → table ≡ cleared → Tabled t counts all 0 x table
   unfolding cleared
-  tabled-start {x} {table} s same j number whole e =
+  tabled-start {x} {table} b whole e =
       record {
-        sound = s;
-        same = same;
-        joint = j;
-        number = number ∙ sym (zero-mod (product counts));
+        sound = b .sound;
+        same = b .same;
+        joint = b .joint;
+        number = b .first ∙ sym (zero-mod (product counts));
         whole = whole;
-        writing = rw e (writing-start (omega (arith, classes-long t, joint-most t s, length-replicate {A = ℕ} mostJointStates 0)));
+        writing = rw e (writing-start (omega (arith, classes-long t, joint-most t (b .sound), length-replicate {A = ℕ} mostJointStates 0)));
       }
 
   -- the class of x is set, and x moves on

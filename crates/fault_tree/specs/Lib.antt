@@ -1,3 +1,3 @@
 pub mod Classes
-pub mod Reading
+pub mod Readable
 pub mod Truth

@@ -9,11 +9,9 @@ use study::Study;
 use study::joint_states;
 use study::state_counts;
 ghost use mathlib.Core.Path.{_≡_};
-ghost use Rattle.joint_states.specs.JointStates.{JointState, numberOf};
-ghost use Rattle.study.specs.Joint.{stateCounts};
 ghost use Rattle.soundness.specs.Sound.{Sound};
 ghost use Rattle.fault_tree.specs.Classes.{cleared, classTable};
-ghost use Rattle.fault_tree.specs.Reading.{allUp};
+ghost use Rattle.fault_tree.specs.Readable.{allUp, TableBegins};
 
 // A class table with every place cleared.
 fn cleared_table() -> [u8; JOINT_STATE_PLACES]
@@ -32,10 +30,7 @@ fn all_up() -> [u8; COMPONENT_PLACES]
 // The class table of a sound study with these state counts, filled by joint state number; x is the joint state in which all are up, and is
 // moved on from there.
 fn fill_table(t: Study, counts: &[u8], x: &mut [u8]) -> [u8; JOINT_STATE_PLACES]
-    requires { ⌜ Sound t ⌝ }
-    requires { ⌜ now counts ≡ stateCounts t ⌝ }
-    requires { ⌜ JointState (now counts) (now x) ⌝ }
-    requires { ⌜ numberOf (now counts) (now x) ≡ 0 ⌝ }
+    requires { ⌜ TableBegins t (now counts) (now x) ⌝ }
     ensures { λ r. ⌜ r ≡ classTable t ⌝ }
 {
     let gate = t.gate;

@@ -1,13 +1,13 @@
 // The truth of gates in a joint state.
 use rules::GATE_PLACES;
 use study::Gate;
-ghost use Prim.Native.Nat.{ℕ, _<_, _≤_};
+ghost use Prim.Native.Nat.{ℕ, _<_};
 ghost use mathlib.Core.Bool.{false};
 ghost use mathlib.Core.Path.{_≡_};
-ghost use lib.ListN.{length, getD, replicate};
+ghost use lib.ListN.{getD, replicate};
 ghost use Rattle.lists.specs.Bits.{bit};
-ghost use Rattle.rules.specs.Limits.{mostGates, mostGateInputs};
-ghost use Rattle.fault_tree.specs.Reading.{maskBits, States, Inputs};
+ghost use Rattle.rules.specs.Limits.{mostGates, maskBits};
+ghost use Rattle.fault_tree.specs.Readable.{TestsReadable, InputsReadable, GateReadable};
 ghost use Rattle.fault_tree.specs.Truth.{trueTests, trueGates, gateTrue};
 
 // Whether a mask has a component's state.
@@ -19,8 +19,7 @@ fn test_true(mask: u8, state: u8) -> bool
 }
 
 fn true_tests(g: Gate, x: &[u8]) -> u32
-    requires { ⌜ Inputs (length (now x)) g ⌝ }
-    requires { ⌜ States (now x) ⌝ }
+    requires { ⌜ TestsReadable g (now x) ⌝ }
     ensures { λ r. ⌜ r ≡ trueTests g (now (x .entry)) ⌝ }
 {
     let component = g.component;
@@ -37,9 +36,7 @@ fn true_tests(g: Gate, x: &[u8]) -> u32
 }
 
 fn true_gates(g: Gate, truths: &[bool]) -> u32
-    requires { ⌜ g .gates ≤ mostGateInputs ⌝ }
-    requires { ⌜ ((j : ℕ) → j < g .gates → getD (g .input) j 0 < mostGates) ⌝ }
-    requires { ⌜ mostGates ≤ length (now truths) ⌝ }
+    requires { ⌜ InputsReadable g (now truths) ⌝ }
     ensures { λ r. ⌜ r ≡ trueGates g (λ (k : ℕ). getD (now (truths .entry)) k false) ⌝ }
 {
     let input = g.input;
@@ -56,9 +53,7 @@ fn true_gates(g: Gate, truths: &[bool]) -> u32
 
 // Whether a gate is true in joint state x, where these are the truths of the gates before it.
 pub fn gate_true(g: Gate, x: &[u8], truths: &[bool]) -> bool
-    requires { ⌜ Inputs (length (now x)) g ⌝ }
-    requires { ⌜ States (now x) ⌝ }
-    requires { ⌜ mostGates ≤ length (now truths) ⌝ }
+    requires { ⌜ GateReadable g (now x) (now truths) ⌝ }
     ensures { λ r. ⌜ r ≡ gateTrue g (now (x .entry)) (λ (k : ℕ). getD (now (truths .entry)) k false) ⌝ }
 {
     g.threshold as u32 <= true_tests(g, x) + true_gates(g, truths)

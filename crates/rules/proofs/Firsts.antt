@@ -6,8 +6,8 @@ use native.Mathlib.Nat.{sub-zero, eq-or-lt-of-le, le-refl}
 use native.Mathlib.Omega.{arith}
 use Rattle.lists.specs.Run.{each}
 use Rattle.lists.proofs.Turns.{Turns, turns-start, turns-more, turns-done}
-use Rattle.rules.specs.Breach.{first, firstOf}
-use Rattle.rules.proofs.Kept.{first-kept, first-none}
+use Rattle.rules.specs.Breach.{first, firstOf, inUse}
+use Rattle.rules.proofs.Kept.{first-kept, first-none, used-kept, unused-kept, in-use-none}
 
 -- one more rule is judged
 abbrev judging : (ℕ → ℕ) → ℕ → ℕ → ℕ
@@ -68,3 +68,23 @@ firstOf-kept f n e k h = run-kept f n 0 0 e .1 .kept k (omega arith) (omega arit
 pub firstOf-none : (f : ℕ → ℕ) (n : ℕ) → ((k : ℕ) → k < n → f k ≡ 0) → firstOf f n 0 ≡ 0
 unfolding firstOf
 firstOf-none f n all = run-none f n 0 0 refl (record { kept = λ k l h. all k (omega arith) })
+
+-- Of so many places the first `count` keep the rule of a place in use, and the others that of one that no record uses.
+pub record PlacesKept (count places : ℕ) (used unused : ℕ → ℕ) : Type 0 where
+  pub in-use : (k : ℕ) → k < count → used k ≡ 0
+  pub behind : (k : ℕ) → count ≤ k → k < places → unused k ≡ 0
+
+-- no breach among the places, both ways
+module _ (count places : ℕ) (used unused : ℕ → ℕ) where
+  pub places-kept : count ≤ places → firstOf (λ (k : ℕ). inUse count k (used k) (unused k)) places 0 ≡ 0 → PlacesKept count places used unused
+  places-kept room e =
+      let kept = firstOf-kept _ places e in
+      record {
+        in-use = λ k less. used-kept count k (used k) (unused k) less (kept k (omega arith));
+        behind = λ k from less. unused-kept count k (used k) (unused k) from (kept k less);
+      }
+
+  pub places-none : PlacesKept count places used unused → firstOf (λ (k : ℕ). inUse count k (used k) (unused k)) places 0 ≡ 0
+  places-none kept =
+      firstOf-none _ places
+      (λ k less. in-use-none count k (used k) (unused k) (λ below. kept .in-use k below) (λ from. kept .behind k from less))

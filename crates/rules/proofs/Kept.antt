@@ -160,3 +160,11 @@ in-use-none count place used unused below behind = go (ltb place count) refl
     go : (b : Bool) → ltb place count ≡ b → cond b used unused ≡ 0
     go true e = below (ltb-true place count e)
     go false e = behind (ltb-false place count e)
+
+-- a rule of every place, in use or not
+pub in-use-first : (count place used unused rule : ℕ) → inUse count place (first used rule) (first unused rule) ≡ first (inUse count place used unused) rule
+in-use-first count place used unused rule = go (ltb place count)
+  where
+    go : (b : Bool) → cond b (first used rule) (first unused rule) ≡ first (cond b used unused) rule
+    go true = refl
+    go false = refl

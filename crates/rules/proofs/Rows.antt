@@ -55,12 +55,20 @@ pub sound-kept : (sound : Bool) → unsoundFault sound ≡ 0 → sound ≡ true
 sound-kept sound e = not-false sound (refuse-kept 15 (not sound) e)
 
 -- a place that no record uses holds 0
-pub zero-kept : (n : ℕ) → unusedFault n ≡ 0 → n ≡ 0
-zero-kept n e = omega (arith, below-kept 15 0 n e)
+pub record Unused (a b c d : ℕ) : Type 0 where
+  pub field1 : a ≡ 0
+  pub field2 : b ≡ 0
+  pub field3 : c ≡ 0
+  pub field4 : d ≡ 0
 
-pub zero-none : (n : ℕ) → n ≡ 0 → unusedFault n ≡ 0
+pub unused-fields : (a b c d : ℕ) → unusedFault a b c d ≡ 0 → Unused a b c d
+unused-fields a b c d e =
+    let sum = below-kept 15 0 (a + b + c + d) e in
+    record { field1 = omega arith; field2 = omega arith; field3 = omega arith; field4 = omega arith }
+
+pub unused-none : (a b c d : ℕ) → a ≡ 0 → b ≡ 0 → c ≡ 0 → d ≡ 0 → unusedFault a b c d ≡ 0
 unfolding refuse
-zero-none n e = rw e
+unused-none a b c d e1 e2 e3 e4 = rw (e1, e2, e3, e4)
 
 pub item-kept : (count item : ℕ) → itemFault count item ≡ 0 → item < count
 item-kept = above-kept 16

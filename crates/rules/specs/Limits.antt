@@ -17,6 +17,10 @@ fewestStates = 2
 abbrev pub mostStates : ℕ
 mostStates = 4
 
+-- a mask is a byte: a bit for each state
+abbrev pub maskBits : ℕ
+maskBits = 8
+
 abbrev pub mostJointStates : ℕ
 mostJointStates = 4096
 

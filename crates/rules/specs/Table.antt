@@ -82,8 +82,9 @@ leftFault bytes = refuse 15 (ltb 0 bytes)
 abbrev pub unsoundFault : Bool → ℕ
 unsoundFault sound = refuse 16 (not sound)
 
-abbrev pub unusedFault : ℕ → ℕ
-unusedFault value = refuse 16 (ltb 0 value)
+-- the fields of such a place, up to four of them: they hold 0 when their sum is 0
+abbrev pub unusedFault : ℕ → ℕ → ℕ → ℕ → ℕ
+unusedFault a b c d = refuse 16 (ltb 0 (a + b + c + d))
 
 -- 17 no item: a call names a component or load that is not in the study
 abbrev pub itemFault : ℕ → ℕ → ℕ

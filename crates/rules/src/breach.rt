@@ -1,6 +1,7 @@
 // A breach is the number of a row of the refusal table, or 0; the first breach decides.
 ghost use mathlib.Core.Path.{_≡_};
-ghost use Rattle.rules.specs.Breach.{outside, inUse, unlessAbsent};
+ghost use mathlib.Core.List.{[], _∷_};
+ghost use Rattle.rules.specs.Breach.{firstBreach, outside, inUse, unlessAbsent};
 ghost use Rattle.rules.specs.Breach.{refuse as Breach·refuse, first as Breach·first};
 
 // The row's number where its rule is broken.
@@ -15,6 +16,20 @@ pub fn first(a: u8, b: u8) -> u8
     ensures { λ r. ⌜ r ≡ Breach·first a b ⌝ }
 {
     if a == 0 { b } else { a }
+}
+
+// The first breach of three.
+pub fn first_of_three(a: u8, b: u8, c: u8) -> u8
+    ensures { λ r. ⌜ r ≡ firstBreach (a ∷ b ∷ c ∷ []) ⌝ }
+{
+    first(a, first(b, c))
+}
+
+// The first breach of four.
+pub fn first_of_four(a: u8, b: u8, c: u8, d: u8) -> u8
+    ensures { λ r. ⌜ r ≡ firstBreach (a ∷ b ∷ c ∷ d ∷ []) ⌝ }
+{
+    first(a, first_of_three(b, c, d))
 }
 
 // The breach, unless the field holds the value that it has where a record leaves it out.

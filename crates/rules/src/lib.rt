@@ -5,6 +5,8 @@ mod limits;
 mod table;
 
 pub use breach::first;
+pub use breach::first_of_four;
+pub use breach::first_of_three;
 pub use breach::in_use;
 pub use limits::COMPONENT_MAPS;
 pub use limits::COMPONENT_PLACES;

@@ -10,6 +10,9 @@ pub const FEWEST_STATES: u32 = 2;
 
 pub const MOST_STATES: u32 = 4;
 
+// A mask is a byte.
+pub const MASK_BITS: u8 = 8;
+
 pub const MOST_JOINT_STATES: u32 = 4096;
 
 pub const MOST_TESTS: u8 = 12;

@@ -3,6 +3,7 @@ use crate::breach::refuse;
 use crate::breach::refuse_outside;
 use crate::breach::unless_absent;
 use crate::limits::FEWEST_STATES;
+use crate::limits::MASK_BITS;
 use crate::limits::MOST_JOINT_STATES;
 use crate::limits::MOST_STATES;
 use crate::limits::NEVER;
@@ -86,7 +87,7 @@ pub fn no_component_fault(components: usize, component: u8) -> u8
 pub fn mask_fault(states: u8, mask: u8) -> u8
     ensures { λ r. ⌜ r ≡ maskFault states mask ⌝ }
 {
-    if 8 <= states {
+    if MASK_BITS <= states {
         return refuse(10, mask < 1);
     }
     refuse_outside(10, 1, (1u32 << states) - 1, mask as u32)
@@ -141,11 +142,11 @@ pub fn unsound_fault(sound: bool) -> u8
     refuse(16, !sound)
 }
 
-// 16 unsound: a place that no record uses
-pub fn unused_fault(value: u32) -> u8
-    ensures { λ r. ⌜ r ≡ unusedFault value ⌝ }
+// 16 unsound: the fields of a place that no record uses, and 0 for those that it does not have
+pub fn unused_fault(a: u32, b: u32, c: u32, d: u32) -> u8
+    ensures { λ r. ⌜ r ≡ unusedFault a b c d ⌝ }
 {
-    refuse(16, 0 < value)
+    refuse(16, 0 < a as u64 + b as u64 + c as u64 + d as u64)
 }
 
 // 17 no item

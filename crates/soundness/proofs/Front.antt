@@ -4,10 +4,10 @@ use mathlib.Core.Path.{_≡_}
 use native.Mathlib.Omega.{arith}
 use lib.ListN.{getD, List·getD-map}
 use lib.Seq.{getD-take}
-use borrow.Author.Tests.{lt-ltb}
 use Rattle.rules.specs.Limits.{mostComponents, mostStates}
-use Rattle.rules.proofs.Kept.{first-kept, list-kept, range-kept}
+use Rattle.rules.proofs.Kept.{first-kept, list-kept, used-kept}
 use Rattle.rules.proofs.Firsts.{firstOf-kept}
+use Rattle.rules.proofs.Rows.{count-kept, states-kept}
 use Rattle.study.specs.declared.Component.{Component}
 use Rattle.study.specs.declared.Study.{Study}
 use Rattle.study.specs.Joint.{states, stateCounts}
@@ -17,19 +17,16 @@ use Rattle.soundness.specs.Check.{frontFault, componentsFault, component
 
 pub components-most : (t : Study) → frontFault t ≡ 0 → t .components ≤ mostComponents
 unfolding frontFault
-components-most t e = range-kept 1 1 12 (t .components) (list-kept _ _ e .left) .most
+components-most t e = count-kept mostComponents (t .components) (list-kept _ _ e .left) .most
 
-component-kept : (t : Study) → frontFault t ≡ 0 → (i : ℕ) → i < t .components → componentFault (componentAt t i) ≡ 0
-unfolding frontFault componentsFault componentPlaceFault
-component-kept t e i h =
+states-most : (t : Study) → frontFault t ≡ 0 → (i : ℕ) → i < t .components → componentAt t i .states ≤ mostStates
+unfolding frontFault componentsFault componentPlaceFault componentFault
+states-most t e i h =
     let components = list-kept _ _ (list-kept _ _ (list-kept _ _ (list-kept _ _ e .right) .right) .right) .left in
-    rw (lt-ltb i (t .components) h) at (firstOf-kept _ 12 components i (omega (arith, components-most t e)))
-
-states-most : (c : Component) → componentFault c ≡ 0 → c .states ≤ mostStates
-unfolding componentFault
-states-most c e = range-kept 3 2 4 (c .states) (first-kept _ _ e .left) .most
+    let place = firstOf-kept _ mostComponents components i (omega (arith, components-most t e)) in
+    states-kept (componentAt t i .states) (first-kept _ _ (used-kept _ _ _ _ h place) .left) .most
 
 pub counts-most : (t : Study) → frontFault t ≡ 0 → (k : ℕ) → k < t .components → getD (stateCounts t) k 0 ≤ mostStates
 counts-most t e k h =
     rw (getD-take (t .components) (states (t .component)) k 0 h, List·getD-map (λ (c : Component). c .states) (t .component) k zeroComponent)
-    (states-most (componentAt t k) (component-kept t e k h))
+    (states-most t e k h)

@@ -30,76 +30,72 @@ probabilitiesFault states p1 p2 p3 =
     ∷ []
     )
 
+-- a component place that is in use, one that no record uses, and place i of a study with n components
 unfoldable pub componentFault : Component → ℕ
 componentFault c = first (statesFault (c .states)) (probabilitiesFault (c .states) (c .p1) (c .p2) (c .p3))
 
 unfoldable pub unusedComponentFault : Component → ℕ
-unusedComponentFault c =
-    firstBreach (unusedFault (c .states) ∷ unusedFault (c .p1) ∷ unusedFault (c .p2) ∷ unusedFault (c .p3) ∷ [])
+unusedComponentFault c = unusedFault (c .states) (c .p1) (c .p2) (c .p3)
 
--- test place j of a gate with so many tests, and what stands there
+unfoldable pub componentPlaceFault : ℕ → ℕ → Component → ℕ
+componentPlaceFault n i c = inUse n i (componentFault c) (unusedComponentFault c)
+
+-- test place j of a gate with so many tests, and all of them; the components have these state counts
 unfoldable pub testPlaceFault : List ℕ → ℕ → ℕ → ℕ → ℕ → ℕ
 testPlaceFault counts tests j component mask =
     inUse tests j
     (first (noComponentFault (length counts) component) (maskFault (getD counts component 0) mask))
-    (first (unusedFault component) (unusedFault mask))
+    (unusedFault component mask 0 0)
 
 unfoldable pub testsFault : List ℕ → ℕ → List ℕ → List ℕ → ℕ
 testsFault counts tests component mask =
     firstOf (λ (j : ℕ). testPlaceFault counts tests j (getD component j 0) (getD mask j 0)) mostTests 0
 
--- gate input place j of gate i with so many gate inputs, and what stands there
+-- gate input place j of gate i with so many gate inputs, and all of them
 unfoldable pub inputPlaceFault : ℕ → ℕ → ℕ → ℕ → ℕ
-inputPlaceFault i gates j input = inUse gates j (aheadFault i input) (unusedFault input)
+inputPlaceFault i gates j input = inUse gates j (aheadFault i input) (unusedFault input 0 0 0)
 
 unfoldable pub gateInputsFault : ℕ → ℕ → List ℕ → ℕ
 gateInputsFault i gates input = firstOf (λ (j : ℕ). inputPlaceFault i gates j (getD input j 0)) mostGateInputs 0
 
--- the places of gate i
+-- the places of the inputs of gate i
 unfoldable pub inputPlacesFault : List ℕ → ℕ → Gate → ℕ
 inputPlacesFault counts i g = first (testsFault counts (g .tests) (g .component) (g .mask)) (gateInputsFault i (g .gates) (g .input))
 
-unfoldable pub gateFault : List ℕ → ℕ → Gate → ℕ
-gateFault counts i g =
+-- how a gate votes: its counts of inputs and its threshold
+unfoldable pub voteFault : Gate → ℕ
+voteFault g =
     firstBreach (
-    inputCountFault mostTests (g .tests)
-    ∷ inputCountFault mostGateInputs (g .gates)
-    ∷ thresholdFault (inputCount g) (g .threshold)
-    ∷ inputPlacesFault counts i g
-    ∷ []
+    inputCountFault mostTests (g .tests) ∷ inputCountFault mostGateInputs (g .gates) ∷ thresholdFault (inputCount g) (g .threshold) ∷ []
     )
+
+-- gate place i that is in use, one that no record uses, and place i of a study with n gates; the places of inputs are judged in both
+unfoldable pub gateFault : List ℕ → ℕ → Gate → ℕ
+gateFault counts i g = first (voteFault g) (inputPlacesFault counts i g)
 
 unfoldable pub unusedGateFault : List ℕ → ℕ → Gate → ℕ
-unusedGateFault counts i g =
-    firstBreach (unusedFault (g .threshold) ∷ unusedFault (g .tests) ∷ unusedFault (g .gates) ∷ inputPlacesFault counts i g ∷ [])
-
-unfoldable pub loadFault : ℕ → Load → ℕ
-loadFault gates l =
-    firstBreach (
-    lossGateFault gates (l .gate)
-    ∷ sizeFault mostCustomers (l .customers)
-    ∷ sizeFault mostMinutes (l .minutes)
-    ∷ []
-    )
-
-unfoldable pub unusedLoadFault : Load → ℕ
-unusedLoadFault l = firstBreach (unusedFault (l .gate) ∷ unusedFault (l .customers) ∷ unusedFault (l .minutes) ∷ [])
-
--- place i of a kind of record, with what stands there, and all such places
-unfoldable pub componentPlaceFault : ℕ → ℕ → Component → ℕ
-componentPlaceFault n i c = inUse n i (componentFault c) (unusedComponentFault c)
-
-unfoldable pub componentsFault : ℕ → List Component → ℕ
-componentsFault n cs = firstOf (λ (i : ℕ). componentPlaceFault n i (getD cs i zeroComponent)) mostComponents 0
+unusedGateFault counts i g = first (unusedFault (g .threshold) (g .tests) (g .gates) 0) (inputPlacesFault counts i g)
 
 unfoldable pub gatePlaceFault : List ℕ → ℕ → ℕ → Gate → ℕ
 gatePlaceFault counts n i g = inUse n i (gateFault counts i g) (unusedGateFault counts i g)
 
-unfoldable pub gatesFault : List ℕ → ℕ → List Gate → ℕ
-gatesFault counts n gs = firstOf (λ (i : ℕ). gatePlaceFault counts n i (getD gs i noGate)) mostGates 0
+-- a load place that is in use in a study with so many gates, one that no record uses, and place j of a study with n loads
+unfoldable pub loadFault : ℕ → Load → ℕ
+loadFault gates l =
+    firstBreach (lossGateFault gates (l .gate) ∷ sizeFault mostCustomers (l .customers) ∷ sizeFault mostMinutes (l .minutes) ∷ [])
+
+unfoldable pub unusedLoadFault : Load → ℕ
+unusedLoadFault l = unusedFault (l .gate) (l .customers) (l .minutes) 0
 
 unfoldable pub loadPlaceFault : ℕ → ℕ → ℕ → Load → ℕ
 loadPlaceFault gates n j l = inUse n j (loadFault gates l) (unusedLoadFault l)
+
+-- all places of a kind of record
+unfoldable pub componentsFault : ℕ → List Component → ℕ
+componentsFault n cs = firstOf (λ (i : ℕ). componentPlaceFault n i (getD cs i zeroComponent)) mostComponents 0
+
+unfoldable pub gatesFault : List ℕ → ℕ → List Gate → ℕ
+gatesFault counts n gs = firstOf (λ (i : ℕ). gatePlaceFault counts n i (getD gs i noGate)) mostGates 0
 
 unfoldable pub loadsFault : ℕ → ℕ → List Load → ℕ
 loadsFault gates n ls = firstOf (λ (j : ℕ). loadPlaceFault gates n j (getD ls j zeroLoad)) mostLoads 0

@@ -33,6 +33,7 @@ pub record ZeroBehind (g : Gate) : Type 0 where
 
 -- gate i of a study whose components have these state counts
 pub record SoundGate (counts : List ℕ) (i : ℕ) (g : Gate) : Type 0 where
+  -- a gate may have no tests, or no gate inputs; its threshold says that it has some input
   pub tests : inputCountFault mostTests (g .tests) ≡ 0
   pub gates : inputCountFault mostGateInputs (g .gates) ≡ 0
   pub component : (j : ℕ) → j < g .tests → noComponentFault (length counts) (getD (g .component) j 0) ≡ 0
@@ -49,6 +50,7 @@ pub record UnusedGate (g : Gate) : Type 0 where
 
 -- a load of a study with so many gates
 pub record SoundLoad (gates : ℕ) (l : Load) : Type 0 where
+  -- it is never lost, or its loss gate is in the study
   pub gate : lossGateFault gates (l .gate) ≡ 0
   pub customers : sizeFault mostCustomers (l .customers) ≡ 0
   pub minutes : sizeFault mostMinutes (l .minutes) ≡ 0

@@ -1,9 +1,11 @@
 // The gate places of a study.
-use crate::places::input_places_fault;
+use crate::inputs::gate_inputs_fault;
+use crate::inputs::tests_fault;
 use rules::GATE_PLACES;
 use rules::MOST_GATE_INPUTS;
 use rules::MOST_TESTS;
 use rules::first;
+use rules::first_of_three;
 use rules::in_use;
 use rules::input_count_fault;
 use rules::threshold_fault;
@@ -11,45 +13,27 @@ use rules::unused_fault;
 use study::Gate;
 use study::input_count;
 ghost use mathlib.Core.Path.{_≡_};
-ghost use Rattle.soundness.specs.Check.{gateFault, unusedGateFault, gatePlaceFault, gatesFault};
+ghost use Rattle.soundness.specs.Check.{gatePlaceFault, gatesFault};
 
-// The first breach of gate i, in use; `counts` has the state count of each component.
-fn gate_fault(counts: &[u8], i: usize, g: Gate) -> u8
-    ensures { λ r. ⌜ r ≡ gateFault (now (counts .entry)) i g ⌝ }
-{
-    let tests = input_count_fault(MOST_TESTS, g.tests);
-    let gates = input_count_fault(MOST_GATE_INPUTS, g.gates);
-    let threshold = threshold_fault(input_count(g), g.threshold);
-    first(
-        tests,
-        first(gates, first(threshold, input_places_fault(counts, i, g))),
-    )
-}
-
-// The first breach of gate place i where no record uses it.
-fn unused_gate_fault(counts: &[u8], i: usize, g: Gate) -> u8
-    ensures { λ r. ⌜ r ≡ unusedGateFault (now (counts .entry)) i g ⌝ }
-{
-    let places = first(
-        unused_fault(g.gates as u32),
-        input_places_fault(counts, i, g),
-    );
-    first(
-        unused_fault(g.threshold as u32),
-        first(unused_fault(g.tests as u32), places),
-    )
-}
-
-// The breach of a gate place of a study with so many gates.
+// The first breach of gate place i of a study with n gates; `counts` has the state count of each component. The places of its inputs are judged
+// whether it is in use or not.
 fn gate_place_fault(counts: &[u8], n: u8, i: usize, g: Gate) -> u8
     ensures { λ r. ⌜ r ≡ gatePlaceFault (now (counts .entry)) n i g ⌝ }
 {
-    in_use(
-        n,
-        i,
-        gate_fault(counts, i, g),
-        unused_gate_fault(counts, i, g),
-    )
+    let used = first_of_three(
+        input_count_fault(MOST_TESTS, g.tests),
+        input_count_fault(MOST_GATE_INPUTS, g.gates),
+        threshold_fault(input_count(g), g.threshold),
+    );
+    let unused = unused_fault(g.threshold as u32, g.tests as u32, g.gates as u32, 0);
+    let component = g.component;
+    let mask = g.mask;
+    let input = g.input;
+    let inputs = first(
+        tests_fault(counts, g.tests, component, mask),
+        gate_inputs_fault(i, g.gates, input),
+    );
+    first(in_use(n, i, used, unused), inputs)
 }
 
 // The first breach among the gate places.

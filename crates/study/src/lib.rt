@@ -7,12 +7,13 @@ use rules::TEST_PLACES;
 ghost use Prim.Native.Nat.{ℕ, _≤_, _<_};
 ghost use mathlib.Core.Path.{_≡_};
 ghost use lib.ListN.{length, getD};
-ghost use Rattle.rules.specs.Limits.{mostComponents, mostLoads, mostStates};
+ghost use Rattle.rules.specs.Limits.{mostComponents, mostStates};
 ghost use Rattle.lists.specs.Product.{product};
 ghost use Rattle.study.specs.Zero.{noComponents, zeroGate, noGates, noLoads, zeroStudy};
 ghost use Rattle.study.specs.Edits.{withProbabilities, withCustomers, withMinutes, withComponent, withLoad};
 ghost use Rattle.study.specs.Inputs.{inputCount};
 ghost use Rattle.study.specs.Joint.{states};
+ghost use Rattle.study.specs.Places.{componentAt, loadAt};
 ghost use Rattle.study.specs.Absent.{absentComponent, absentGate, absentLoad};
 
 // A component: how many states it has, and the probability in units of its states 1 to 3. State 0 is "up" and has the rest of one.
@@ -169,8 +170,8 @@ pub fn states_of(counts: &[u8], component: u8) -> u8
 
 // The number of joint states of components with these state counts, each at most 4.
 pub fn joint_states(counts: &[u8]) -> u32
-    requires { ⌜ length (now counts) ≤ mostComponents ⌝ }
-    requires { ⌜ ((k : ℕ) → k < length (now counts) → getD (now counts) k 0 ≤ mostStates) ⌝ }
+    requires few { ⌜ length (now counts) ≤ mostComponents ⌝ }
+    requires small { ⌜ ((k : ℕ) → k < length (now counts) → getD (now counts) k 0 ≤ mostStates) ⌝ }
     ensures { λ r. ⌜ r ≡ product (now (counts .entry)) ⌝ }
 {
     let mut joint: u32 = 1;
@@ -222,21 +223,56 @@ pub fn input_count(g: Gate) -> u32
     g.tests as u32 + g.gates as u32
 }
 
-// A study with one record anew.
+// The record at a place of a study, and one of zeros past the last place.
+
+pub fn component_at(t: Study, i: usize) -> Component
+    ensures { λ r. ⌜ r ≡ componentAt t i ⌝ }
+{
+    if i < COMPONENT_PLACES {
+        let c = t.component[i];
+        return c;
+    }
+    Component {
+        states: 0,
+        p1: 0,
+        p2: 0,
+        p3: 0,
+    }
+}
+
+pub fn load_at(t: Study, j: usize) -> Load
+    ensures { λ r. ⌜ r ≡ loadAt t j ⌝ }
+{
+    if j < LOAD_PLACES {
+        let l = t.load[j];
+        return l;
+    }
+    Load {
+        gate: 0,
+        customers: 0,
+        minutes: 0,
+    }
+}
+
+// A study with one record anew, and as it was where there is no such place.
 
 pub fn with_component(i: usize, c: Component, t: Study) -> Study
-    requires { ⌜ i < mostComponents ⌝ }
     ensures { λ r. ⌜ r ≡ withComponent i c t ⌝ }
 {
+    if COMPONENT_PLACES <= i {
+        return t;
+    }
     let mut u = t;
     u.component[i] = c;
     u
 }
 
 pub fn with_load(j: usize, l: Load, t: Study) -> Study
-    requires { ⌜ j < mostLoads ⌝ }
     ensures { λ r. ⌜ r ≡ withLoad j l t ⌝ }
 {
+    if LOAD_PLACES <= j {
+        return t;
+    }
     let mut u = t;
     u.load[j] = l;
     u

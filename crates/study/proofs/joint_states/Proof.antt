@@ -1,5 +1,5 @@
 -- `study::joint_states` meets its contract. What is multiplied so far, times the product of the counts that are left, is the whole product; with
--- each count at most 4 it is at most 4 to the number of counts passed, so that it fits.
+-- each count at most 4 it is at most 4 to the number of counts passed, so that it fits. The counts left fall.
 use Prim.Native.Nat.{ℕ, suc, _+_, _-_, _*_, _^_, _≤_, _<_}
 use mathlib.Core.Path.{_≡_, sym, ap, _∙_}
 use mathlib.Core.List.{List}
@@ -9,7 +9,7 @@ use native.Mathlib.Omega.{arith}
 use lib.ListN.{length, getD, drop, drop-of-length-le}
 use lib.Seq.{drop-cons}
 use lib.Dec.{lit<}
-use denote.Ref.{now}
+use Rattle.rules.specs.Limits.{mostComponents, mostStates}
 use Rattle.lists.specs.Product.{product}
 use Rattle.study.proofs.joint_states.Statement.{statement}
 use Rattle.study.proofs.joint_states.Tie as tie
@@ -18,9 +18,9 @@ use Rattle.study.proofs.joint_states.Tie as tie
 record JointLeft (counts : List ℕ) (i joint : ℕ) : Type 0 where
   inside : i ≤ length counts
   left : joint * product (drop i counts) ≡ product counts
-  bound : joint ≤ 4 ^ i
+  bound : joint ≤ mostStates ^ i
 
-joint-more : (counts : List ℕ) (i joint : ℕ) → JointLeft counts i joint → ((k : ℕ) → k < length counts → getD counts k 0 ≤ 4) → i < length counts
+joint-more : (counts : List ℕ) (i joint : ℕ) → JointLeft counts i joint → ((k : ℕ) → k < length counts → getD counts k 0 ≤ mostStates) → i < length counts
     → JointLeft counts (i + 1) (joint * getD counts i 0)
 unfolding product
 joint-more counts i joint l four h =
@@ -35,9 +35,9 @@ joint-done : (counts : List ℕ) (i joint : ℕ) → JointLeft counts i joint �
 unfolding product
 joint-done counts i joint l h = sym (mul-one joint) ∙ ap (λ (rest : List ℕ). joint * product rest) (sym (drop-of-length-le counts h)) ∙ l .left
 
--- twelve counts of at most 4
-fits-twelve : (i joint : ℕ) → joint ≤ 4 ^ i → i ≤ 12 → joint ≤ 4 ^ 12
-fits-twelve i joint h twelve = le-trans h (pow-le-pow-right (lit< tt) twelve)
+-- as many counts as there are component places
+joint-fits : (i joint : ℕ) → joint ≤ mostStates ^ i → i ≤ mostComponents → joint ≤ mostStates ^ mostComponents
+joint-fits i joint h most = le-trans h (pow-le-pow-right (lit< tt) most)
 
 abbrev Inv-loop : tie.InvT-loop
 Inv-loop counts joint₀ i₀ joint i = JointLeft counts i joint
@@ -55,20 +55,22 @@ shared-slice-read-joint c = omega arith
 cast-joint : tie.Need-cast-joint Inv-loop μ-loop
 cast-joint c = omega (arith, c .shared-slice-known .given (c .before .before .loop .i))
 
+few : (c : tie.In-loop Inv-loop μ-loop) → length (c .before .before .args .counts .now) ≤ mostComponents
+few c = c .before .before .pre .0
+
+loop-again : tie.Need-loop-again Inv-loop μ-loop
+loop-again c =
+    let turn = c .before in
+    joint-more _ _ _ (turn .before .loop .inv) (turn .before .before .pre .1) (turn .loop-test .taken)
+
 mul-joint : tie.Need-mul-joint Inv-loop μ-loop
-mul-joint c =
-    let before = c .before .before .before in
-    let more = joint-more (now (before .args .counts)) _ _ (c .before .before .loop .inv) (before .pre .1) (c .before .loop-test .taken) in
-    record { fits = omega (arith, fits-twelve _ _ (more .bound) (omega (arith, before .pre .0, c .before .loop-test .taken))) }
+mul-joint c = record { fits = omega (arith, joint-fits _ _ (loop-again c .bound) (omega (arith, few (c .before), c .before .loop-test .taken))) }
 
 add-i : tie.Need-add-i Inv-loop μ-loop
 add-i c = omega arith
 
 loop-less : tie.Need-loop-less Inv-loop μ-loop
 loop-less c = omega arith
-
-loop-again : tie.Need-loop-again Inv-loop μ-loop
-loop-again c = joint-more _ _ _ (c .before .before .loop .inv) (c .before .before .before .pre .1) (c .before .loop-test .taken)
 
 returns : tie.Need-returns Inv-loop μ-loop
 returns c = joint-done _ _ _ (c .before .loop .inv) (c .loop-test .left)

@@ -1,5 +1,5 @@
 -- `fault_tree::class::loads_lost` meets its contract: a class is a byte.
-use Rattle.fault_tree.proofs.Ones.{ones-lost}
+use Rattle.fault_tree.proofs.OnesCounted.{ones-lost}
 use Rattle.fault_tree.proofs.class.loads_lost.Statement.{statement}
 use Rattle.fault_tree.proofs.class.loads_lost.Tie as tie
 

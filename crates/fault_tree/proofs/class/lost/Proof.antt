@@ -22,14 +22,17 @@ shared-slice-read-result c = search needs
 
 returns-2 : tie.Need-returns-2
 unfolding lost
-returns-2 c = rw (ne-eqb (c .before .before .before .before .before .args .l .gate) never (c .before .before .before .if1 .left)) refl
+returns-2 c =
+    let has-gate = c .before .before .before in
+    rw (ne-eqb (has-gate .before .before .args .l .gate) never (has-gate .if1 .left)) refl
 
 returns-3 : tie.Need-returns-3
 unfolding lost
 returns-3 c =
-    let start = c .before .before .before .before in
+    let has-gate = c .before .before in
+    let start = has-gate .before .before in
     let past = List·getD-eq-default (start .args .truths .now) false {n = start .args .l .gate} (omega (arith, c .if2 .left)) in
-    rw (ne-eqb (start .args .l .gate) never (c .before .before .if1 .left), past) refl
+    rw (ne-eqb (start .args .l .gate) never (has-gate .if1 .left), past) refl
 
 pub lost-spec : {M : Type 1} → statement M
 lost-spec = tie.close (tie.spec returns cast-i shared-slice-read-result returns-2 returns-3)

@@ -1,13 +1,37 @@
 -- `fault_tree::table::class_table` meets its contract: it begins with all components up.
-use mathlib.Core.Path.{_≡_, refl, sym, ap, _∙_}
+use Prim.Native.Nat.{_≤_}
+use mathlib.Core.Path.{_≡_, sym, ap, _∙_}
 use lib.ListN.{length, length-map}
 use lib.Seq.{length-take-le}
-use Rattle.study.specs.declared.Component.{Component}
-use Rattle.soundness.proofs.Ranges.{components-most}
-use Rattle.fault_tree.proofs.Ready.{up-joint, up-number}
 use borrow.Author.Needs.{needs}
+use Rattle.rules.specs.Limits.{mostComponents}
+use Rattle.study.specs.declared.Component.{Component}
+use Rattle.study.specs.declared.Study.{Study}
+use Rattle.soundness.specs.Sound.{Sound}
+use Rattle.soundness.proofs.Ranges.{components-most}
+use Rattle.fault_tree.proofs.SoundReadable.{begins}
 use Rattle.fault_tree.proofs.table.class_table.Statement.{statement}
 use Rattle.fault_tree.proofs.table.class_table.Tie as tie
+
+-- ---- once the state counts are known
+
+abbrev study : tie.After-state-counts → Study
+study c = c .before .before .before .args .t
+
+is-sound : (c : tie.After-state-counts) → Sound (study c)
+is-sound c = c .before .before .before .pre
+
+counts-room : (c : tie.After-state-counts) → study c .components ≤ length (c .state-counts .result)
+counts-room c =
+    let places : length (c .state-counts .result) ≡ mostComponents = search needs in
+    rw places (components-most (study c) (is-sound c))
+
+states-room : (c : tie.After-all-up) → study (c .before) .components ≤ length (c .all-up .result)
+states-room c =
+    let places : length (c .all-up .result) ≡ mostComponents = search needs in
+    rw places (components-most (study (c .before)) (is-sound (c .before)))
+
+-- ---- the needs
 
 cast-n : tie.Need-cast-n
 cast-n c = search needs
@@ -19,33 +43,24 @@ all-up-requires : tie.Need-all-up-requires
 all-up-requires c κs = search needs
 
 array-share-prefix-all : tie.Need-array-share-prefix-all
-array-share-prefix-all c =
-    let twelve : length (c .before .state-counts .result) ≡ 12 = search needs in
-    rw twelve (components-most _ (c .before .before .before .before .pre))
+array-share-prefix-all c = counts-room (c .before)
 
 slice-aggregate-fill-table : tie.Need-slice-aggregate-fill-table
-slice-aggregate-fill-table c =
-    let twelve : length (c .before .before .state-counts .result) ≡ 12 = search needs in
-    sym (length-take-le _ _ (rw twelve (components-most _ (c .before .before .before .before .before .pre))))
+slice-aggregate-fill-table c = sym (length-take-le _ _ (counts-room (c .before .before)))
 
 array-borrow-prefix-x : tie.Need-array-borrow-prefix-x
-array-borrow-prefix-x c =
-    let twelve : length (c .before .all-up .result) ≡ 12 = search needs in
-    rw twelve (components-most _ (c .before .before .before .before .before .pre))
+array-borrow-prefix-x c = states-room (c .before)
 
 slice-aggregate-fill-table-2 : tie.Need-slice-aggregate-fill-table-2
-slice-aggregate-fill-table-2 c =
-    let twelve : length (c .before .before .all-up .result) ≡ 12 = search needs in
-    sym (length-take-le _ _ (rw twelve (components-most _ (c .before .before .before .before .before .before .pre))))
+slice-aggregate-fill-table-2 c = sym (length-take-le _ _ (states-room (c .before .before)))
 
 fill-table-requires : tie.Need-fill-table-requires
 fill-table-requires c κs =
-    let start = c .before .before .before .before .before .before in
-    let counts = c .before .before .before .state-counts in
-    let places : length (counts .result) ≡ 12 = search needs in
-    let twelve = sym (length-map (start .args .t .component) (λ (k : Component). k .states)) ∙ ap length (sym (counts .ensures)) ∙ places in
-    rw (counts .ensures, c .before .before .all-up .ensures)
-    (start .pre, (refl, (up-joint _ (start .pre) twelve, up-number _ (start .pre) twelve)))
+    let known = c .before .before .before in
+    let counts = known .state-counts in
+    let places : length (counts .result) ≡ mostComponents = search needs in
+    let long = sym (length-map (study known .component) (λ (k : Component). k .states)) ∙ ap length (sym (counts .ensures)) ∙ places in
+    rw (counts .ensures, c .before .before .all-up .ensures) (begins (study known) (is-sound known) long)
 
 returns : tie.Need-returns
 returns c = search needs

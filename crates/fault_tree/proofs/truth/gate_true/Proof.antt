@@ -6,7 +6,7 @@ use native.Mathlib.Omega.{arith}
 use lib.ListN.{getD}
 use denote.Ref.{now}
 use Rattle.fault_tree.specs.Truth.{gateTrue}
-use Rattle.fault_tree.proofs.Truths.{tests-most, gates-most}
+use Rattle.fault_tree.proofs.GateTruths.{tests-most, gates-most}
 use borrow.Author.Needs.{needs}
 use Rattle.fault_tree.proofs.truth.gate_true.Statement.{statement}
 use Rattle.fault_tree.proofs.truth.gate_true.Tie as tie
@@ -25,7 +25,8 @@ add-result c =
     let start = c .before .before .before .before .before in
     let tests = tests-most (start .args .g) (now (start .args .x)) in
     let gates = gates-most (start .args .g) (λ (k : ℕ). getD (start .args .truths .now) k false) in
-    record { fits = omega (arith, c .before .true-tests .ensures, tests, start .pre .0 .tests, c .true-gates .ensures, gates, start .pre .0 .gates) }
+    let few = start .pre in
+    record { fits = omega (arith, c .before .true-tests .ensures, tests, few .tests .count, c .true-gates .ensures, gates, few .inputs .count) }
 
 returns : tie.Need-returns
 unfolding gateTrue

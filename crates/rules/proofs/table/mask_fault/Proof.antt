@@ -1,5 +1,5 @@
--- `rules::table::mask_fault` meets its contract. With 8 states or more every mask of a byte is below 2 ^ states, so only the mask 0 is
--- left to refuse; with fewer, 2 ^ states is the shifted bit, which loses nothing in 32 bits.
+-- `rules::table::mask_fault` meets its contract. With as many states as a mask has bits, or more, every mask is below 2 ^ states, so only
+-- the mask 0 is left to refuse; with fewer, 2 ^ states is the shifted bit, which loses nothing in 32 bits.
 use Prim.Native.Nat.{ℕ, _<_, _≤_, _-_, _^_, _*_, _%_}
 use mathlib.Core.Path.{_≡_, _∙_}
 use mathlib.Core.Bool.{or-false}
@@ -9,17 +9,18 @@ use lib.Pow.{pow-mono, pow-pos, shl-exact, le-ones}
 use lib.Dec.{lit<, ltb}
 use borrow.Author.Needs.{needs}
 use borrow.Author.Tests.{le-ltb}
+use Rattle.rules.specs.Limits.{maskBits}
 use Rattle.rules.specs.Breach.{refuse, outside}
 use Rattle.rules.proofs.table.mask_fault.Statement.{statement}
 use Rattle.rules.proofs.table.mask_fault.Tie as tie
 
 -- a byte's mask is not above 2 ^ states - 1
-only-zero : (states mask : ℕ) → 8 ≤ states → mask < 2 ^ 8 → outside 1 (2 ^ states - 1) mask ≡ ltb mask 1
+only-zero : (states mask : ℕ) → maskBits ≤ states → mask < 2 ^ maskBits → outside 1 (2 ^ states - 1) mask ≡ ltb mask 1
 unfolding outside
 only-zero states mask h m = rw (le-ltb (2 ^ states - 1) mask (le-ones states (le-trans m (pow-mono h)))) (or-false (ltb mask 1))
 
 -- the shifted bit
-shifted : (states : ℕ) → states < 8 → (1 * 2 ^ states) % 2 ^ 32 ≡ 2 ^ states
+shifted : (states : ℕ) → states < maskBits → (1 * 2 ^ states) % 2 ^ 32 ≡ 2 ^ states
 shifted states h = shl-exact 1 states 32 (lit< tt) (omega arith) ∙ one-mul (2 ^ states)
 
 refuse-requires : tie.Need-refuse-requires

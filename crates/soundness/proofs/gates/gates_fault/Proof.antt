@@ -1,19 +1,20 @@
--- `soundness::gates::gates_fault` meets its contract. Each turn judges one place, after the first breach so far (`FirstLeft`).
+-- `soundness::gates::gates_fault` meets its contract. Each turn judges one place, after the first breach so far (`FirstLeft`); the places left fall.
 use Prim.Native.Nat.{ℕ, _-_}
 use native.Mathlib.Omega.{arith}
 use lib.ListN.{getD}
 use borrow.Author.Needs.{needs}
 use Rattle.soundness.specs.Check.{gatesFault, gatePlaceFault}
+use Rattle.rules.specs.Limits.{mostGates}
 use Rattle.rules.proofs.Firsts.{FirstLeft, first-start, first-more, first-done}
 use Rattle.study.specs.Places.{noGate}
 use Rattle.soundness.proofs.gates.gates_fault.Statement.{statement}
 use Rattle.soundness.proofs.gates.gates_fault.Tie as tie
 
 abbrev Inv-loop : tie.InvT-loop
-Inv-loop counts n gate fault₀ i₀ fault i = FirstLeft (λ (i : ℕ). gatePlaceFault counts n i (getD gate i noGate)) 32 i fault
+Inv-loop counts n gate fault₀ i₀ fault i = FirstLeft (λ (i : ℕ). gatePlaceFault counts n i (getD gate i noGate)) mostGates i fault
 
 abbrev μ-loop : tie.MeasureT-loop
-μ-loop counts n gate fault₀ i₀ fault i = 32 - i
+μ-loop counts n gate fault₀ i₀ fault i = mostGates - i
 
 loop-holds : tie.Need-loop-holds Inv-loop μ-loop
 loop-holds c = first-start
@@ -37,7 +38,9 @@ loop-less : tie.Need-loop-less Inv-loop μ-loop
 loop-less c = omega arith
 
 loop-again : tie.Need-loop-again Inv-loop μ-loop
-loop-again c = first-more (c .before .before .before .before .loop .inv) (c .before .before .before .loop-test .taken) (c .before .gate-place-fault .ensures) (c .first .ensures)
+loop-again c =
+    let turn = c .before .before .before in
+    first-more (turn .before .loop .inv) (turn .loop-test .taken) (c .before .gate-place-fault .ensures) (c .first .ensures)
 
 returns : tie.Need-returns Inv-loop μ-loop
 unfolding gatesFault

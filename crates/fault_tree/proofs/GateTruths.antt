@@ -22,7 +22,7 @@ unfolding trueGates
 gates-most g holds = count-most (λ (j : ℕ). holds (getD (g .input) j 0)) (g .gates)
 
 -- they stand at the places of all gates
-truths-long : (gates : List Gate) (x : List ℕ) (i : ℕ) → length (gateTruths gates x i) ≡ mostGates
+pub truths-long : (gates : List Gate) (x : List ℕ) (i : ℕ) → length (gateTruths gates x i) ≡ mostGates
 unfolding gateTruths withTruth
 truths-long gates x zero = length-replicate mostGates false
 truths-long gates x (suc i) = length-set (gateTruths gates x i) i _ ∙ truths-long gates x i

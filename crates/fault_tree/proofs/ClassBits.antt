@@ -22,7 +22,7 @@ unfolding classBy
 class-below truths load n = bits-below (λ (j : ℕ). lost truths (getD load j zeroLoad)) n
 
 -- a bit of a class is one of a byte
-bit-fits : (b : Bool) (j : ℕ) → j < mostLoads → boolByte b * 2 ^ j % 256 ≡ truth b * 2 ^ j
+bit-fits : (b : Bool) (j : ℕ) → j < mostLoads → boolByte b * 2 ^ j % 2 ^ mostLoads ≡ truth b * 2 ^ j
 bit-fits b j h =
     let most : truth b * 2 ^ j ≤ 1 * 2 ^ 7 = mul-le-mul (truth-most b) (pow-le-pow-right (lit< tt) {i = j} {j = 7} (omega arith)) in
     rw (cast-truth b) (mod-eq-of-lt (omega (arith, most)))
@@ -37,7 +37,7 @@ module _ {truths : List Bool} {load : List Load} {n : ℕ} where
   bits-start = record { inside = omega arith; made = refl }
 
   pub bits-more : {j class : ℕ} {b : Bool} → Bits truths load n j class → j < n → n ≤ mostLoads → b ≡ lost truths (getD load j zeroLoad)
-      → Bits truths load n (j + 1) (bitOr class (boolByte b * 2 ^ j % 256))
+      → Bits truths load n (j + 1) (bitOr class (boolByte b * 2 ^ j % 2 ^ mostLoads))
   unfolding classBy sum
   bits-more {j} {class} {b} s h most e =
       let below : class < 2 ^ j = rw (s .made) (class-below truths load j) in

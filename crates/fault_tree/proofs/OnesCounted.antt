@@ -17,7 +17,7 @@ split n (suc k) =
     let next : ones (n / 2 ^ k) ≡ digit n k + ones (n / 2 ^ suc k) = rw (pow-suc, sym (div-div-eq-div-mul n (2 ^ k) 2)) (ones-step (n / 2 ^ k)) in
     omega (arith, split n k, next)
 
-pub ones-lost : (class : ℕ) → class < 256 → ones class ≡ loadsLost class
+pub ones-lost : (class : ℕ) → class < 2 ^ mostLoads → ones class ≡ loadsLost class
 unfolding loadsLost ones onesIn
 ones-lost class h =
     let none : class / 2 ^ mostLoads ≡ 0 = div-eq-of-lt h in

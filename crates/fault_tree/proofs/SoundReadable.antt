@@ -1,0 +1,71 @@
+-- A sound study and its joint states can be read: its gates name components, lower gates and states that are there.
+use Prim.Native.Nat.{ℕ, zero, suc, _<_, _≤_}
+use mathlib.Core.Path.{_≡_, refl, sym, _∙_}
+use mathlib.Core.Bool.{Bool}
+use mathlib.Core.List.{List}
+use native.Mathlib.Omega.{arith}
+use lib.ListN.{length, getD, take, replicate}
+use lib.Seq.{length-take-le}
+use Rattle.rules.specs.Limits.{mostStates, mostComponents, mostGates}
+use Rattle.joint_states.specs.JointStates.{JointState}
+use Rattle.joint_states.proofs.Numbered.{number-up}
+use Rattle.study.specs.declared.Study.{Study}
+use Rattle.study.specs.Joint.{stateCounts}
+use Rattle.study.specs.Places.{gateAt}
+use Rattle.soundness.specs.Sound.{Sound}
+use Rattle.soundness.proofs.Ranges.{components-most, gates-most, counts-few, counts-long, count-least, count-most}
+use Rattle.soundness.proofs.Ranges.{tests-most, gate-inputs-most, test-component, input-lower}
+use Rattle.fault_tree.specs.Readable.{GateReadable, allUp, TableBegins}
+
+module _ (t : Study) (counts : List ℕ) (s : Sound t) (same : counts ≡ stateCounts t) where
+  few : length counts ≤ t .components
+  few = rw same (counts-few t s)
+
+  pub counts-inside : length counts ≤ mostComponents
+  counts-inside = omega (arith, few, components-most t s)
+
+  pub counts-small : (k : ℕ) → k < length counts → getD counts k 0 ≤ mostStates
+  counts-small k h = rw same (count-most t s k (omega (arith, few)))
+
+  -- gate i in joint state x, where the gates have these truths
+  pub gate-readable : (x : List ℕ) (truths : List Bool) → JointState counts x → length truths ≡ mostGates → (i : ℕ) → i < t .gates
+      → GateReadable (gateAt t i) x truths
+  gate-readable x truths j long i h =
+      record {
+        tests =
+            record {
+              count = tests-most t s i h;
+              component = λ k less. rw (j .long, same) (test-component t s i h k less);
+              state = λ k less. omega (arith, j .below k (omega (arith, j .long)), counts-small k (omega (arith, j .long)));
+            };
+        inputs =
+            record {
+              count = gate-inputs-most t s i h;
+              input = λ k less. omega (arith, input-lower t s i h k less, gates-most t s);
+            };
+      }
+
+-- ---- all components up
+
+zeros : (m n k : ℕ) → _≡_ {A = ℕ} (getD (take n (replicate m 0)) k 0) 0
+zeros zero zero k = refl
+zeros zero (suc n) k = refl
+zeros (suc m) zero k = refl
+zeros (suc m) (suc n) zero = refl
+zeros (suc m) (suc n) (suc k) = zeros m n k
+
+-- a class table begins there
+pub begins : (t : Study) → Sound t → length (t .component) ≡ mostComponents → TableBegins t (stateCounts t) (take (t .components) allUp)
+unfolding allUp
+begins t s places =
+    let long = counts-long t s places in
+    record {
+      sound = s;
+      same = refl;
+      joint =
+          record {
+            long = length-take-le (t .components) allUp (components-most t s) ∙ sym long;
+            below = λ k h. rw (zeros mostComponents (t .components) k) (omega (arith, count-least t s k (omega (arith, long))));
+          };
+      first = number-up (stateCounts t) (take (t .components) allUp) (zeros mostComponents (t .components));
+    }

@@ -1,0 +1,71 @@
+-- `soundness::inputs::gate_inputs_fault` meets its contract. Each turn judges one place, after the first breach so far (`FirstLeft`); the places left fall.
+use Prim.Native.Nat.{ℕ, _-_}
+use native.Mathlib.Omega.{arith}
+use lib.ListN.{getD}
+use borrow.Author.Needs.{needs}
+use Rattle.rules.specs.Limits.{mostGateInputs}
+use Rattle.rules.proofs.Firsts.{FirstLeft, first-start, first-more, first-done}
+use Rattle.soundness.specs.Check.{inputPlaceFault, gateInputsFault}
+use Rattle.soundness.proofs.inputs.gate_inputs_fault.Statement.{statement}
+use Rattle.soundness.proofs.inputs.gate_inputs_fault.Tie as tie
+
+abbrev Inv-loop : tie.InvT-loop
+Inv-loop i gates input fault₀ j₀ fault j = FirstLeft (λ (j : ℕ). inputPlaceFault i gates j (getD input j 0)) mostGateInputs j fault
+
+abbrev μ-loop : tie.MeasureT-loop
+μ-loop i gates input fault₀ j₀ fault j = mostGateInputs - j
+
+loop-holds : tie.Need-loop-holds Inv-loop μ-loop
+loop-holds c = first-start
+
+array-read-g : tie.Need-array-read-g Inv-loop μ-loop
+array-read-g c = search needs
+
+ahead-fault-requires : tie.Need-ahead-fault-requires Inv-loop μ-loop
+ahead-fault-requires c κs = search needs
+
+cast-unused-fault : tie.Need-cast-unused-fault Inv-loop μ-loop
+cast-unused-fault c = search needs
+
+unused-fault-requires : tie.Need-unused-fault-requires Inv-loop μ-loop
+unused-fault-requires c κs = search needs
+
+in-use-requires : tie.Need-in-use-requires Inv-loop μ-loop
+in-use-requires c κs = search needs
+
+first-requires : tie.Need-first-requires Inv-loop μ-loop
+first-requires c κs = search needs
+
+add-j : tie.Need-add-j Inv-loop μ-loop
+add-j c = omega arith
+
+loop-less : tie.Need-loop-less Inv-loop μ-loop
+loop-less c = omega arith
+
+loop-again : tie.Need-loop-again Inv-loop μ-loop
+unfolding inputPlaceFault
+loop-again c =
+    let turn = c .before .before .before .before in
+    first-more (turn .before .loop .inv) (turn .loop-test .taken) (cc) (c .first .ensures)
+
+returns : tie.Need-returns Inv-loop μ-loop
+unfolding gateInputsFault
+returns c = first-done (c .before .loop .inv) (c .loop-test .left)
+
+pub gate-inputs-fault-spec : {M : Type 1} → statement M
+gate-inputs-fault-spec =
+    tie.close
+    (tie.spec
+    Inv-loop
+    μ-loop
+    loop-holds
+    array-read-g
+    ahead-fault-requires
+    cast-unused-fault
+    unused-fault-requires
+    in-use-requires
+    first-requires
+    add-j
+    loop-less
+    loop-again
+    returns)

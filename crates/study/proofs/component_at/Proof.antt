@@ -1,0 +1,26 @@
+-- `study::component_at` meets its contract: past the last place the definition gives a record of zeros.
+use mathlib.Core.Path.{_≡_, sym}
+use lib.ListN.{length, List·getD-eq-default}
+use borrow.Author.Needs.{needs}
+use Rattle.lists.proofs.Maps.{mapped}
+use Rattle.rules.specs.Limits.{mostComponents}
+use Rattle.study.specs.Zero.{zeroComponent}
+use Rattle.study.proofs.component_at.Statement.{statement}
+use Rattle.study.proofs.component_at.Tie as tie
+
+mul-c : tie.Need-mul-c
+mul-c c = search needs
+
+element-copy-out-c : tie.Need-element-copy-out-c
+element-copy-out-c c = search needs
+
+returns : tie.Need-returns
+returns c = search needs
+
+returns-2 : tie.Need-returns-2
+returns-2 c =
+    let places : length (c .before .args .t1 .component) ≡ mostComponents = search (mapped, needs) in
+    sym (List·getD-eq-default (c .before .args .t1 .component) zeroComponent (rw places (c .if1 .left)))
+
+pub component-at-spec : {M : Type 1} → statement M
+component-at-spec = tie.close (tie.spec mul-c element-copy-out-c returns returns-2)
