@@ -37,8 +37,8 @@ use check_tools::hexadecimal::number_at;
 use check_tools::numbers;
 use check_tools::show::show;
 use planning::Outcome;
-use study::Study;
 use planning::StudyAnswer;
+use study::Study;
 ghost use Rattle.io.specs.Counts.{Counts};
 
 // The number by which a call was refused, and 0 for one that was done.

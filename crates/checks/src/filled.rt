@@ -1,12 +1,12 @@
 // Makes the calls that fill lent space, and shows what each answers and what it wrote.
-use check_tools::listing::front_size;
 use check_tools::listing::filled_list;
+use check_tools::listing::front_size;
 use check_tools::listing::show_listing;
 use check_tools::places::front_count;
 use check_tools::places::show_filled;
 use check_tools::places::untouched_places;
-use planning::Listing;
 use planning::CountAnswer;
+use planning::Listing;
 use planning::Outcome;
 use study::Study;
 ghost use Prim.Native.Nat.{_≤_};

@@ -1,8 +1,8 @@
 // Makes the calls that answer numbers alone, and shows them.
 use check_tools::numbers;
+use planning::BoundsAnswer;
 use planning::Caidi;
 use planning::FiguresAnswer;
-use planning::BoundsAnswer;
 use study::Study;
 
 // Shows a refusal, 0 for none, and the two bounds of a load on a line.

@@ -1,11 +1,12 @@
 pub mod Bounds
+pub mod CaseA
 pub mod Checked
-pub mod DeskExamples
 pub mod Edited
 pub mod Figures
-pub mod Listing
 pub mod ListsEqual
 pub mod Lost
 pub mod Opening
 pub mod Paths
+pub mod Refusals
+pub mod WorkedExamples
 pub mod Zero

@@ -1,127 +1,131 @@
--- Two lists are equal exactly when the two studies lose the same loads in every joint state. What carries it: a listing that is not refused
--- has the entries at the front of its buffer, equal entries tell equal classes, and equal classes have equal paths.
-use Prim.Native.Nat.{ℕ, _*_}
-use mathlib.Core.Path.{_≡_, refl, sym, ap, subst, _∙_}
-use mathlib.Core.List.{List}
-use lib.ListN.{length, getD, take}
-use lib.Seq.{ext-getD}
+-- Two lists are equal exactly when the two models lose the same loads in every joint state. What carries it: the bytes of a list are its entries one
+-- behind the other, entries of one length are told apart by their bytes, and paths are the same exactly when all joint states are classed alike.
+use Prim.Native.Nat.{ℕ, zero, suc, _+_, _*_, _≤_}
+use mathlib.Core.Path.{_≡_, refl, sym, ap, _∙_}
+use mathlib.Core.List.{List, [], _∷_, _++_, append-assoc, append-nil}
+use native.Mathlib.Nat.{zero-mul}
+use native.Mathlib.Omega.{arith}
+use lib.ListN.{length, take}
+use lib.Seq.{take-add}
 use Rattle.lists.specs.Bits.{bit}
-use Rattle.lists.specs.Product.{product}
-use Rattle.lists.specs.Rows.{joined}
+use Rattle.lists.specs.Rows.{put, joined}
 use Rattle.lists.proofs.Digits.{same-bits}
-use Rattle.lists.proofs.Fronts.{put-front}
+use Rattle.lists.proofs.Elements.{Every}
 use Rattle.lists.proofs.Joined.{joined-tells}
-use Rattle.rules.proofs.Kept.{list-kept}
-use Rattle.joint_states.specs.JointStates.{JointState, numberOf}
-use Rattle.joint_states.proofs.Numbered.{with-number}
-use Rattle.paths.specs.Blocks.{Block}
-use Rattle.paths.specs.Paths.{paths}
-use Rattle.paths.proofs.Entries.{entries-long}
-use Rattle.paths.proofs.Tell.{paths-tell}
+use Rattle.lists.proofs.Puts.{put-size}
+use Rattle.rules.specs.Table.{unsoundFault, roomFault}
+use Rattle.rules.proofs.Kept.{both-kept}
+use Rattle.rules.proofs.Rows.{room-kept}
 use Rattle.study.specs.declared.Study.{Study}
-use Rattle.study.specs.Joint.{stateCounts}
-use Rattle.soundness.specs.Sound.{Sound}
-use Rattle.soundness.proofs.Checked.{no-unsound}
-use Rattle.fault_tree.specs.Classes.{classOf, classes}
-use Rattle.fault_tree.proofs.Tables.{classes-long, class-at}
-use Rattle.answers.specs.declared.counts.Listing.the-variants.{Listed}
 use Rattle.answers.specs.Numbers.{listRefusal}
-use Rattle.evaluation.specs.Listing.{pathList}
-use Rattle.planning.specs.Listing.{listFault, pathsListed, bufferListed}
-use Rattle.evaluation.proofs.Paged.{told}
-use Rattle.evaluation.proofs.Listed.{study-block, list-need, listed-done, written-done}
-use Rattle.demands.specs.Demand3.{LoseAlike, entryBytes, BothListed, ListsEqual, ListsEqualIff}
-use Rattle.demands.proofs.Listing.{list-refused}
+use Rattle.answers.specs.declared.counts.Listing.the-variants.{Listed, Refused}
+use Rattle.answers.specs.declared.counts.PathCount.{PathCount}
+use Rattle.answers.proofs.Answered.{answered-done, filled-done}
+use Rattle.entries.specs.Entries.{entryBytes, entryAt, entriesOf}
+use Rattle.entries.proofs.Entries.{entries-put}
+use Rattle.model.specs.Good.{Good}
+use Rattle.model.specs.Held.{Listed as Holds}
+use Rattle.model.specs.Model.{Model, components, pathsOf}
+use Rattle.model.proofs.Listing.{entries-wide, list-need, paths-few}
+use Rattle.model.proofs.Paths.{paths-same-iff}
+use Rattle.soundness.specs.Check.{sound}
+use Rattle.soundness.proofs.Checked.{no-unsound}
+use Rattle.study_model.specs.Model.{modelOf}
+use Rattle.study_model.proofs.Good.{sound-good}
+use Rattle.planning.specs.Listing.{pathList, listFault, pathsListed, bufferListed}
+use Rattle.demands.specs.Demand3.{LoseAlike, ListsEqual, ModelListsEqualIff, ListsEqualIff}
+use Rattle.demands.proofs.Refusals.{list-refused}
 
--- ---- a listing that was not refused
+-- ---- the bytes of a list
 
--- its study is sound, it tells the number of paths, and their entries stand at the front of the buffer
-record Made (t : Study) (d : List ℕ) (m : ℕ) : Type 0 where
-  is-sound : Sound t
-  number : m ≡ length (pathList t)
-  bytes : take (m * entryBytes t) (bufferListed t d) ≡ joined (pathList t)
+-- one row more
+joined-more : (rows : List (List ℕ)) (row : List ℕ) → joined (rows ++ (row ∷ [])) ≡ joined rows ++ row
+unfolding joined
+joined-more [] row = append-nil row
+joined-more (r ∷ rows) row = rw (joined-more rows row) (sym (append-assoc r (joined rows) row))
 
-fault-sound : (t : Study) (room : ℕ) → listFault t room ≡ 0 → Sound t
-unfolding listFault
-fault-sound t room none = no-unsound t (list-kept _ _ none .left)
+-- the entries of a list, one behind the other, are the bytes at its front
+bytes-of : (n paths : ℕ) (d : List ℕ) → joined (entriesOf n paths d) ≡ take (paths * entryBytes n) d
+unfolding entriesOf joined
+bytes-of n zero d = rw zero-mul refl
+bytes-of n (suc paths) d =
+    let places : suc paths * entryBytes n ≡ paths * entryBytes n + entryBytes n = omega arith in
+    rw places
+    (joined-more (entriesOf n paths d) (entryAt n d paths)
+    ∙ ap (λ (front : List ℕ). front ++ entryAt n d paths) (bytes-of n paths d)
+    ∙ sym (take-add (paths * entryBytes n) (entryBytes n) d))
 
-listed-made : (t : Study) (d : List ℕ) (m : ℕ) → pathsListed t d ≡ Listed (record { paths = m }) → Made t d m
-unfolding pathsListed bufferListed pathList
-listed-made t d m answer =
+held-bytes : {m : Model} {p : ℕ} {d : List ℕ} → Holds m p d → take (p * entryBytes (components m)) d ≡ joined (pathsOf m)
+held-bytes {m} {p} {d} held = sym (bytes-of (components m) p d) ∙ ap joined (held .entries)
+
+-- ---- two models with the same state counts
+
+module _ (m n : Model) (p q : ℕ) (d e : List ℕ) (counts : m .counts ≡ n .counts) (first : Holds m p d) (second : Holds n q e) where
+  abbrev width : ℕ
+  width = entryBytes (components m)
+
+  same-width : entryBytes (components n) ≡ width
+  same-width = ap (λ (l : List ℕ). entryBytes (length l)) (sym counts)
+
+  second-bytes : take (q * width) e ≡ joined (pathsOf n)
+  second-bytes = rw same-width at (held-bytes second)
+
+  second-wide : Every (λ (row : List ℕ). length row ≡ width) [] (pathsOf n)
+  second-wide k h = entries-wide n (second .good) k h ∙ same-width
+
+  same-paths : ListsEqual (components m) p q d e → pathsOf m ≡ pathsOf n
+  same-paths equal =
+      joined-tells width (pathsOf m) (pathsOf n) (entries-wide m (first .good)) second-wide
+      (sym (first .number) ∙ equal .number ∙ second .number) (sym (held-bytes first) ∙ equal .bytes ∙ second-bytes)
+
+  losses : ListsEqual (components m) p q d e → LoseAlike m n
+  losses equal x j k =
+      ap (λ (class : ℕ). bit class k) (paths-same-iff .classes m n (first .good) (second .good) counts (same-paths equal) x j)
+
+  lists : LoseAlike m n → ListsEqual (components m) p q d e
+  lists alike =
+      let same = paths-same-iff .paths m n counts (λ x j. same-bits (m .class x) (n .class x) (alike x j)) in
+      record {
+        number = first .number ∙ ap length same ∙ sym (second .number);
+        bytes = held-bytes first ∙ ap joined same ∙ sym second-bytes;
+      }
+
+pub model-lists-equal-iff : ModelListsEqualIff
+model-lists-equal-iff m n p q d e counts first second =
+    record { same-losses = losses m n p q d e counts first second; same-lists = lists m n p q d e counts first second }
+
+-- ---- two calls
+
+-- a buffer that has the room holds the list of a good model once it is put there
+put-holds : (m : Model) → Good m → {p : ℕ} (d list : List ℕ) → p ≡ length (pathsOf m) → length (joined (pathsOf m)) ≤ length d
+    → list ≡ put d 0 (joined (pathsOf m)) → Holds m p list
+put-holds m good {p} d list number room e =
+    let size = put-size d list 0 (joined (pathsOf m)) (omega (arith, room)) e in
+    record {
+      good = good;
+      number = number;
+      room =
+          record {
+            components = good .counts .few;
+            few = omega (arith, number, paths-few m good);
+            long = rw number (omega (arith, list-need m good, size, room));
+          };
+      entries = rw (e, number) (entries-put (components m) (pathsOf m) d (entries-wide m good));
+    }
+
+-- a call that was not refused
+call-holds : (t : Study) (p : ℕ) (d : List ℕ) → pathsListed t d ≡ Listed (record { paths = p }) → Holds (modelOf t) p (bufferListed t d)
+unfolding pathsListed bufferListed listFault
+call-holds t p d answer =
     let fault = listFault t (length d) in
     let none : fault ≡ 0 = sym (list-refused .number t d) ∙ ap listRefusal answer in
-    let s = fault-sound t (length d) none in
-    let number : m ≡ length (pathList t) =
-    ap told (sym answer ∙ sym (listed-done fault (pathList t) (length (pathList t)) none refl)) in
-    let need : length (joined (pathList t)) ≡ m * entryBytes t =
-    list-need (stateCounts t) (classes t) (study-block t s) ∙ ap (λ (n : ℕ). n * entryBytes t) (sym number) in
-    record {
-      is-sound = s;
-      number = number;
-      bytes = ap (take (m * entryBytes t)) (written-done fault (pathList t) d none) ∙ put-front d (joined (pathList t)) (m * entryBytes t) need;
-    }
-
--- ---- classes and paths of two studies
-
-module _ (t u : Study) (counts : stateCounts t ≡ stateCounts u) where
-  -- equal classes at the numbers of joint states
-  same-tables : ((x : List ℕ) → JointState (stateCounts t) x → classOf t x ≡ classOf u x) → classes t ≡ classes u
-  same-tables same =
-      ext-getD 0 (classes t) (classes u) (classes-long t ∙ ap product counts ∙ sym (classes-long u))
-      (λ k h.
-      let w = with-number (stateCounts t) k (rw (classes-long t) at h) in
-      class-at t (stateCounts t) (w .joint) refl (w .is-joint) k (w .number)
-      ∙ same (w .joint) (w .is-joint)
-      ∙ sym (class-at u (stateCounts t) (w .joint) counts (w .is-joint) k (w .number)))
-
-  same-class : classes t ≡ classes u → (x : List ℕ) → JointState (stateCounts t) x → classOf t x ≡ classOf u x
-  same-class same x j =
-      let k = numberOf (stateCounts t) x in
-      sym (class-at t (stateCounts t) x refl j k refl) ∙ ap (λ (l : List ℕ). getD l k 0) same ∙ class-at u (stateCounts t) x counts j k refl
-
-  -- the paths of u over the state counts of t
-  second-paths : paths (stateCounts t) (classes u) ≡ pathList u
-  unfolding pathList
-  second-paths = ap (λ (l : List ℕ). paths l (classes u)) counts
-
-  same-paths : classes t ≡ classes u → pathList t ≡ pathList u
-  unfolding pathList
-  same-paths same = ap (paths (stateCounts t)) same ∙ second-paths
-
-  -- as many paths with the same bytes come of equal classes
-  paths-tell-classes : Sound t → Sound u → length (pathList t) ≡ length (pathList u) → joined (pathList t) ≡ joined (pathList u)
-      → classes t ≡ classes u
-  unfolding pathList
-  paths-tell-classes s v number bytes =
-      let first = study-block t s in
-      let second : Block (stateCounts t) (classes u) = subst (λ (l : List ℕ). Block l (classes u)) (sym counts) (study-block u v) in
-      paths-tell (stateCounts t) (classes t) (classes u) first second
-      (joined-tells (entryBytes t) (pathList t) (paths (stateCounts t) (classes u)) (entries-long (stateCounts t) (classes t) first)
-      (entries-long (stateCounts t) (classes u) second) (number ∙ ap length (sym second-paths)) (bytes ∙ ap joined (sym second-paths)))
-
-  module _ (d e : List ℕ) (m n : ℕ) (both : BothListed t u d e m n) where
-    losses : ListsEqual t u d e m n → LoseAlike t u
-    losses equal x j k =
-        let first = listed-made t d m (both .first) in
-        let second = listed-made u e n (both .second) in
-        let same =
-        paths-tell-classes (first .is-sound) (second .is-sound) (sym (first .number) ∙ equal .number ∙ second .number)
-        (sym (first .bytes) ∙ equal .bytes ∙ second .bytes) in
-        ap (λ (class : ℕ). bit class k) (same-class same x j)
-
-    lists : LoseAlike t u → ListsEqual t u d e m n
-    lists alike =
-        let first = listed-made t d m (both .first) in
-        let second = listed-made u e n (both .second) in
-        let same = same-paths (same-tables (λ x j. same-bits (classOf t x) (classOf u x) (alike x j))) in
-        record {
-          number = first .number ∙ ap length same ∙ sym (second .number);
-          bytes = first .bytes ∙ ap joined same ∙ sym (second .bytes);
-        }
+    let kept = both-kept (unsoundFault (sound t)) (roomFault (length (joined (pathList t))) (length d)) none in
+    let done = answered-done Refused fault (Listed (record { paths = length (pathList t) })) none in
+    let count : _≡_ {A = PathCount} (record { paths = p }) (record { paths = length (pathList t) }) = cc in
+    put-holds (modelOf t) (sound-good t (no-unsound t (kept .left))) d (bufferListed t d) (ap (λ (c : PathCount). c .paths) count)
+    (room-kept (length (joined (pathList t))) (length d) (kept .right)) (filled-done fault (joined (pathList t)) d none)
 
 pub lists-equal-iff : ListsEqualIff
-lists-equal-iff =
-    record {
-      same-losses = λ t u d e m n counts both. losses t u counts d e m n both;
-      same-lists = λ t u d e m n counts both. lists t u counts d e m n both;
-    }
+unfolding modelOf
+lists-equal-iff t u p q d e counts both =
+    model-lists-equal-iff (modelOf t) (modelOf u) p q _ _ counts (call-holds t p d (both .first)) (call-holds u q e (both .second))

@@ -13,8 +13,7 @@ use Rattle.soundness.specs.Sound.{Sound}
 use Rattle.soundness.specs.Check.{sound}
 use Rattle.answers.specs.Numbers.{refusalOf, listRefusal, figuresRefusal}
 use Rattle.planning.specs.Figures.{figuresFault, figuresGiven}
-use Rattle.evaluation.specs.Listing.{pathList}
-use Rattle.planning.specs.Listing.{listFault, pathsListed, bufferListed}
+use Rattle.planning.specs.Listing.{pathList, listFault, pathsListed, bufferListed}
 use Rattle.demands.specs.Edits.{Edit, edit, breach, after, tableOf, tableAfter, othersOf}
 
 -- The check for 16 says of any value of the struct whether it is sound.

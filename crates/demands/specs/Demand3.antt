@@ -1,50 +1,56 @@
 -- Demand 3, one comparable list of paths per meaning, over the definitions that the contract of the listing cites. The words in which it
--- speaks of a list (fits, bears, ascends, settled, changes no loss) stand in crate `paths`.
-use Prim.Native.Nat.{ℕ, _+_, _*_, _<_}
+-- speaks of a list (fits, bears, ascends, settled, changes no loss) stand in crate `paths`, and what holds of the paths of any good model in `model`.
+use Prim.Native.Nat.{ℕ, _*_, _<_}
 use mathlib.Core.Path.{_≡_}
-use mathlib.Core.Bool.{Bool}
 use mathlib.Core.List.{List, []}
 use lib.ListN.{length, getD, take}
 use Rattle.lists.specs.Bits.{bit}
 use Rattle.joint_states.specs.JointStates.{JointState}
-use Rattle.paths.specs.Words.{OnePath, Ascending, BlankIff}
 use Rattle.study.specs.declared.Study.{Study}
 use Rattle.study.specs.Joint.{stateCounts}
+use Rattle.answers.specs.declared.counts.Listing.the-variants.{Listed}
+use Rattle.entries.specs.Entries.{entryBytes}
+use Rattle.paths.specs.Words.{OnePath, Ascending, BlankIff}
+use Rattle.model.specs.Held.{Listed as Holds}
+use Rattle.model.specs.Model.{Model, components}
 use Rattle.soundness.specs.Sound.{Sound}
 use Rattle.fault_tree.specs.Classes.{classOf}
-use Rattle.evaluation.specs.Listing.{pathList}
-use Rattle.planning.specs.Listing.{pathsListed, bufferListed}
-use Rattle.answers.specs.declared.counts.Listing.the-variants.{Listed}
+use Rattle.study_model.specs.Model.{modelOf}
+use Rattle.planning.specs.Listing.{pathList, pathsListed, bufferListed}
 
--- "loses": bit j of the joint state's class stands
-abbrev pub loses : Study → List ℕ → ℕ → Bool
-loses t x j = bit (classOf t x) j
+-- ---- equal lists
 
--- two studies lose the same loads in every joint state
-abbrev pub LoseAlike : Study → Study → Type 0
-LoseAlike t u = (x : List ℕ) → JointState (stateCounts t) x → (j : ℕ) → loses t x j ≡ loses u x j
+-- two models lose the same loads in every joint state: bit j of its class stands where load j is lost
+abbrev pub LoseAlike : Model → Model → Type 0
+LoseAlike m n = (x : List ℕ) → JointState (m .counts) x → (j : ℕ) → bit (m .class x) j ≡ bit (n .class x) j
 
--- the bytes of an entry
-abbrev pub entryBytes : Study → ℕ
-entryBytes t = length (stateCounts t) + 1
+-- "equal": as many paths, p in buffer d and q in buffer e, and their entries agree byte for byte; what stands behind them is not compared
+pub record ListsEqual (components p q : ℕ) (d e : List ℕ) : Type 0 where
+  pub number : p ≡ q
+  pub bytes : take (p * entryBytes components) d ≡ take (q * entryBytes components) e
 
--- two calls that were not refused, one for t with buffer d and one for u with buffer e, answered m and n paths
-pub record BothListed (t u : Study) (d e : List ℕ) (m n : ℕ) : Type 0 where
-  pub first : pathsListed t d ≡ Listed (record { paths = m })
-  pub second : pathsListed u e ≡ Listed (record { paths = n })
+-- two lists are equal exactly when the two models lose the same loads in every joint state
+pub record EqualIffAlike (m n : Model) (p q : ℕ) (d e : List ℕ) : Type 0 where
+  pub same-losses : ListsEqual (components m) p q d e → LoseAlike m n
+  pub same-lists : LoseAlike m n → ListsEqual (components m) p q d e
 
--- "equal": as many paths, and their entries agree byte for byte; what stands behind them is not compared
-pub record ListsEqual (t u : Study) (d e : List ℕ) (m n : ℕ) : Type 0 where
-  pub number : m ≡ n
-  pub bytes : take (m * entryBytes t) (bufferListed t d) ≡ take (n * entryBytes u) (bufferListed u e)
+-- So it is for any two good models whose components have the same state counts in the same order, and whose lists two buffers hold.
+abbrev pub ModelListsEqualIff : Type 0
+ModelListsEqualIff = (m n : Model) (p q : ℕ) (d e : List ℕ) → m .counts ≡ n .counts → Holds m p d → Holds n q e → EqualIffAlike m n p q d e
+
+-- two calls that were not refused, one for t with buffer d and one for u with buffer e, answered p and q paths
+pub record BothListed (t u : Study) (p q : ℕ) (d e : List ℕ) : Type 0 where
+  pub first : pathsListed t d ≡ Listed (record { paths = p })
+  pub second : pathsListed u e ≡ Listed (record { paths = q })
 
 -- For any two studies whose components have the same state counts in the same order, whatever the lent buffers held: their lists are equal
 -- exactly when they lose the same loads in every joint state.
-pub record ListsEqualIff : Type 0 where
-  pub same-losses : (t u : Study) (d e : List ℕ) (m n : ℕ) → stateCounts t ≡ stateCounts u → BothListed t u d e m n
-      → ListsEqual t u d e m n → LoseAlike t u
-  pub same-lists : (t u : Study) (d e : List ℕ) (m n : ℕ) → stateCounts t ≡ stateCounts u → BothListed t u d e m n
-      → LoseAlike t u → ListsEqual t u d e m n
+abbrev pub ListsEqualIff : Type 0
+ListsEqualIff =
+    (t u : Study) (p q : ℕ) (d e : List ℕ) → stateCounts t ≡ stateCounts u → BothListed t u p q d e
+    → EqualIffAlike (modelOf t) (modelOf u) p q (bufferListed t d) (bufferListed u e)
+
+-- ---- the paths of a sound study
 
 -- Every joint state fits one path and only one, and that path bears the joint state's class.
 abbrev pub OnePathEach : Type 0

@@ -1,5 +1,6 @@
+pub mod CaseA
 pub mod Demand1
 pub mod Demand2
 pub mod Demand3
-pub mod DeskExamples
 pub mod Edits
+pub mod WorkedExamples

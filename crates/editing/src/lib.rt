@@ -1,4 +1,6 @@
 // The edits of an opened study, each of one field. A refused edit hands the study back as it was.
+use answers::Outcome;
+use answers::StudyAnswer;
 use rules::MOST_CUSTOMERS;
 use rules::MOST_MINUTES;
 use rules::first_of_three;
@@ -7,9 +9,7 @@ use rules::size_fault;
 use rules::unsound_fault;
 use soundness::is_sound;
 use soundness::probabilities_fault;
-use answers::Outcome;
 use study::Study;
-use answers::StudyAnswer;
 use study::component_at;
 use study::load_at;
 use study::with_component;

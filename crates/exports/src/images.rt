@@ -1,9 +1,9 @@
 // Opening: the study is kept in a lent slice as its image.
 use crate::numbers::refusal;
 use crate::numbers::refused;
+use planning::StudyAnswer;
 use rules::first;
 use rules::room_fault;
-use planning::StudyAnswer;
 use study_image::IMAGE_BYTES;
 use study_image::write_image;
 ghost use Rattle.opening.specs.Opening.{opened};

@@ -1,6 +1,6 @@
 // The paths of an opened study: their list, and bounds for each.
-use crate::numbers::answer_listing;
 use crate::numbers::answer_count;
+use crate::numbers::answer_listing;
 use study_image::read_image;
 ghost use mathlib.Core.Path.{_≡_};
 ghost use Rattle.planning.specs.Bounds.{pathsBounded};

@@ -3,6 +3,8 @@ mod components;
 mod gates;
 mod loads;
 
+use answers::Outcome;
+use answers::StudyAnswer;
 use components::read_components;
 use gates::read_gates;
 use loads::read_loads;
@@ -15,9 +17,7 @@ use rules::MOST_LOADS;
 use rules::count_fault;
 use rules::first;
 use rules::left_fault;
-use answers::Outcome;
 use study::Study;
-use answers::StudyAnswer;
 use study::state_counts;
 use study::zero_study;
 ghost use mathlib.Core.Path.{_≡_};

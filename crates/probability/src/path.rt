@@ -30,7 +30,11 @@ fn factored(rounding: u64, probabilities: &[u32], entry: &[u8], i: usize, bound:
     if mark == BLANK {
         return bound;
     }
-    scale(rounding, bound, probability_at(probabilities, i, mark) as u64)
+    scale(
+        rounding,
+        bound,
+        probability_at(probabilities, i, mark) as u64,
+    )
 }
 
 // A bound of the path of an entry of n components: a path starts at one, and has the factors of its components in order.

@@ -1,7 +1,7 @@
 // The lines of the figures.
-use answers::FiguresAnswer;
 use answers::Caidi;
 use answers::Figures;
+use answers::FiguresAnswer;
 use text::bounds_line;
 use text::copy;
 use text::number_line;

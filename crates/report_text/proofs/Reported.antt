@@ -53,8 +53,7 @@ module _ {d text d′ : List ℕ} {size : ℕ} (wrote : Wrote d 0 text d′ size
     unfolding reported written
     report-done none copied =
         let room = roomFault (length text) (length buffer) in
-        let kept : room ≡ 0 = sym by-text ∙ none in
-        (
+        let kept : room ≡ 0 = sym by-text ∙ none in (
           ap Count long ∙ sym (answered-done Refused room (Count (length text)) kept),
           copied .holds ∙ ap (put buffer 0) whole-front ∙ sym (filled-done room text buffer kept),
         )

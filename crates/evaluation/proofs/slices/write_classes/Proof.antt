@@ -27,8 +27,7 @@ returns : tie.Need-returns
 returns c =
     let uppers = c .before .before in
     let lowers = uppers .before .before .before .before in
-    let start = lowers .before .before .before .before .before .before in
-    (
+    let start = lowers .before .before .before .before .before .before in (
       lowers .class-totals .ensures ∙ ap (put (now (start .args .lower)) 0) (classes-lower (start .pre .0)),
       uppers .class-totals2 .ensures ∙ ap (put (now (start .args .upper)) 0) (upper-classes _ _ _),
     )

@@ -55,8 +55,7 @@ same-length c = search needs
 returns-2 : tie.Need-returns-2
 returns-2 c =
     let judged = c .before .before .before .before .before in
-    let none = sym (fault-is judged) ∙ c .before .before .before .before .if1 .left in
-    (
+    let none = sym (fault-is judged) ∙ c .before .before .before .before .if1 .left in (
       ap (λ (n : ℕ). Listed (record { paths = n })) (judged .before .before .count-paths .ensures) ∙ sym (answered-done _ _ _ none),
       c .before .before .list-paths .ensures ∙ sym (filled-done _ _ _ none),
     )

@@ -66,8 +66,7 @@ returns : tie.Need-returns
 returns c =
     let written = c .before .before .before .before in
     let front = written .before .before .before .before in
-    let args = start (sliced front) .args in
-    (
+    let args = start (sliced front) .args in (
       written .write-classes .ensures .0 ∙ ap (put (now (args .lower)) 0) (held-values (held front) lowerClasses),
       written .write-classes .ensures .1 ∙ ap (put (now (args .upper)) 0) (held-values (held front) upperClasses),
     )

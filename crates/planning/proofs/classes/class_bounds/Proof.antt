@@ -33,8 +33,7 @@ unfolding classesBounded
 returns-2 c =
     let bounding = c .before .before .before .before in
     let judged = bounding .before .before .before in
-    let none = sym (judged .before .classes-breach .ensures) ∙ judged .if1 .left in
-    (
+    let none = sym (judged .before .classes-breach .ensures) ∙ judged .if1 .left in (
       sym (answered-done Refused _ _ none),
       (bounding .bound-classes .ensures .0 ∙ sym (filled-done _ _ _ none), bounding .bound-classes .ensures .1 ∙ sym (filled-done _ _ _ none)),
     )

@@ -92,8 +92,7 @@ returns-2 c =
     let written = c .before .before .before .before in
     let front = written .before .before .before .before in
     let args = start (sliced (judged front)) .args in
-    let none = sym (fault-is (judged front)) ∙ front .before .before .before .before .if1 .left in
-    (
+    let none = sym (fault-is (judged front)) ∙ front .before .before .before .before .if1 .left in (
       ap Count (sliced (judged front) .slice-study .ensures .listed .number) ∙ sym (answered-done Refused _ _ none),
       (
         written .write-paths .ensures .0 ∙ ap (put (now (args .lower)) 0) (held-values (held front) lowerBounds) ∙ sym (filled-done _ _ _ none),

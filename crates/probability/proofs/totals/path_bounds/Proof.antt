@@ -13,7 +13,7 @@ abbrev μ-loop : tie.MeasureT-loop
 μ-loop rounding probabilities n list paths out₀ k₀ out k = paths - k
 
 loop-holds : tie.Need-loop-holds Inv-loop μ-loop
-loop-holds c = 
+loop-holds c =
     let pre = c .before .before .before .pre in
     bounding-start (pre .0) (pre .1 .0) (pre .1 .1)
 

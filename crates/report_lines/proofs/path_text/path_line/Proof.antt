@@ -27,8 +27,7 @@ unfolding pathLine
 entry-line-requires c κs =
     let classed = c .before in
     let bounded = classed .before in
-    let pre = bounded .before .before .before .before .before .pre in
-    (
+    let pre = bounded .before .before .before .before .before .pre in (
       omega (arith, pre .1 .1 .0),
       rw (bounded .before .path-bound .ensures .is, bounded .path-bound2 .ensures .is, classed .class-of .ensures) (pre .1 .1 .1),
     )

@@ -1,34 +1,33 @@
--- The desk examples of document 01 that are marked with a star, as rows of data, and the one claim about them: each row is true of the
+-- The worked examples of document 01 that are marked with a star, as rows of data, and the one claim about them: each row is true of the
 -- definitions that the contracts cite.
 use Prim.Native.Nat.{ℕ, _-_}
 use mathlib.Core.Path.{_≡_}
-use mathlib.Core.Bool.{Bool}
 use mathlib.Core.Option.{Option, none, some}
 use mathlib.Core.List.{List, [], _∷_, _++_, map}
 use lib.Dec.{eqb}
 use lib.ListN.{length, replicate}
-use Rattle.lists.specs.Bits.{bit}
 use Rattle.lists.specs.Tabulate.{tabulate}
 use Rattle.units.specs.One.{one}
 use Rattle.rules.specs.Limits.{mostComponents, mostGates, mostLoads, mostTests, mostGateInputs, never}
-use Rattle.rules.specs.Table.{customersFault}
 use Rattle.study.specs.declared.Component.{Component}
 use Rattle.study.specs.declared.Gate.{Gate}
 use Rattle.study.specs.declared.Load.{Load}
-use Rattle.answers.specs.declared.outcome.Outcome.the-variants.{Done}
 use Rattle.study.specs.declared.Study.{Study}
-use Rattle.answers.specs.declared.outcome.StudyAnswer.{StudyAnswer}
 use Rattle.study.specs.Zero.{zeroComponent, zeroGate, zeroLoad}
-use Rattle.opening.specs.Opening.{opened, refusedOpening}
+use Rattle.answers.specs.declared.bounds.Enclosure.{Enclosure}
 use Rattle.answers.specs.declared.figures.Caidi.{Caidi}
 use Rattle.answers.specs.declared.figures.Caidi.the-variants.{Bounds, NotStated}
-use Rattle.answers.specs.declared.bounds.Enclosure.{Enclosure}
 use Rattle.answers.specs.declared.figures.FiguresAnswer.{FiguresAnswer}
 use Rattle.answers.specs.declared.figures.FiguresAnswer.the-variants.{Figures, Refused}
-use Rattle.evaluation.specs.Figures.{customersOf, studyFigures, figuresBy}
-use Rattle.evaluation.specs.Listing.{pathList}
-use Rattle.evaluation.specs.Bounds.{lowerBounds, upperBounds, lowerOf, upperOf}
-use Rattle.entries.specs.Entries.{blankMark}
+use Rattle.answers.specs.declared.outcome.Outcome.the-variants.{Done}
+use Rattle.answers.specs.declared.outcome.StudyAnswer.{StudyAnswer}
+use Rattle.entries.specs.Entries.{blankMark, entry}
+use Rattle.model.specs.Model.{Model, pathsOf}
+use Rattle.opening.specs.Opening.{opened, refusedOpening}
+use Rattle.study_model.specs.Model.{modelOf}
+use Rattle.evaluation.specs.Bounds.{pathLowers, pathUppers, lowerOf, upperOf, loadLowers, loadUppers}
+use Rattle.evaluation.specs.Figures.{figuresBy}
+use Rattle.planning.specs.Bounds.{lossOf}
 
 -- ---- studies in few words
 
@@ -93,10 +92,11 @@ between lower upper = record { lower = lower; upper = upper }
 abbrev at : ℕ → Enclosure
 at n = between n n
 
--- what the paper gives of a study that opens: its paths, bounds for each path, for the classes from 0 on and for each load, and the figures
+-- what the paper gives of a study that opens: its paths, the bounds of each, bounds for the classes from 0 on and for each load, and the figures
 pub record Results : Type 0 where
   pub paths : List (List ℕ)
-  pub bounds : List Enclosure
+  pub lower : List ℕ
+  pub upper : List ℕ
   pub classes : List Enclosure
   pub loads : List Enclosure
   pub figures : FiguresAnswer
@@ -111,33 +111,30 @@ pub record Example : Type 0 where
 abbrev example : List ℕ → StudyAnswer → Example
 example bytes opening = record { bytes = bytes; opening = opening; results = none }
 
--- an example with the paths of its study, and the bounds of paths, classes and loads
+-- an example with the paths of its study, the bounds of paths, classes and loads, and the figures
 abbrev listing : List ℕ → StudyAnswer → List (List ℕ) → List Enclosure → List Enclosure → List Enclosure → FiguresAnswer → Example
 listing bytes opening paths bounds classes loads figures =
-    record { bytes = bytes; opening = opening; results = some (record { paths = paths; bounds = bounds; classes = classes; loads = loads; figures = figures }) }
+    let lower = map (λ (b : Enclosure). b .lower) bounds in
+    let upper = map (λ (b : Enclosure). b .upper) bounds in
+    let results : Results = record { paths = paths; lower = lower; upper = upper; classes = classes; loads = loads; figures = figures } in
+    record { bytes = bytes; opening = opening; results = some results }
 
 -- the figures, and their refusal where there are no customers
-abbrev threeFigures : Enclosure → Enclosure → Caidi → FiguresAnswer
-threeFigures saifi saidi caidi = Figures (record { saifi = saifi; saidi = saidi; caidi = caidi })
+abbrev figuresAre : Enclosure → Enclosure → Caidi → FiguresAnswer
+figuresAre saifi saidi caidi = Figures (record { saifi = saifi; saidi = saidi; caidi = caidi })
 
 abbrev noCustomers : FiguresAnswer
 noCustomers = Refused 19
 
--- the entry of a path: its marks, and its class
-abbrev path : List ℕ → ℕ → List ℕ
-path marks class = marks ++ (class ∷ [])
-
 -- component 0 in state 1, by itself
 abbrev failed0 : Gate
-unfolding votes
 failed0 = votes 1 (test 0 2 ∷ [])
 
 -- a path of probability 0 is listed like any other
 abbrev zeroListed : List (List ℕ)
-zeroListed = path (0 ∷ []) 0 ∷ path (1 ∷ []) 1 ∷ []
+zeroListed = entry (0 ∷ []) 0 ∷ entry (1 ∷ []) 1 ∷ []
 
 abbrev pub examples : List Example
-unfolding opens refusedOpening votes
 examples =
     -- A: two components, lost when either fails
     listing (2 ∷ 1 ∷ 1
@@ -146,11 +143,11 @@ examples =
     ∷ 0x02 ∷ 2 ∷ 0 ∷ 2 ∷ 1 ∷ 2
     ∷ 0x07 ∷ 0 ∷ 0x64 ∷ 0 ∷ 0 ∷ 0 ∷ 0x3C ∷ 0 ∷ 0 ∷ 0 ∷ [])
     (opens (twoStates 100_000_000 ∷ twoStates 200_000_000 ∷ []) (votes 1 (test 0 2 ∷ test 1 2 ∷ []) ∷ []) (lostBy 0 100 60 ∷ []))
-    (path (0 ∷ 0 ∷ []) 0 ∷ path (0 ∷ 1 ∷ []) 1 ∷ path (1 ∷ blankMark ∷ []) 1 ∷ [])
+    (entry (0 ∷ 0 ∷ []) 0 ∷ entry (0 ∷ 1 ∷ []) 1 ∷ entry (1 ∷ blankMark ∷ []) 1 ∷ [])
     (at 720_000_000 ∷ at 180_000_000 ∷ at 100_000_000 ∷ [])
     (at 720_000_000 ∷ at 280_000_000 ∷ [])
     (at 280_000_000 ∷ [])
-    (threeFigures (at 280_000_000) (at 16_800_000_000) (Bounds (at 60)))
+    (figuresAre (at 280_000_000) (at 16_800_000_000) (Bounds (at 60)))
     -- B: two components, lost when both fail
     ∷ listing (2 ∷ 1 ∷ 1
     ∷ 0x02 ∷ 0x55 ∷ 0x43 ∷ 0xDE ∷ 0x13
@@ -158,7 +155,7 @@ examples =
     ∷ 0x03 ∷ 2 ∷ 2 ∷ 0 ∷ 2 ∷ 1 ∷ 2
     ∷ 0x01 ∷ 0 ∷ [])
     (opens (twoStates 333_333_333 ∷ twoStates 333_333_333 ∷ []) (votes 2 (test 0 2 ∷ test 1 2 ∷ []) ∷ []) (lostBy 0 0 0 ∷ []))
-    (path (0 ∷ blankMark ∷ []) 0 ∷ path (1 ∷ 0 ∷ []) 0 ∷ path (1 ∷ 1 ∷ []) 1 ∷ [])
+    (entry (0 ∷ blankMark ∷ []) 0 ∷ entry (1 ∷ 0 ∷ []) 0 ∷ entry (1 ∷ 1 ∷ []) 1 ∷ [])
     (at 666_666_667 ∷ between 222_222_222 222_222_223 ∷ between 111_111_110 111_111_111 ∷ [])
     (between 888_888_889 888_888_890 ∷ between 111_111_110 111_111_111 ∷ [])
     (between 111_111_110 111_111_111 ∷ [])
@@ -166,7 +163,7 @@ examples =
     -- C: a load without a gate
     ∷ listing (1 ∷ 1 ∷ 1 ∷ 0x00 ∷ 0x02 ∷ 1 ∷ 0 ∷ 2 ∷ 0x00 ∷ [])
     (opens (twoStates 0 ∷ []) (failed0 ∷ []) (lostBy never 0 0 ∷ []))
-    (path (blankMark ∷ []) 0 ∷ [])
+    (entry (blankMark ∷ []) 0 ∷ [])
     (at one ∷ [])
     (at one ∷ [])
     (at 0 ∷ [])
@@ -174,7 +171,7 @@ examples =
     -- D: a full mask
     ∷ listing (1 ∷ 1 ∷ 1 ∷ 0x00 ∷ 0x02 ∷ 1 ∷ 0 ∷ 3 ∷ 0x01 ∷ 0 ∷ [])
     (opens (twoStates 0 ∷ []) (votes 1 (test 0 3 ∷ []) ∷ []) (lostBy 0 0 0 ∷ []))
-    (path (blankMark ∷ []) 1 ∷ [])
+    (entry (blankMark ∷ []) 1 ∷ [])
     (at one ∷ [])
     (at 0 ∷ at one ∷ [])
     (at one ∷ [])
@@ -182,7 +179,7 @@ examples =
     -- E: three components, lost when the first and the last fail
     ∷ listing (3 ∷ 1 ∷ 1 ∷ 0x00 ∷ 0x00 ∷ 0x00 ∷ 0x03 ∷ 2 ∷ 2 ∷ 0 ∷ 2 ∷ 2 ∷ 2 ∷ 0x01 ∷ 0 ∷ [])
     (opens (twoStates 0 ∷ twoStates 0 ∷ twoStates 0 ∷ []) (votes 2 (test 0 2 ∷ test 2 2 ∷ []) ∷ []) (lostBy 0 0 0 ∷ []))
-    (path (0 ∷ blankMark ∷ blankMark ∷ []) 0 ∷ path (1 ∷ blankMark ∷ 0 ∷ []) 0 ∷ path (1 ∷ blankMark ∷ 1 ∷ []) 1 ∷ [])
+    (entry (0 ∷ blankMark ∷ blankMark ∷ []) 0 ∷ entry (1 ∷ blankMark ∷ 0 ∷ []) 0 ∷ entry (1 ∷ blankMark ∷ 1 ∷ []) 1 ∷ [])
     (at one ∷ at 0 ∷ at 0 ∷ [])
     (at one ∷ at 0 ∷ [])
     (at 0 ∷ [])
@@ -192,7 +189,7 @@ examples =
     ∷ 0x01 ∷ 4 ∷ 0x01 ∷ 4 ∷ 0x01 ∷ 4 ∷ 0x01 ∷ 4 ∷ 0x01 ∷ 4 ∷ 0x01 ∷ 4
     ∷ 0x02 ∷ 1 ∷ 0 ∷ 2 ∷ 0x01 ∷ 0 ∷ [])
     (opens (replicate 6 (fourStates 0 0 0)) (failed0 ∷ []) (lostBy 0 0 0 ∷ []))
-    (path (0 ∷ replicate 5 blankMark) 0 ∷ path (1 ∷ replicate 5 blankMark) 1 ∷ path (2 ∷ replicate 5 blankMark) 0 ∷ path (3 ∷ replicate 5 blankMark) 0 ∷ [])
+    (entry (0 ∷ replicate 5 blankMark) 0 ∷ entry (1 ∷ replicate 5 blankMark) 1 ∷ entry (2 ∷ replicate 5 blankMark) 0 ∷ entry (3 ∷ replicate 5 blankMark) 0 ∷ [])
     (at one ∷ at 0 ∷ at 0 ∷ at 0 ∷ [])
     (at one ∷ at 0 ∷ [])
     (at 0 ∷ [])
@@ -206,7 +203,7 @@ examples =
     ∷ 0x0F ∷ 4 ∷ 0x00 ∷ 0x65 ∷ 0xCD ∷ 0x1D ∷ 0x00 ∷ 0xA3 ∷ 0xE1 ∷ 0x11 ∷ 0x00 ∷ 0xC2 ∷ 0xEB ∷ 0x0B
     ∷ 0x02 ∷ 1 ∷ 0 ∷ 2 ∷ 0x01 ∷ 0 ∷ [])
     (opens (fourStates 500_000_000 300_000_000 200_000_000 ∷ []) (failed0 ∷ []) (lostBy 0 0 0 ∷ []))
-    (path (0 ∷ []) 0 ∷ path (1 ∷ []) 1 ∷ path (2 ∷ []) 0 ∷ path (3 ∷ []) 0 ∷ [])
+    (entry (0 ∷ []) 0 ∷ entry (1 ∷ []) 1 ∷ entry (2 ∷ []) 0 ∷ entry (3 ∷ []) 0 ∷ [])
     (at 0 ∷ at 500_000_000 ∷ at 300_000_000 ∷ at 200_000_000 ∷ [])
     (at 500_000_000 ∷ at 500_000_000 ∷ [])
     (at 500_000_000 ∷ [])
@@ -224,7 +221,7 @@ examples =
     -- J: threshold 2 over one test that stands twice
     ∷ listing (1 ∷ 1 ∷ 1 ∷ 0x00 ∷ 0x03 ∷ 2 ∷ 2 ∷ 0 ∷ 2 ∷ 0 ∷ 2 ∷ 0x01 ∷ 0 ∷ [])
     (opens (twoStates 0 ∷ []) (votes 2 (test 0 2 ∷ test 0 2 ∷ []) ∷ []) (lostBy 0 0 0 ∷ []))
-    (path (0 ∷ []) 0 ∷ path (1 ∷ []) 1 ∷ [])
+    (entry (0 ∷ []) 0 ∷ entry (1 ∷ []) 1 ∷ [])
     (at one ∷ at 0 ∷ [])
     (at one ∷ at 0 ∷ [])
     (at 0 ∷ [])
@@ -236,36 +233,40 @@ examples =
     (at one ∷ at 0 ∷ [])
     (at one ∷ at 0 ∷ [])
     (at 0 ∷ [])
-    (threeFigures (at 0) (at 0) NotStated)
+    (figuresAre (at 0) (at 0) NotStated)
     ∷ []
 
 -- ---- the claim
 
--- the bounds of a set of classes
-abbrev boundsOf : Study → (ℕ → Bool) → Enclosure
-boundsOf t keep = between (lowerOf t keep) (upperOf t keep)
+-- the bounds of a class
+abbrev classBounds : Model → ℕ → Enclosure
+classBounds m c = between (lowerOf m (λ (class : ℕ). eqb class c)) (upperOf m (λ (class : ℕ). eqb class c))
 
--- what the paper gives of a study is true of it
-pub record ResultsTrue (t : Study) (r : Results) : Type 0 where
-  pub paths : pathList t ≡ r .paths
-  pub lower : lowerBounds t ≡ map (λ (p : Enclosure). p .lower) (r .bounds)
-  pub upper : upperBounds t ≡ map (λ (p : Enclosure). p .upper) (r .bounds)
-  pub classes : tabulate (λ (c : ℕ). boundsOf t (λ (class : ℕ). eqb class c)) (length (r .classes)) ≡ r .classes
-  pub loads : tabulate (λ (j : ℕ). boundsOf t (λ (class : ℕ). bit class j)) (t .loads) ≡ r .loads
-  -- what the call answers once the study is found sound
-  pub figures : figuresBy (customersFault (customersOf t)) (studyFigures t) ≡ r .figures
+-- what the definitions give of a model, for so many classes; the figures are what the call answers once the study is found sound
+abbrev resultsOf : Model → ℕ → Results
+resultsOf m classes =
+    record {
+      paths = pathsOf m;
+      lower = pathLowers m;
+      upper = pathUppers m;
+      classes = tabulate (classBounds m) classes;
+      loads = tabulate (lossOf m) (length (m .loads));
+      figures = figuresBy (loadLowers m) (loadUppers m) (m .loads);
+    }
 
-abbrev pub ResultsHold : Study → Option Results → Type 0
-ResultsHold t none = Unit {0}
-ResultsHold t (some r) = ResultsTrue t r
+-- and of what an example gives results for
+abbrev resultsFor : Study → Option Results → Option Results
+resultsFor t none = none
+resultsFor t (some r) = some (resultsOf (modelOf t) (length (r .classes)))
 
--- a row is true where opening its bytes answers what it says, and the study is as the paper says
-abbrev pub Holds : Example → Type 0
-Holds e = (opened (e .bytes) ≡ e .opening) × ResultsHold (e .opening .study) (e .results)
+-- a row as the definitions give it: what opening its bytes answers, and the results of the study that it says they hold
+abbrev pub worked : Example → Example
+worked e = record { bytes = e .bytes; opening = opened (e .bytes); results = resultsFor (e .opening .study) (e .results) }
 
+-- Each row is as the definitions give it.
 abbrev pub Each : List Example → Type 0
 Each [] = Unit {0}
-Each (e ∷ es) = Holds e × Each es
+Each (e ∷ es) = (worked e ≡ e) × Each es
 
-abbrev pub DeskExamples : Type 0
-DeskExamples = Each examples
+abbrev pub WorkedExamples : Type 0
+WorkedExamples = Each examples
