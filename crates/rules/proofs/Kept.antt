@@ -36,15 +36,6 @@ pub first-next : (a b : ℕ) → a ≡ 0 → first a b ≡ b
 unfolding first
 first-next a b none = rw none
 
--- two are judged before a third
-pub first-assoc : (a b c : ℕ) → first (first a b) c ≡ first a (first b c)
-unfolding first
-first-assoc a b c = go (eqb a 0) refl
-  where
-    go : (t : Bool) → eqb a 0 ≡ t → first (first a b) c ≡ first a (first b c)
-    go true t = rw t
-    go false t = rw (t, t)
-
 -- nothing is judged after the last
 pub first-last : (a : ℕ) → first a 0 ≡ a
 unfolding first
