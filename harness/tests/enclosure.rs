@@ -1,4 +1,4 @@
-//! The bounds of the second implementation enclose the exact chances, as near as demand 2 asks, and its figures the exact quotients.
+//! The bounds of the second implementation enclose the exact probabilities, as near as demand 2 asks, and its figures the exact quotients.
 use harness::generate::{sound_input, Random};
 use harness::reference::bounds::{bounded_paths, class_bounds, load_bounds, Bounds};
 use harness::reference::figures::figures;
@@ -10,13 +10,15 @@ use harness::reference::study::{Study, ONE};
 /// With so many components every exact number below fits 128 bits.
 const MOST_COMPONENTS: usize = 3;
 
-/// The exact chance of the joint states whose class is wanted, over one to the number of components.
+/// The exact probability of the joint states whose class is wanted, over one to the number of components.
 fn exact(study: &Study, losses: &Losses, wanted: impl Fn(u8) -> bool) -> u128 {
     let all = losses.joint_states.iter().zip(&losses.classes);
     all.filter(|(_, &class)| wanted(class))
         .map(|(joint, _)| {
             let states = study.components.iter().zip(joint);
-            states.map(|(c, &state)| c.chance(state)).product::<u128>()
+            states
+                .map(|(c, &state)| c.probability(state))
+                .product::<u128>()
         })
         .sum()
 }
@@ -85,7 +87,7 @@ fn check(study: &Study) {
 }
 
 #[test]
-fn bounds_enclose_exact_chances() {
+fn bounds_enclose_exact_probabilities() {
     let mut checked = 0;
     for seed in 2_000_000..2_006_000 {
         let bytes = sound_input(&mut Random::new(seed));

@@ -123,7 +123,7 @@ fn i_j_thresholds() {
 }
 
 #[test]
-fn k_chance_zero() {
+fn k_probability_zero() {
     let study = "01 01 01  02 00000000  02 01 0002  03 00 01000000";
     let paths = ["0 0 1000000000 1000000000", "1 1 0 0"];
     assert_eq!(lines(study, "P "), paths);
@@ -164,7 +164,7 @@ fn lacking_states_at_their_bit() {
     assert_eq!(report_of("01 01 01  06 000000"), "REFUSED 1 short\n");
     assert_eq!(report_of("01 01 01  06 00000000"), "REFUSED 5 no state\n");
     assert_eq!(report_of("01 01 01  04 00000000"), "REFUSED 5 no state\n");
-    // A chance far above one is judged with the sum, so what stands behind it is met before.
+    // A probability far above one is judged with the sum, so what stands behind it is met before.
     assert_eq!(report_of("01 01 01  06 FFFFFFFF"), "REFUSED 5 no state\n");
     assert_eq!(
         report_of("01 01 01  07 03 FFFFFFFF 0000"),

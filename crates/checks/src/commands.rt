@@ -21,7 +21,7 @@
 //                                 and its bounds. One line: how many places from 256 on, or of all if refused, hold what they held, and how
 //                                 many do not
 //     v ITEM                      the bounds of a load of the current study: the refusal, 0 for none, the lower and the upper bound
-//     i                           the three figures of the current study. One line: the refusal, 0 for none. Unless refused, a line each for SAIFI,
+//     i                           the figures of the current study. One line: the refusal, 0 for none. Unless refused, a line each for SAIFI,
 //                                 SAIDI and CAIDI: the lower and the upper bound, and an empty line where CAIDI is not stated
 //     n CLASS                     the number of loads lost in a class
 //

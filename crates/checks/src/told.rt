@@ -22,7 +22,7 @@ fn show_caidi(caidi: Caidi) {
     }
 }
 
-// Shows the refusal, 0 for none, on a line; unless refused, the three figures, a line each.
+// Shows the refusal, 0 for none, on a line; unless refused, the figures, a line each.
 pub fn figures(study: Study) {
     let answer = planning::figures(study);
     match answer {

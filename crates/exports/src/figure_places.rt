@@ -1,4 +1,4 @@
-// The three figures of an opened study, a pair of places each.
+// The figures of an opened study, a pair of places each.
 use crate::numbers::counted;
 use crate::numbers::refused;
 use planning::Caidi;

@@ -50,8 +50,8 @@ module _ (t : Study) (s : Sound t) where
   count-most k h = rw (count-at k h) (states-kept (componentAt t k .states) (s .component k h .states) .most)
 
   -- states 1 to 3 of every component place, in use or not, sum to one at most
-  pub chances-sum : (i : ℕ) → i < mostComponents → componentAt t i .p1 + componentAt t i .p2 + componentAt t i .p3 ≤ one
-  chances-sum i less = go (ltb i (t .components)) refl
+  pub probabilities-sum : (i : ℕ) → i < mostComponents → componentAt t i .p1 + componentAt t i .p2 + componentAt t i .p3 ≤ one
+  probabilities-sum i less = go (ltb i (t .components)) refl
     where
       go : (b : Bool) → ltb i (t .components) ≡ b → componentAt t i .p1 + componentAt t i .p2 + componentAt t i .p3 ≤ one
       go true used =

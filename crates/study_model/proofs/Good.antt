@@ -22,7 +22,7 @@ use Rattle.study.specs.Places.{componentAt, loadAt}
 use Rattle.study.specs.Zero.{zeroComponent, zeroLoad}
 use Rattle.model.specs.Good.{Whole, Counted, StateProbabilities, Sizes, Good}
 use Rattle.soundness.specs.Sound.{Sound, SoundComponent}
-use Rattle.soundness.proofs.Ranges.{components-most, loads-most, joint-most, counts-few, count-at, count-least, count-most, chances-sum}
+use Rattle.soundness.proofs.Ranges.{components-most, loads-most, joint-most, counts-few, count-at, count-least, count-most, probabilities-sum}
 use Rattle.study_model.specs.Model.{stateProbabilities, modelOf}
 
 -- ---- one component
@@ -88,7 +88,7 @@ module _ (t : Study) (s : Sound t) where
 
       row-whole : (k : ℕ) → k < t .components → Whole (getD (stateCounts t) k 0) (stateProbabilities (componentAt t k))
       row-whole k h =
-          whole (componentAt t k) (s .component k h) (chances-sum t s k (omega (arith, components-most t s))) (getD (stateCounts t) k 0)
+          whole (componentAt t k) (s .component k h) (probabilities-sum t s k (omega (arith, components-most t s))) (getD (stateCounts t) k 0)
           (sym (count-at t s k h)) (count-least t s k h) (count-most t s k h)
 
   sizes : Sizes (modelOf t .loads)

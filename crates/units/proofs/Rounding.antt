@@ -1,4 +1,4 @@
--- Laws of a number times a chance, over one, rounded: which quotient it is, and so how near it is to the product.
+-- Laws of a number times a probability, over one, rounded: which quotient it is, and so how near it is to the product.
 use Prim.Native.Nat.{ℕ, _+_, _*_, _<_, _≤_}
 use mathlib.Core.Path.{_≡_, refl}
 use native.Mathlib.Nat.{add-zero, mul-le-mul}
@@ -33,7 +33,7 @@ module _ (a p : ℕ) where
   pub up-most : a ≤ one → p ≤ one → scale up a p ≤ one
   up-most most h = omega (arith, up-near, mul-le-mul most h)
 
--- one times a chance is that chance, without rounding
+-- one times a probability is that probability, without rounding
 module _ (p : ℕ) where
   pub down-exact : scale down one p ≡ p
   down-exact = omega (arith, down-below one p, down-near one p)

@@ -1,4 +1,4 @@
--- Laws of bounds that enclose an exact chance, each by multiplying its inequalities out: sums, products with a further chance, and the cap at one.
+-- Laws of bounds that enclose an exact probability, each by multiplying its inequalities out: sums, products with a further probability, and the cap at one.
 use Prim.Native.Nat.{ℕ, _+_, _*_, _≤_, min}
 use mathlib.Core.Path.{_≡_, refl}
 use mathlib.Core.Bool.{Bool, true, false}
@@ -19,7 +19,7 @@ within-one = record { below = omega arith; above = omega arith; near-below = ome
 pub within-none : (w : ℕ) → Within 0 0 0 0 w
 within-none w = record { below = omega arith; above = omega arith; near-below = omega arith; near-above = omega arith }
 
--- certainty times a chance is that chance, without rounding
+-- certainty times a probability is that probability, without rounding
 pub within-first : {x w : ℕ} → Within one one 0 x w → (p : ℕ) → Within p p 0 (x * p) (w * one)
 within-first within p =
     let least = mul-le-mul-right p (within .below) in
@@ -36,7 +36,7 @@ module _ {lower upper far x w : ℕ} (within : Within lower upper far x w) where
         near-above = omega (arith, within .near-above, other .near-above);
       }
 
-  -- the same chance, over a larger whole
+  -- the same probability, over a larger whole
   pub within-expanded : (k : ℕ) → Within lower upper far (x * k) (w * k)
   within-expanded k =
       record {
@@ -46,7 +46,7 @@ module _ {lower upper far x w : ℕ} (within : Within lower upper far x w) where
         near-above = omega (arith, mul-le-mul-right k (within .near-above));
       }
 
-  -- times a further chance: each bound is rounded, by less than a unit
+  -- times a further probability: each bound is rounded, by less than a unit
   pub within-product : (p : ℕ) → p ≤ one → Within (scale down lower p) (scale up upper p) (far + 1) (x * p) (w * one)
   within-product p h =
       record {
@@ -56,7 +56,7 @@ module _ {lower upper far x w : ℕ} (within : Within lower upper far x w) where
         near-above = omega (arith, mul-le-mul-right w (le-of-lt (up-near upper p)), mul-le-mul-right p (within .near-above), mul-le-mul-left (far * w) h);
       }
 
-  -- a chance is at most one
+  -- a probability is at most one
   pub within-cap : x ≤ w → Within lower (min one upper) far x w
   within-cap h = go (leb one upper) refl
     where

@@ -1,4 +1,4 @@
--- Two bounds in units that enclose an exact chance x / w, written without division.
+-- Two bounds in units that enclose an exact probability x / w, written without division.
 use Prim.Native.Nat.{ℕ, _+_, _*_, _≤_}
 use Rattle.units.specs.One.{one}
 

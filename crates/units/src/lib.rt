@@ -12,11 +12,11 @@ pub const DOWN: u64 = 0;
 
 pub const UP: u64 = ONE as u64 - 1;
 
-// A number of units times a chance, over one.
+// A number of units times a probability, over one.
 pub fn scale(rounding: u64, a: u64, p: u64) -> u64
     requires rounding { ⌜ rounding ≤ up ⌝ }
     requires units { ⌜ a ≤ one ⌝ }
-    requires chance { ⌜ p ≤ one ⌝ }
+    requires probability { ⌜ p ≤ one ⌝ }
     ensures scaled { λ r. ⌜ r ≡ Rounding·scale rounding a p ⌝ }
     ensures most { λ r. ⌜ r ≤ one ⌝ }
 {

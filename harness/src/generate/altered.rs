@@ -52,7 +52,7 @@ fn disturb_unused(random: &mut Random, image: &mut [u8]) {
     image[at] = near(random, image[at]);
 }
 
-/// A state count out of range as the only breach: no chance and no mask speaks of a lacking state.
+/// A state count out of range as the only breach: no probability and no mask speaks of a lacking state.
 fn odd_state_count(random: &mut Random, image: &mut [u8]) {
     let number = random.below(usize::from(image[COMPONENT]).clamp(1, 12));
     let at = record(COMPONENT, number);

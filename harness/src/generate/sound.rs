@@ -48,8 +48,8 @@ pub fn state_counts(random: &mut Random, shape: &Shape) -> Vec<u8> {
     counts
 }
 
-/// A chance of at most so much: often none, all that is left, or a number that leaves remainders.
-fn chance(random: &mut Random, left: u32) -> u32 {
+/// A probability of at most so much: often none, all that is left, or a number that leaves remainders.
+fn probability(random: &mut Random, left: u32) -> u32 {
     let drawn = match random.below(8) {
         0 => 0,
         1 => left,
@@ -69,20 +69,20 @@ fn given(random: &mut Random, value: u32, absent: u32) -> bool {
 fn component(random: &mut Random, draft: &mut Draft, states: u8) {
     let mut left = ONE;
     let mut map = u8::from(given(random, u32::from(states), 2));
-    let mut chances = Vec::new();
+    let mut probabilities = Vec::new();
     for state in 1..states {
-        let p = chance(random, left);
+        let p = probability(random, left);
         left -= p;
         if given(random, p, 0) {
             map |= 1 << state;
-            chances.push(p);
+            probabilities.push(p);
         }
     }
     draft.byte(Role::ComponentMap { states }, map);
     if map & 1 == 1 {
         draft.byte(Role::StateCount, states);
     }
-    for p in chances {
+    for p in probabilities {
         draft.number(Role::Probability, p);
     }
 }

@@ -8,9 +8,9 @@ pub const UP: u64 = ONE - 1;
 
 pub const CLASS_PLACES: usize = 256;
 
-pub type Chances = [[u32; 4]; COMPONENT_PLACES];
+pub type Probabilities = [[u32; 4]; COMPONENT_PLACES];
 
-pub fn chance_table(study: &Study) -> Chances {
+pub fn probability_table(study: &Study) -> Probabilities {
     let mut table = [[0; 4]; COMPONENT_PLACES];
     for (row, c) in table.iter_mut().zip(study.components()) {
         let [p1, p2, p3] = c.failed;
@@ -19,9 +19,9 @@ pub fn chance_table(study: &Study) -> Chances {
     table
 }
 
-pub fn path_bound(rounding: u64, chances: &Chances, marks: &[u8]) -> u64 {
+pub fn path_bound(rounding: u64, probabilities: &Probabilities, marks: &[u8]) -> u64 {
     let mut bound = ONE;
-    for (row, &mark) in chances.iter().zip(marks) {
+    for (row, &mark) in probabilities.iter().zip(marks) {
         if mark != BLANK {
             bound = (bound * u64::from(row[usize::from(mark)]) + rounding) / ONE;
         }
@@ -33,7 +33,7 @@ pub fn path_bound(rounding: u64, chances: &Chances, marks: &[u8]) -> u64 {
 pub fn class_totals(
     rounding: u64,
     most: u64,
-    chances: &Chances,
+    probabilities: &Probabilities,
     entries: &[u8],
     width: usize,
     totals: &mut [u64; CLASS_PLACES],
@@ -42,7 +42,7 @@ pub fn class_totals(
     for entry in entries.chunks_exact(width) {
         let (class, marks) = entry.split_last().expect("an entry ends with its class");
         let total = &mut totals[usize::from(*class)];
-        *total = most.min(*total + path_bound(rounding, chances, marks));
+        *total = most.min(*total + path_bound(rounding, probabilities, marks));
     }
 }
 
@@ -50,14 +50,14 @@ pub fn class_totals(
 pub fn load_totals(
     rounding: u64,
     most: u64,
-    chances: &Chances,
+    probabilities: &Probabilities,
     entries: &[u8],
     width: usize,
 ) -> [u64; LOAD_PLACES] {
     let mut totals = [0; LOAD_PLACES];
     for entry in entries.chunks_exact(width) {
         let (class, marks) = entry.split_last().expect("an entry ends with its class");
-        let bound = path_bound(rounding, chances, marks);
+        let bound = path_bound(rounding, probabilities, marks);
         for (j, total) in totals.iter_mut().enumerate() {
             if class >> j & 1 == 1 {
                 *total = most.min(*total + bound);

@@ -38,12 +38,12 @@ fn list_block(
     block: &[u8],
     marks: &mut [u8; COMPONENT_PLACES],
     front: usize,
-    page: &mut [u8],
+    list: &mut [u8],
     at: usize,
 ) -> usize {
     if counts.is_empty() {
-        page[at..at + front].copy_from_slice(&marks[..front]);
-        page[at + front] = block[0];
+        list[at..at + front].copy_from_slice(&marks[..front]);
+        list[at + front] = block[0];
         return at + front + 1;
     }
     let ways = ways_at(counts, block);
@@ -51,13 +51,13 @@ fn list_block(
     let mut place = at;
     for (state, part) in parts.enumerate() {
         marks[front] = if ways.blank { BLANK } else { state as u8 };
-        place = list_block(&counts[1..], part, marks, front + 1, page, place);
+        place = list_block(&counts[1..], part, marks, front + 1, list, place);
     }
     place
 }
 
-/// Lists the paths at the front of a page, which must have the room.
-pub fn list_paths(counts: &[u8], block: &[u8], page: &mut [u8]) {
+/// Lists the paths at the front of a buffer, which must have the room.
+pub fn list_paths(counts: &[u8], block: &[u8], list: &mut [u8]) {
     let mut marks = [0; COMPONENT_PLACES];
-    list_block(counts, block, &mut marks, 0, page, 0);
+    list_block(counts, block, &mut marks, 0, list, 0);
 }

@@ -1,4 +1,4 @@
-//! The report of a study's bytes, composed on a page of its own and then copied.
+//! The report of a study's bytes, composed in a buffer of its own and then copied.
 use super::bounds::*;
 use super::classes::class_table;
 use super::figures::{figures_of, Enclosure};
@@ -12,7 +12,7 @@ const LIST_BYTES: usize = 53_248;
 
 /// The list of a study's paths.
 struct List {
-    page: [u8; LIST_BYTES],
+    bytes: [u8; LIST_BYTES],
     paths: usize,
     width: usize,
 }
@@ -25,16 +25,16 @@ impl List {
         let table = class_table(study, counts, joint_states);
         let block = &table[..joint_states];
         let mut list = List {
-            page: [0; LIST_BYTES],
+            bytes: [0; LIST_BYTES],
             paths: count_paths(counts, block),
             width: counts.len() + 1,
         };
-        list_paths(counts, block, &mut list.page);
+        list_paths(counts, block, &mut list.bytes);
         list
     }
 
     fn entries(&self) -> &[u8] {
-        &self.page[..self.paths * self.width]
+        &self.bytes[..self.paths * self.width]
     }
 }
 
@@ -70,7 +70,7 @@ fn write_refusal(text: &mut Text, refusal: u8) {
     text.push(b"\n");
 }
 
-fn write_paths(text: &mut Text, chances: &Chances, list: &List) {
+fn write_paths(text: &mut Text, probabilities: &Probabilities, list: &List) {
     text.push(b"PATHS ");
     text.number(list.paths as u64);
     text.push(b"\n");
@@ -83,14 +83,14 @@ fn write_paths(text: &mut Text, chances: &Chances, list: &List) {
         text.push(b" ");
         text.number(u64::from(*class));
         text.bounds(
-            path_bound(DOWN, chances, marks),
-            path_bound(UP, chances, marks),
+            path_bound(DOWN, probabilities, marks),
+            path_bound(UP, probabilities, marks),
         );
     }
 }
 
-/// The classes that occur: which these are is not told by bounds, since a path may have chance 0.
-fn write_classes(text: &mut Text, chances: &Chances, list: &List) {
+/// The classes that occur: which these are is not told by bounds, since a path may have probability 0.
+fn write_classes(text: &mut Text, probabilities: &Probabilities, list: &List) {
     let mut occurs = [false; CLASS_PLACES];
     for entry in list.entries().chunks_exact(list.width) {
         occurs[usize::from(entry[list.width - 1])] = true;
@@ -98,8 +98,8 @@ fn write_classes(text: &mut Text, chances: &Chances, list: &List) {
     let mut lower = [0; CLASS_PLACES];
     let mut upper = [0; CLASS_PLACES];
     let (entries, width) = (list.entries(), list.width);
-    class_totals(DOWN, u64::MAX, chances, entries, width, &mut lower);
-    class_totals(UP, ONE, chances, entries, width, &mut upper);
+    class_totals(DOWN, u64::MAX, probabilities, entries, width, &mut lower);
+    class_totals(UP, ONE, probabilities, entries, width, &mut upper);
     for class in (0..CLASS_PLACES).filter(|&class| occurs[class]) {
         text.push(b"K ");
         text.number(class as u64);
@@ -112,10 +112,10 @@ fn write_figure(text: &mut Text, name: &[u8], figure: &Enclosure) {
     text.bounds(figure.lower, figure.upper);
 }
 
-fn write_loads(text: &mut Text, chances: &Chances, list: &List, loads: &[Load]) {
+fn write_loads(text: &mut Text, probabilities: &Probabilities, list: &List, loads: &[Load]) {
     let (entries, width) = (list.entries(), list.width);
-    let lower = load_totals(DOWN, u64::MAX, chances, entries, width);
-    let upper = load_totals(UP, ONE, chances, entries, width);
+    let lower = load_totals(DOWN, u64::MAX, probabilities, entries, width);
+    let upper = load_totals(UP, ONE, probabilities, entries, width);
     for j in 0..loads.len() {
         text.push(b"L ");
         text.number(j as u64);
@@ -136,10 +136,10 @@ fn write_loads(text: &mut Text, chances: &Chances, list: &List, loads: &[Load]) 
 
 fn write_study(text: &mut Text, study: &Study) {
     let list = List::of(study);
-    let chances = chance_table(study);
-    write_paths(text, &chances, &list);
-    write_classes(text, &chances, &list);
-    write_loads(text, &chances, &list, study.loads());
+    let probabilities = probability_table(study);
+    write_paths(text, &probabilities, &list);
+    write_classes(text, &probabilities, &list);
+    write_loads(text, &probabilities, &list, study.loads());
 }
 
 /// The number of bytes of the report, which fills the front of the lent text; 18 where it has no room for it.

@@ -18,7 +18,7 @@ pub const NEVER: u8 = 255;
 #[derive(Clone, Copy, Default)]
 pub struct Component {
     pub states: u8,
-    /// The chances of states 1 to 3.
+    /// The probabilities of states 1 to 3.
     pub failed: [u32; 3],
 }
 

@@ -1,27 +1,27 @@
-//! A page of text that grows at its end.
+//! A buffer of text that grows at its end.
 
 /// Room for the longest report.
 const TEXT_BYTES: usize = 180_224;
 
 pub struct Text {
-    page: [u8; TEXT_BYTES],
+    bytes: [u8; TEXT_BYTES],
     size: usize,
 }
 
 impl Text {
     pub fn new() -> Text {
         Text {
-            page: [0; TEXT_BYTES],
+            bytes: [0; TEXT_BYTES],
             size: 0,
         }
     }
 
     pub fn written(&self) -> &[u8] {
-        &self.page[..self.size]
+        &self.bytes[..self.size]
     }
 
     pub fn push(&mut self, words: &[u8]) {
-        self.page[self.size..self.size + words.len()].copy_from_slice(words);
+        self.bytes[self.size..self.size + words.len()].copy_from_slice(words);
         self.size += words.len();
     }
 

@@ -27,8 +27,8 @@ fn path_bounds(study: &Study, path: &Path) -> Bounds {
     let (mut lower, mut upper) = (ONE, ONE);
     for (component, mark) in study.components.iter().zip(&path.marks) {
         if let Some(state) = *mark {
-            lower = lower * component.chance(state) / ONE;
-            upper = (upper * component.chance(state)).div_ceil(ONE);
+            lower = lower * component.probability(state) / ONE;
+            upper = (upper * component.probability(state)).div_ceil(ONE);
         }
     }
     Bounds {

@@ -15,7 +15,7 @@ pub const MOST_MINUTES: u32 = 20_000;
 #[derive(Clone, Debug, PartialEq)]
 pub struct Component {
     pub states: u8,
-    /// The chances of states 1, 2 and 3; 0 for those that the component lacks.
+    /// The probabilities of states 1, 2 and 3; 0 for those that the component lacks.
     pub failed: [u32; 3],
 }
 
@@ -48,13 +48,13 @@ pub struct Study {
 }
 
 impl Component {
-    /// The chances of states 1 to 3 together, which may be above one before it is judged.
+    /// The probabilities of states 1 to 3 together, which may be above one before it is judged.
     pub fn failed_together(failed: [u32; 3]) -> u128 {
         failed.iter().map(|&p| u128::from(p)).sum()
     }
 
-    /// The chance of a state, in units.
-    pub fn chance(&self, state: u8) -> u128 {
+    /// The probability of a state, in units.
+    pub fn probability(&self, state: u8) -> u128 {
         match state {
             0 => ONE - Component::failed_together(self.failed),
             _ => u128::from(self.failed[usize::from(state) - 1]),

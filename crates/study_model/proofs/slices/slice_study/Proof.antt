@@ -3,14 +3,14 @@ use mathlib.Core.Path.{_≡_, refl}
 use lib.ListN.{length}
 use Rattle.lists.proofs.Maps.{mapped}
 use Rattle.rules.specs.Limits.{mostComponents}
-use Rattle.soundness.proofs.Ranges.{chances-sum}
+use Rattle.soundness.proofs.Ranges.{probabilities-sum}
 use Rattle.study_model.proofs.Table.{study-held}
 use borrow.Author.Needs.{needs}
 use Rattle.study_model.proofs.slices.slice_study.Statement.{statement}
 use Rattle.study_model.proofs.slices.slice_study.Tie as tie
 
 probability-table-requires : tie.Need-probability-table-requires
-probability-table-requires c κs = chances-sum _ (c .before .before .pre .0)
+probability-table-requires c κs = probabilities-sum _ (c .before .before .pre .0)
 
 list-study-requires : tie.Need-list-study-requires
 list-study-requires c κs = search needs
