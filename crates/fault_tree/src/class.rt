@@ -1,4 +1,5 @@
 // The class of a joint state: bit j stands when load j is lost.
+use entries::Class;
 use rules::LOAD_PLACES;
 use rules::NEVER;
 use study::Load;
@@ -21,23 +22,23 @@ fn lost(truths: &[bool], l: Load) -> bool
 }
 
 // The class of a joint state in which the gates have these truths.
-pub fn class_by(truths: &[bool], load: [Load; LOAD_PLACES], n: u8) -> u8
+pub fn class_by(truths: &[bool], load: [Load; LOAD_PLACES], n: u8) -> Class
     requires { ⌜ n ≤ mostLoads ⌝ }
     ensures { λ r. ⌜ r ≡ classBy (now (truths .entry)) load n ⌝ }
 {
     let loads = n as usize;
-    let mut class: u8 = 0;
+    let mut class: Class = 0;
     let mut j: usize = 0;
     while j < loads {
         let l = load[j];
-        class = class | ((lost(truths, l) as u8) << j);
+        class = class | ((lost(truths, l) as Class) << j);
         j = j + 1;
     }
     class
 }
 
 // How many loads are lost in a class.
-pub fn loads_lost(class: u8) -> u32
+pub fn loads_lost(class: Class) -> u32
     ensures { λ r. ⌜ r ≡ loadsLost class ⌝ }
 {
     u8::count_ones(class)

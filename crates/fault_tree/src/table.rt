@@ -2,6 +2,7 @@
 use crate::class::class_by;
 use crate::truth::gate_true;
 use crate::truth::no_truths;
+use entries::Class;
 use joint_states::next_joint_state;
 use rules::COMPONENT_PLACES;
 use rules::JOINT_STATE_PLACES;
@@ -14,7 +15,7 @@ ghost use Rattle.fault_tree.specs.Classes.{cleared, classTable};
 ghost use Rattle.fault_tree.specs.Readable.{allUp, TableBegins};
 
 // A class table with every place cleared.
-fn cleared_table() -> [u8; JOINT_STATE_PLACES]
+fn cleared_table() -> [Class; JOINT_STATE_PLACES]
     ensures { λ r. ⌜ r ≡ cleared ⌝ }
 {
     [0; JOINT_STATE_PLACES]
@@ -29,7 +30,7 @@ fn all_up() -> [u8; COMPONENT_PLACES]
 
 // The class table of a sound study with these state counts, filled by joint state number; x is the joint state in which all are up, and is
 // moved on from there.
-fn fill_table(t: Study, counts: &[u8], x: &mut [u8]) -> [u8; JOINT_STATE_PLACES]
+fn fill_table(t: Study, counts: &[u8], x: &mut [u8]) -> [Class; JOINT_STATE_PLACES]
     requires { ⌜ TableBegins t (now counts) (now x) ⌝ }
     ensures { λ r. ⌜ r ≡ classTable t ⌝ }
 {
@@ -56,7 +57,7 @@ fn fill_table(t: Study, counts: &[u8], x: &mut [u8]) -> [u8; JOINT_STATE_PLACES]
 }
 
 // The class table of a sound study.
-pub fn class_table(t: Study) -> [u8; JOINT_STATE_PLACES]
+pub fn class_table(t: Study) -> [Class; JOINT_STATE_PLACES]
     requires { ⌜ Sound t ⌝ }
     ensures { λ r. ⌜ r ≡ classTable t ⌝ }
 {
