@@ -7,13 +7,10 @@ use study::state_counts;
 ghost use Prim.Native.Nat.{_≤_};
 ghost use mathlib.Core.Path.{_≡_};
 ghost use lib.ListN.{length};
-ghost use Rattle.lists.specs.Rows.{joined};
-ghost use Rattle.rules.specs.Table.{roomFault};
 ghost use Rattle.study.specs.Joint.{stateCounts};
-ghost use Rattle.answers.specs.Answered.{answered, filled};
-ghost use Rattle.answers.specs.declared.counts.Listing.the-variants.{Listed, Refused};
 ghost use Rattle.entries.specs.Entries.{listBytes};
-ghost use Rattle.model.specs.Held.{Listed as Held·Listed};
+ghost use Rattle.event_tree.specs.Lent.{listedIn, bufferIn};
+ghost use Rattle.model.specs.Held.{Listed};
 ghost use Rattle.model.specs.Model.{pathsOf};
 ghost use Rattle.soundness.specs.Sound.{Sound};
 ghost use Rattle.study_model.specs.Model.{modelOf};
@@ -22,8 +19,8 @@ ghost use Rattle.study_model.specs.Model.{modelOf};
 fn list_counted(t: Study, counts: &[u8], buffer: &mut [u8]) -> Listing
     requires { ⌜ Sound t ⌝ }
     requires { ⌜ now counts ≡ stateCounts t ⌝ }
-    ensures answer { λ r. ⌜ r ≡ answered Refused (roomFault (length (joined (pathsOf (modelOf t)))) (length (now (buffer .entry)))) (Listed (record { paths = length (pathsOf (modelOf t)) })) ⌝ }
-    ensures buffer { λ r. ⌜ now (buffer .exit) ≡ filled (roomFault (length (joined (pathsOf (modelOf t)))) (length (now (buffer .entry)))) (joined (pathsOf (modelOf t))) (now (buffer .entry)) ⌝ }
+    ensures answer { λ r. ⌜ r ≡ listedIn (pathsOf (modelOf t)) (now (buffer .entry)) ⌝ }
+    ensures buffer { λ r. ⌜ now (buffer .exit) ≡ bufferIn (pathsOf (modelOf t)) (now (buffer .entry)) ⌝ }
 {
     let joint = joint_states(counts) as usize;
     let table = class_table(t);
@@ -33,8 +30,8 @@ fn list_counted(t: Study, counts: &[u8], buffer: &mut [u8]) -> Listing
 // Lists the paths of a sound study at the front of a lent buffer. Refused by 18.
 pub fn list_lent(t: Study, buffer: &mut [u8]) -> Listing
     requires { ⌜ Sound t ⌝ }
-    ensures answer { λ r. ⌜ r ≡ answered Refused (roomFault (length (joined (pathsOf (modelOf t)))) (length (now (buffer .entry)))) (Listed (record { paths = length (pathsOf (modelOf t)) })) ⌝ }
-    ensures buffer { λ r. ⌜ now (buffer .exit) ≡ filled (roomFault (length (joined (pathsOf (modelOf t)))) (length (now (buffer .entry)))) (joined (pathsOf (modelOf t))) (now (buffer .entry)) ⌝ }
+    ensures answer { λ r. ⌜ r ≡ listedIn (pathsOf (modelOf t)) (now (buffer .entry)) ⌝ }
+    ensures buffer { λ r. ⌜ now (buffer .exit) ≡ bufferIn (pathsOf (modelOf t)) (now (buffer .entry)) ⌝ }
 {
     let component = t.component;
     let n = t.components as usize;
@@ -46,7 +43,7 @@ pub fn list_lent(t: Study, buffer: &mut [u8]) -> Listing
 pub fn list_study(t: Study, list: &mut [u8]) -> u32
     requires { ⌜ Sound t ⌝ }
     requires { ⌜ listBytes ≤ length (now list) ⌝ }
-    ensures { λ r. ⌜ Held·Listed (modelOf t) r (now (list .exit)) ⌝ }
+    ensures { λ r. ⌜ Listed (modelOf t) r (now (list .exit)) ⌝ }
 {
     let listing = list_lent(t, list);
     match listing {
