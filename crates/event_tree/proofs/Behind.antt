@@ -19,7 +19,8 @@ behind-append front (x ∷ xs) ys =
     ap (λ (l : List ℕ). front ++ x ++ l) (behind-append front xs ys) ∙ sym (append-assoc (front ++ x) (entriesBehind front xs) (entriesBehind front ys))
 
 -- a mark in front of each entry is one mark more in front of all
-pub behind-headed : (front : List ℕ) (mark : ℕ) (rows : List (List ℕ)) → entriesBehind front (headed mark rows) ≡ entriesBehind (front ++ (mark ∷ [])) rows
+pub behind-headed : (front : List ℕ) (mark : ℕ) (rows : List (List ℕ))
+    → entriesBehind front (headed mark rows) ≡ entriesBehind (front ++ (mark ∷ [])) rows
 unfolding entriesBehind joined
 behind-headed front mark [] = refl
 behind-headed front mark (row ∷ rows) =

@@ -20,8 +20,8 @@ module _ {counts block : List ℕ} {w : Ways} {later : List ℕ} where
   pub counted-start : Fork counts block w later → Counted counts block w later 0 0
   counted-start f = record { fork = f; due = rw (left-all f, zero-add) refl }
 
-  pub counted-more : {s n r : ℕ} {p : List ℕ} → Counted counts block w later s n → s < w .number → p ≡ part (w .size) s block → r ≡ length (paths later p)
-      → Counted counts block w later (s + 1) (n + r)
+  pub counted-more : {s n r : ℕ} {p : List ℕ} → Counted counts block w later s n → s < w .number → p ≡ part (w .size) s block
+      → r ≡ length (paths later p) → Counted counts block w later (s + 1) (n + r)
   counted-more {s} {n} {r} {p} c h e count =
       let way = headed (mark (w .blank) s) (rows block w later s) in
       let next = ap length (left-next block w later s h) ∙ length-append way (left block w later (s + 1)) in

@@ -103,7 +103,8 @@ module _ {counts block : List ℕ} {w : Ways} {later : List ℕ} (f : Fork count
   pub fork-smaller : {s : ℕ} (p : List ℕ) → s < w .number → p ≡ part (w .size) s block → length p ≤ length block
   fork-smaller {s} p h e =
       let size = w .size in
-      let long : length p ≡ size = ap length e ∙ length-take-le size (drop (s * size) block) (rw (length-drop (s * size) block) (omega (arith, fork-inside h))) in
+      let room : size ≤ length (drop (s * size) block) = rw (length-drop (s * size) block) (omega (arith, fork-inside h)) in
+      let long : length p ≡ size = ap length e ∙ length-take-le size (drop (s * size) block) room in
       omega (arith, long, fork-inside h)
 
   pub fork-paths : paths counts block ≡ divided (mark (w .blank)) (rows block w later) 0 (w .number)

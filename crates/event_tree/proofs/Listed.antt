@@ -4,7 +4,7 @@ use mathlib.Core.Path.{_≡_, sym, ap, _∙_}
 use mathlib.Core.List.{List, [], _∷_, _++_, append-nil}
 use native.Mathlib.Numerals.{add-one}
 use native.Mathlib.Omega.{arith}
-use lib.ListN.{length, getD, take, set, length-append}
+use lib.ListN.{length, getD, take, set}
 use lib.Seq.{length-take-le, take-at, take-suc-set, take-take}
 use Rattle.lists.specs.Rows.{put, joined}
 use Rattle.lists.proofs.Puts.{Due, due-start, due-room, due-more}
@@ -23,7 +23,8 @@ pub record Marked (front : List ℕ) (n size : ℕ) (marks : List ℕ) : Type 0 
   pub kept : take n marks ≡ front
   pub long : length marks ≡ size
 
-pub record Listed (counts block : List ℕ) (w : Ways) (later front : List ℕ) (n size : ℕ) (d₀ : List ℕ) (at s : ℕ) (marks d : List ℕ) (place : ℕ) : Type 0 where
+pub record Listed (counts block : List ℕ) (w : Ways) (later front : List ℕ) (n size : ℕ) (d₀ : List ℕ)
+    (at s : ℕ) (marks d : List ℕ) (place : ℕ) : Type 0 where
   pub fork : Fork counts block w later
   pub inside : n + length counts ≤ size
   pub marked : Marked front n size marks
@@ -49,27 +50,29 @@ next {block} {w} {front} {s} {marks} {p} later way =
 module _ {counts block : List ℕ} {w : Ways} {later front : List ℕ} {n size : ℕ} {d₀ : List ℕ} {at : ℕ} where
   pub listed-start : {marks : List ℕ} → Fork counts block w later → n + length counts ≤ size → take n marks ≡ front → length marks ≡ size
       → at + length (entriesBehind front (paths counts block)) ≤ length d₀ → Listed counts block w later front n size d₀ at 0 marks d₀ at
-  listed-start f inside kept long room = record { fork = f; inside = inside; marked = record { kept = kept; long = long }; due = rw (left-all f) (due-start room) }
+  listed-start f inside kept long room =
+      record { fork = f; inside = inside; marked = record { kept = kept; long = long }; due = rw (left-all f) (due-start room) }
 
   -- the mark of way s is set behind those in front
   pub listed-way : {s place m : ℕ} {marks d p : List ℕ} → Listed counts block w later front n size d₀ at s marks d place → s < w .number
       → m ≡ mark (w .blank) s → p ≡ part (w .size) s block → Way block w front s (take (n + 1) (set marks n m)) p
   listed-way {s} {place} {m} {marks} {d} {p} l inside own parted =
-      let set-behind : take (n + 1) (set marks n m) ≡ take n marks ++ (m ∷ []) = rw add-one (take-suc-set marks n m (omega (arith, l .inside, l .fork .some, l .marked .long))) in
+      let room : n < length marks = omega (arith, l .inside, l .fork .some, l .marked .long) in
+      let set-behind : take (n + 1) (set marks n m) ≡ take n marks ++ (m ∷ []) = rw add-one (take-suc-set marks n m room) in
       record {
         inside = inside;
         marked = set-behind ∙ ap (λ (kept : List ℕ). kept ++ (m ∷ [])) (l .marked .kept) ∙ ap (λ (k : ℕ). front ++ (k ∷ [])) own;
         parted = parted;
       }
 
-  pub listed-room : {s place : ℕ} {marks d more p : List ℕ} → Listed counts block w later front n size d₀ at s marks d place → Way block w front s more p
-      → place + length (entriesBehind more (paths later p)) ≤ length d
+  pub listed-room : {s place : ℕ} {marks d more p : List ℕ} → Listed counts block w later front n size d₀ at s marks d place
+      → Way block w front s more p → place + length (entriesBehind more (paths later p)) ≤ length d
   listed-room {s} {place} {marks} {d} {more} {p} l way =
       due-room (entriesBehind more (paths later p)) (entriesBehind front (left block w later (s + 1))) (rw (next later way) at (l .due))
 
   -- the marks behind those in front may have changed
-  pub listed-more : {s place q : ℕ} {marks marks′ d d′ more p : List ℕ} → Listed counts block w later front n size d₀ at s marks d place → Way block w front s more p
-      → take (n + 1) marks′ ≡ more → length marks′ ≡ size
+  pub listed-more : {s place q : ℕ} {marks marks′ d d′ more p : List ℕ} → Listed counts block w later front n size d₀ at s marks d place
+      → Way block w front s more p → take (n + 1) marks′ ≡ more → length marks′ ≡ size
       → q ≡ place + length (entriesBehind more (paths later p)) → d′ ≡ put d place (entriesBehind more (paths later p))
       → Listed counts block w later front n size d₀ at (s + 1) marks′ d′ q
   listed-more {s} {place} {q} {marks} {marks′} {d} {d′} {more} {p} l way kept long end wrote =

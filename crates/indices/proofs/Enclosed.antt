@@ -39,7 +39,8 @@ sums-between low high x w (suc n) each =
 -- ---- quotients, rounded down and up
 
 -- over one divisor that is exact
-over-exact : {low high x w : ℕ} (c : ℕ) → 0 < c → 0 < w → Between low high x w → Encloses (record { lower = quotientDown low c; upper = quotientUp high c }) (one * x) (w * c)
+over-exact : {low high x w : ℕ} (c : ℕ) → 0 < c → 0 < w → Between low high x w
+    → Encloses (record { lower = quotientDown low c; upper = quotientUp high c }) (one * x) (w * c)
 over-exact {low} {high} {x} {w} c some whole b =
     record {
       divisor = mul-pos whole some;

@@ -1,6 +1,6 @@
 -- The loads in use stand in front of the load places: what holds of them as a list holds at those places, and sums over either are the same.
-use Prim.Native.Nat.{ℕ, zero, suc, _*_, _<_, _≤_}
-use mathlib.Core.Path.{_≡_, refl, sym, ap, _∙_}
+use Prim.Native.Nat.{ℕ, _*_, _<_, _≤_}
+use mathlib.Core.Path.{_≡_, sym, ap, _∙_}
 use mathlib.Core.List.{List}
 use native.Mathlib.Nat.{mul-le-mul}
 use native.Mathlib.Omega.{arith}
@@ -23,7 +23,8 @@ module _ (load : List Load) (n : ℕ) (places : length load ≡ mostLoads) (few 
   front-at j h = getD-take n load j zeroLoad h
 
   -- f takes the number of a load and the load
-  pub front-sum : (f : ℕ → Load → ℕ) → sum (λ (j : ℕ). f j (getD load j zeroLoad)) n ≡ sum (λ (j : ℕ). f j (getD (take n load) j zeroLoad)) (length (take n load))
+  pub front-sum : (f : ℕ → Load → ℕ) → sum (λ (j : ℕ). f j (getD load j zeroLoad)) n
+      ≡ sum (λ (j : ℕ). f j (getD (take n load) j zeroLoad)) (length (take n load))
   front-sum f =
       sum-alike (λ (j : ℕ). f j (getD load j zeroLoad)) (λ (j : ℕ). f j (getD (take n load) j zeroLoad)) n (λ j h. ap (f j) (sym (front-at j h)))
       ∙ ap (sum (λ (j : ℕ). f j (getD (take n load) j zeroLoad))) (sym front-long)

@@ -62,7 +62,8 @@ unfolding mark ways
 mark-rising true c h = record { lower = λ s t less below. absurd (omega arith); most = λ s t less below. absurd (omega arith) }
 mark-rising false c h = record { lower = λ s t less below. less; most = λ s t less below. omega arith }
 
-module _ (n : ℕ) (marks : ℕ → ℕ) (rows : ℕ → List (List ℕ)) (states : ℕ) (rising : Rising marks states) (each : (s : ℕ) → s < states → Ascending n (rows s)) where
+module _ (n : ℕ) (marks : ℕ → ℕ) (rows : ℕ → List (List ℕ)) (states : ℕ) (rising : Rising marks states)
+    (each : (s : ℕ) → s < states → Ascending n (rows s)) where
   -- a row of state s in front of those of the later states
   across : (s k : ℕ) → s + suc k ≤ states → (row : List ℕ) → Every (Ascends (suc n) (marks s ∷ row)) [] (divided marks rows (s + 1) k)
   across s k all row i h =

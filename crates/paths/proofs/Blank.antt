@@ -55,7 +55,8 @@ module _ (c : ℕ) (cs block : List ℕ) (b : Block (c ∷ cs) block) where
       ∙ ap (classAt cs (part (product cs) t block)) (differ-first d)
       ∙ sym (class-part c cs block t y (joint-tail (d .second)))
 
-  no-loss-alike : (entry : List ℕ) → ChangesNoLoss (c ∷ cs) (classAt (c ∷ cs) block) 0 entry → (s : ℕ) → s < c → part (product cs) 0 block ≡ part (product cs) s block
+  no-loss-alike : (entry : List ℕ) → ChangesNoLoss (c ∷ cs) (classAt (c ∷ cs) block) 0 entry → (s : ℕ) → s < c
+      → part (product cs) 0 block ≡ part (product cs) s block
   no-loss-alike entry same s h =
       let m = product cs in
       let first = part-block b 0 (first-some b) in
@@ -120,7 +121,8 @@ pub blank-exactly : BlankExactly
 blank-exactly [] block b i k h less = absurd (not-suc-le-zero less)
 blank-exactly (c ∷ cs) block b i zero h less =
     let p = path-placed c cs block b i h in
-    subst (BlankIff (c ∷ cs) (classAt (c ∷ cs) block) 0) (sym (p .holds)) (first-exactly c cs block b (p .state) (getD (partPaths cs block (p .state)) (p .row) []) (p .below))
+    let own = first-exactly c cs block b (p .state) (getD (partPaths cs block (p .state)) (p .row) []) (p .below) in
+    subst (BlankIff (c ∷ cs) (classAt (c ∷ cs) block) 0) (sym (p .holds)) own
 blank-exactly (c ∷ cs) block b i (suc k) h less =
     let p = path-placed c cs block b i h in
     let rest = blank-exactly cs (part (product cs) (p .state) block) (part-block b (p .state) (p .below)) (p .row) k (p .inside) (le-of-suc-le-suc less) in

@@ -50,7 +50,8 @@ most-paths (c ∷ cs) block b =
     let blank = isBlank c (product cs) block in
     let inside = ways-most blank c (first-some b) in
     let all =
-    divided-most (mark blank) (partPaths cs block) c (product cs) (λ k h. most-paths cs (part (product cs) k block) (part-block b k h)) 0 (ways blank c) (omega (arith, inside)) in
+    divided-most (mark blank) (partPaths cs block) c (product cs) (λ k h. most-paths cs (part (product cs) k block) (part-block b k h)) 0
+    (ways blank c) (omega (arith, inside)) in
     rw (paths-branches c cs block) (omega (arith, all, mul-le-mul-right (product cs) inside))
 
 pub few-paths : FewPaths

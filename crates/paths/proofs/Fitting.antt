@@ -21,7 +21,8 @@ unfolding those
 fitting-append x [] rest = refl
 fitting-append x (entry ∷ front) rest = rw (fitting-append x front rest) (go (fits x entry))
   where
-    go : (b : Bool) → cond b (entry ∷ (fitting x front ++ fitting x rest)) (fitting x front ++ fitting x rest) ≡ cond b (entry ∷ fitting x front) (fitting x front) ++ fitting x rest
+    go : (b : Bool) → cond b (entry ∷ (fitting x front ++ fitting x rest)) (fitting x front ++ fitting x rest)
+        ≡ cond b (entry ∷ fitting x front) (fitting x front) ++ fitting x rest
     go true = refl
     go false = refl
 
@@ -80,12 +81,14 @@ module _ (t : ℕ) (x : List ℕ) (rows : ℕ → List (List ℕ)) where
       ⊎-elim (λ (same : s ≡ t). here s n same most)
       (λ (lower : s < t).
       fitting-append (t ∷ x) (headed s (rows s)) (divided (mark false) rows (s + 1) n)
-      ∙ rw (fitting-unmet t x s (other-unmet s t (omega arith) (λ same. omega arith)) (rows s)) (among-states (s + 1) n (omega arith) (omega arith) (omega arith)))
+      ∙ rw (fitting-unmet t x s (other-unmet s t (omega arith) (λ same. omega arith)) (rows s))
+      (among-states (s + 1) n (omega arith) (omega arith) (omega arith)))
       (eq-or-lt-of-le from)
 
   -- ---- branches, where the rows of all states are alike if the component is blank
 
-  pub fitting-branches : (b : Bool) (c : ℕ) → t < c → c ≤ blankMark → (b ≡ true → rows 0 ≡ rows t) → fitting (t ∷ x) (branches b c rows) ≡ headed (mark b t) (fitting x (rows t))
+  pub fitting-branches : (b : Bool) (c : ℕ) → t < c → c ≤ blankMark → (b ≡ true → rows 0 ≡ rows t)
+      → fitting (t ∷ x) (branches b c rows) ≡ headed (mark b t) (fitting x (rows t))
   unfolding branches divided mark ways
   fitting-branches true c h most alike =
       ap (fitting (t ∷ x)) (append-nil (headed blankMark (rows 0)))

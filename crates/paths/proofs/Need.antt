@@ -29,7 +29,7 @@ module _ {counts block : List ℕ} (l : Listable counts block) where
       omega (arith, need-is, most)
 
   -- the breach of the room that is lent, as it is found from the count
-  pub room-is : {count need fault : ℕ} (room : ℕ) → count ≡ length (paths counts block) → need ≡ count * entryBytes (length counts) → fault ≡ roomFault need room
-      → fault ≡ roomFault (length (joined (paths counts block))) room
+  pub room-is : {count need fault : ℕ} (room : ℕ) → count ≡ length (paths counts block) → need ≡ count * entryBytes (length counts)
+      → fault ≡ roomFault need room → fault ≡ roomFault (length (joined (paths counts block))) room
   room-is {count} {need} {fault} room counted needed judged =
       judged ∙ ap (λ (n : ℕ). roomFault n room) (needed ∙ ap (λ (k : ℕ). k * entryBytes (length counts)) counted ∙ sym need-is)

@@ -37,7 +37,8 @@ module _ (marks : ℕ → ℕ) (rows : ℕ → List (List ℕ)) where
       (λ k less. later s t (getD (divided marks rows (s + 1) n) k []) (placed t (s + 1) n (omega arith) k less)) i h
 
 -- each path goes on from the part of one state of the first component
-pub path-placed : (c : ℕ) (cs block : List ℕ) → Block (c ∷ cs) block → Every (Placed (mark (isBlank c (product cs) block)) (partPaths cs block) 0 c) [] (paths (c ∷ cs) block)
+pub path-placed : (c : ℕ) (cs block : List ℕ) → Block (c ∷ cs) block
+    → Every (Placed (mark (isBlank c (product cs) block)) (partPaths cs block) 0 c) [] (paths (c ∷ cs) block)
 unfolding branches
 path-placed c cs block b =
     let blank = isBlank c (product cs) block in

@@ -17,7 +17,8 @@ use Rattle.paths.proofs.OnePath.{one-path-each}
 abbrev told : ℕ → List ℕ → List (List ℕ) → ℕ
 told n x entries = classBorne n (getD (fitting x entries) 0 [])
 
-told-class : (counts block : List ℕ) → Block counts block → (x : List ℕ) → JointState counts x → told (length counts) x (paths counts block) ≡ classAt counts block x
+told-class : (counts block : List ℕ) → Block counts block → (x : List ℕ) → JointState counts x
+    → told (length counts) x (paths counts block) ≡ classAt counts block x
 told-class counts block b x j =
     let one = one-path-each counts block b x j in
     ap (λ (fit : List (List ℕ)). classBorne (length counts) (getD fit 0 [])) (one .only) ∙ one .bears

@@ -9,5 +9,6 @@ use Rattle.probability.specs.Bounded.{Boundable}
 use Rattle.probability.specs.Probabilities.{AtMostOne}
 
 module _ {rounding : ℕ} {probabilities : List ℕ} {n : ℕ} {list : List ℕ} {paths k : ℕ} where
-  pub boundable-at : rounding ≤ up → Boundable probabilities n list paths → k < paths → (rounding ≤ up) × (AtMostOne probabilities × ((n ≤ mostComponents) × EntryIn list n k))
+  pub boundable-at : rounding ≤ up → Boundable probabilities n list paths → k < paths
+      → (rounding ≤ up) × (AtMostOne probabilities × ((n ≤ mostComponents) × EntryIn list n k))
   boundable-at rounds known h = (rounds, (known .table, (known .room .components, entry-in (known .room) h)))

@@ -38,7 +38,9 @@ pub record Bounding (rounding : ℕ) (probabilities : List ℕ) (n : ℕ) (list 
 
 module _ {rounding : ℕ} {probabilities : List ℕ} {n : ℕ} {list : List ℕ} {paths : ℕ} {d₀ : List ℕ} where
   pub bounding-start : rounding ≤ up → Boundable probabilities n list paths → paths ≤ length d₀ → Bounding rounding probabilities n list paths d₀ 0 d₀
-  bounding-start rounds known room = record { rounds = rounds; known = known; writing = writing-start (omega (arith, bounds-long rounding probabilities n list paths, room)) }
+  bounding-start rounds known room =
+      let long = bounds-long rounding probabilities n list paths in
+      record { rounds = rounds; known = known; writing = writing-start (omega (arith, long, room)) }
 
   pub bounding-room : {k : ℕ} {d : List ℕ} → Bounding rounding probabilities n list paths d₀ k d → k < paths → k < length d
   bounding-room w h = writing-room (w .writing) (omega (arith, bounds-long rounding probabilities n list paths, h))
@@ -46,7 +48,10 @@ module _ {rounding : ℕ} {probabilities : List ℕ} {n : ℕ} {list : List ℕ}
   pub bounding-more : {k r : ℕ} {d : List ℕ} → Bounding rounding probabilities n list paths d₀ k d → k < paths
       → Bounded rounding probabilities n (entryAt n list k) r → Bounding rounding probabilities n list paths d₀ (k + 1) (set d k r)
   bounding-more w h bounded =
-      record { rounds = w .rounds; known = w .known; writing = writing-more (w .writing) (omega (arith, bounds-long rounding probabilities n list paths, h)) (bound-is rounding probabilities n list paths h bounded) }
+      let long = bounds-long rounding probabilities n list paths in
+      let own = bound-is rounding probabilities n list paths h bounded in
+      record { rounds = w .rounds; known = w .known; writing = writing-more (w .writing) (omega (arith, long, h)) own }
 
-  pub bounding-done : {k : ℕ} {d : List ℕ} → Bounding rounding probabilities n list paths d₀ k d → paths ≤ k → d ≡ put d₀ 0 (bounds rounding probabilities n list paths)
+  pub bounding-done : {k : ℕ} {d : List ℕ} → Bounding rounding probabilities n list paths d₀ k d → paths ≤ k
+      → d ≡ put d₀ 0 (bounds rounding probabilities n list paths)
   bounding-done w h = writing-done (w .writing) (omega (arith, bounds-long rounding probabilities n list paths, h))

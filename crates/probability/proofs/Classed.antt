@@ -1,11 +1,11 @@
 -- What carries the totals of classes: the paths below k are added, each at its class.
-use Prim.Native.Nat.{ℕ, _+_, _*_, _<_, _≤_, min}
+use Prim.Native.Nat.{ℕ, _+_, _<_, _≤_, min}
 use mathlib.Core.Path.{_≡_, refl, sym, ap, _∙_}
 use mathlib.Core.List.{List, []}
 use native.Mathlib.Nat.{add-zero, min-zero}
 use native.Mathlib.Omega.{arith}
 use lib.Dec.{eqb}
-use lib.ListN.{length, getD, take, drop, set}
+use lib.ListN.{length, getD, take, set}
 use lib.Seq.{take-all}
 use borrow.Author.Tests.{eq-eqb, ne-eqb}
 use Rattle.lists.specs.Counting.{counted}
@@ -74,13 +74,17 @@ pub record Classed (rounding most : ℕ) (probabilities : List ℕ) (n : ℕ) (l
   pub room : classPlaces ≤ length d₀
   pub made : d ≡ put d₀ 0 (classTotals rounding most probabilities n (take k (entriesOf n paths list)))
 
-totals-long : (rounding most : ℕ) (probabilities : List ℕ) (n : ℕ) (entries : List (List ℕ)) → length (classTotals rounding most probabilities n entries) ≡ classPlaces
+totals-long : (rounding most : ℕ) (probabilities : List ℕ) (n : ℕ) (entries : List (List ℕ))
+    → length (classTotals rounding most probabilities n entries) ≡ classPlaces
 unfolding classTotals
 totals-long rounding most probabilities n entries = length-tabulate (at rounding most probabilities n entries) classPlaces
 
 module _ {rounding most : ℕ} {probabilities : List ℕ} {n : ℕ} {list : List ℕ} {paths : ℕ} {d₀ : List ℕ} where
-  pub classed-start : {d : List ℕ} → rounding ≤ up → Boundable probabilities n list paths → most ≤ sumsMost → classPlaces ≤ length d₀ → d ≡ put d₀ 0 noTotals → Classed rounding most probabilities n list paths d₀ 0 d
-  classed-start {d} rounds known limit room e = record { rounds = rounds; known = known; limit = limit; inside = omega arith; room = room; made = rw (totals-none rounding most probabilities n) e }
+  pub classed-start : {d : List ℕ} → rounding ≤ up → Boundable probabilities n list paths → most ≤ sumsMost → classPlaces ≤ length d₀
+      → d ≡ put d₀ 0 noTotals → Classed rounding most probabilities n list paths d₀ 0 d
+  classed-start {d} rounds known limit room e =
+      let made : d ≡ put d₀ 0 (classTotals rounding most probabilities n []) = rw (totals-none rounding most probabilities n) e in
+      record { rounds = rounds; known = known; limit = limit; inside = omega arith; room = room; made = made }
 
   pub classed-size : {k : ℕ} {d : List ℕ} → Classed rounding most probabilities n list paths d₀ k d → length d ≡ length d₀
   classed-size {k} {d} c =
@@ -98,7 +102,8 @@ module _ {rounding most : ℕ} {probabilities : List ℕ} {n : ℕ} {list : List
       ∙ getD-put d₀ totals class 0 (omega (arith, h, totals-long rounding most probabilities n entries))
       ∙ getD-tabulate (at rounding most probabilities n entries) classPlaces class 0 h
 
-  pub classed-most : {k : ℕ} {d : List ℕ} (class : ℕ) → Classed rounding most probabilities n list paths d₀ k d → class < classPlaces → getD d class 0 ≤ sumsMost
+  pub classed-most : {k : ℕ} {d : List ℕ} (class : ℕ) → Classed rounding most probabilities n list paths d₀ k d → class < classPlaces
+      → getD d class 0 ≤ sumsMost
   classed-most {k} {d} class c h = omega (arith, classed-at class c h, c .limit)
 
   pub classed-more : {k class bound r : ℕ} {d : List ℕ} → Classed rounding most probabilities n list paths d₀ k d → k < paths → class < classPlaces
@@ -112,7 +117,7 @@ module _ {rounding most : ℕ} {probabilities : List ℕ} {n : ℕ} {list : List
       totals-next rounding most probabilities n entries k class bound inside small (is-class ∙ ap (classBorne n) same)
       (bounded .is ∙ ap (pathBound rounding probabilities n) same) in
       let totals = classTotals rounding most probabilities n (take k entries) in
-      let value : r ≡ min most (at rounding most probabilities n (take k entries) class + bound) = e ∙ ap (λ (v : ℕ). min most (v + bound)) (classed-at class c small) in
+      let value = e ∙ ap (λ (v : ℕ). min most (v + bound)) (classed-at class c small) in
       record {
         rounds = c .rounds;
         known = c .known;

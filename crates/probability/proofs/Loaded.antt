@@ -1,10 +1,10 @@
 -- What carries the totals of loads: the paths below k are added, each to the loads that its class has.
-use Prim.Native.Nat.{ℕ, _+_, _*_, _<_, _≤_, min}
+use Prim.Native.Nat.{ℕ, _+_, _<_, _≤_, min}
 use mathlib.Core.Path.{_≡_, refl, sym, ap, _∙_}
 use mathlib.Core.List.{List, []}
 use native.Mathlib.Nat.{min-zero}
 use native.Mathlib.Omega.{arith}
-use lib.ListN.{length, getD, take, drop, replicate, length-replicate, getD-replicate}
+use lib.ListN.{length, getD, take, replicate, length-replicate, getD-replicate}
 use lib.Seq.{take-all}
 use borrow.Author.Tests.{eq-eqb, ne-eqb}
 use Rattle.lists.specs.Bits.{digit, bit}
@@ -48,14 +48,18 @@ module _ (rounding most : ℕ) (probabilities : List ℕ) (n : ℕ) where
   unfolding loadTotals
   loads-none =
       sym (tabulated (lossOf []) mostLoads (replicate mostLoads 0) 0 (length-replicate {A = ℕ} mostLoads 0)
-      (λ j h. getD-replicate {A = ℕ} mostLoads j 0 0 h ∙ sym (ap (min most) (total-none rounding probabilities n (λ (class : ℕ). bit class j)) ∙ min-zero most)))
+      (λ j h. getD-replicate {A = ℕ} mostLoads j 0 0 h ∙ sym (none j)))
+    where
+      none : (j : ℕ) → lossOf [] j ≡ 0
+      none j = ap (min most) (total-none rounding probabilities n (λ (class : ℕ). bit class j)) ∙ min-zero most
 
   loads-next : (entries : List (List ℕ)) (k class bound : ℕ) → k < length entries
       → class ≡ classBorne n (getD entries k []) → bound ≡ pathBound rounding probabilities n (getD entries k [])
       → withPath most (loadTotals rounding most probabilities n (take k entries)) class bound ≡ loadTotals rounding most probabilities n (take (k + 1) entries)
   unfolding withPath loadTotals
   loads-next entries k class bound h is-class is-bound =
-      tabulate-alike (λ (j : ℕ). min most (getD (loadTotals rounding most probabilities n (take k entries)) j 0 + counted (bit class j) bound)) (lossOf (take (k + 1) entries)) mostLoads same
+      tabulate-alike (λ (j : ℕ). min most (getD (loadTotals rounding most probabilities n (take k entries)) j 0 + counted (bit class j) bound))
+      (lossOf (take (k + 1) entries)) mostLoads same
     where
       same : (j : ℕ) → j < mostLoads
           → min most (getD (loadTotals rounding most probabilities n (take k entries)) j 0 + counted (bit class j) bound) ≡ lossOf (take (k + 1) entries) j
@@ -72,8 +76,11 @@ pub record Loaded (rounding most : ℕ) (probabilities : List ℕ) (n : ℕ) (li
   pub made : totals ≡ loadTotals rounding most probabilities n (take k (entriesOf n paths list))
 
 module _ {rounding most : ℕ} {probabilities : List ℕ} {n : ℕ} {list : List ℕ} {paths : ℕ} where
-  pub loaded-start : rounding ≤ up → Boundable probabilities n list paths → most ≤ sumsMost → Loaded rounding most probabilities n list paths 0 (replicate mostLoads 0)
-  loaded-start rounds known limit = record { rounds = rounds; known = known; limit = limit; inside = omega arith; made = sym (loads-none rounding most probabilities n) }
+  pub loaded-start : rounding ≤ up → Boundable probabilities n list paths → most ≤ sumsMost
+      → Loaded rounding most probabilities n list paths 0 (replicate mostLoads 0)
+  loaded-start rounds known limit =
+      let none = sym (loads-none rounding most probabilities n) in
+      record { rounds = rounds; known = known; limit = limit; inside = omega arith; made = none }
 
   pub loaded-most : {k : ℕ} {totals : List ℕ} → Loaded rounding most probabilities n list paths k totals → (j : ℕ) → j < mostLoads → getD totals j 0 ≤ sumsMost
   unfolding loadTotals
@@ -91,7 +98,8 @@ module _ {rounding most : ℕ} {probabilities : List ℕ} {n : ℕ} {list : List
       let next =
       loads-next rounding most probabilities n entries k class bound (rw (entries-long n paths list) h) (is-class ∙ ap (classBorne n) same)
       (bounded .is ∙ ap (pathBound rounding probabilities n) same) in
-      record { rounds = l .rounds; known = l .known; limit = l .limit; inside = omega arith; made = e ∙ ap (λ (x : List ℕ). withPath most x class bound) (l .made) ∙ next }
+      let made = e ∙ ap (λ (x : List ℕ). withPath most x class bound) (l .made) ∙ next in
+      record { rounds = l .rounds; known = l .known; limit = l .limit; inside = omega arith; made = made }
 
   pub loaded-done : {k : ℕ} {totals : List ℕ} → Loaded rounding most probabilities n list paths k totals → paths ≤ k
       → totals ≡ loadTotals rounding most probabilities n (entriesOf n paths list)

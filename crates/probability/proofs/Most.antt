@@ -16,8 +16,8 @@ use Rattle.units.specs.One.{one}
 use Rattle.units.specs.Rounding.{down, up, scale}
 use Rattle.rules.specs.Limits.{mostJointStates, mostLoads}
 use Rattle.entries.specs.Entries.{blankMark, classBorne, classPlaces}
-use Rattle.probability.specs.Bounds.{factored, pathBound, total, lowerTotal, upperTotal}
-use Rattle.probability.specs.Probabilities.{probabilityAt, AtMostOne}
+use Rattle.probability.specs.Bounds.{factored, pathBound, total, lowerTotal}
+use Rattle.probability.specs.Probabilities.{AtMostOne}
 use Rattle.probability.proofs.TotalTerms.{term, total-terms}
 use Rattle.probability.specs.Totals.{sumsMost, classTotals, loadTotals, lowerClasses, upperClasses, lowerLoads, upperLoads}
 
@@ -31,12 +31,12 @@ module _ (rounding : ℕ) (less : rounding ≤ up) (probabilities : List ℕ) (p
   pub path-most : (i : ℕ) (entry : List ℕ) → pathBound rounding probabilities i entry ≤ one
   unfolding pathBound factored
   path-most zero entry = omega arith
-  path-most (suc i) entry = go (eqb (getD entry i blankMark) blankMark) (path-most i entry)
+  path-most (suc i) entry =
+      go (eqb (getD entry i blankMark) blankMark) (pathBound rounding probabilities i entry) _ (path-most i entry) (probability .each _)
     where
-      go : (b : Bool) → pathBound rounding probabilities i entry ≤ one
-          → cond b (pathBound rounding probabilities i entry) (scale rounding (pathBound rounding probabilities i entry) (probabilityAt probabilities i (getD entry i blankMark))) ≤ one
-      go true most = most
-      go false most = scale-most rounding (pathBound rounding probabilities i entry) (probabilityAt probabilities i (getD entry i blankMark)) less most (probability .each _)
+      go : (b : Bool) (bound p : ℕ) → bound ≤ one → p ≤ one → cond b bound (scale rounding bound p) ≤ one
+      go true bound p most each = most
+      go false bound p most each = scale-most rounding bound p less most each
 
   terms-most : (keep : ℕ → Bool) (l : List (List ℕ)) → sumOver (term rounding probabilities n keep) l ≤ length l * one
   unfolding sumOver
@@ -55,7 +55,8 @@ lower-unlimited probabilities probability n keep entries few = omega (arith, tot
 -- nor is it to the totals of each class or load
 module _ (keep : ℕ → ℕ → Bool) (places : ℕ) where
   lower-table : (probabilities : List ℕ) → AtMostOne probabilities → (n : ℕ) (entries : List (List ℕ)) → length entries ≤ mostJointStates
-      → tabulate (λ (p : ℕ). min sumsMost (total down probabilities n (keep p) entries)) places ≡ tabulate (λ (p : ℕ). lowerTotal probabilities n (keep p) entries) places
+      → tabulate (λ (p : ℕ). min sumsMost (total down probabilities n (keep p) entries)) places
+      ≡ tabulate (λ (p : ℕ). lowerTotal probabilities n (keep p) entries) places
   lower-table probabilities probability n entries few =
       tabulate-alike
       (λ (p : ℕ). min sumsMost (total down probabilities n (keep p) entries))

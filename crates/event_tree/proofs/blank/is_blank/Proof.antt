@@ -22,7 +22,8 @@ part-requires-2 c κs = part-inside _ _ _ _ (c .before .loop .inv .whole) (c .lo
 
 same-classes-requires : tie.Need-same-classes-requires Inv-loop μ-loop
 same-classes-requires c κs =
-    compared-even _ _ (c .before .before .loop .inv) (c .before .loop-test .taken) (c .before .before .before .part .ensures) (c .part2 .ensures)
+    let turn = c .before .before in
+    compared-even _ _ (turn .loop .inv) (c .before .loop-test .taken) (turn .before .part .ensures) (c .part2 .ensures)
 
 add-s : tie.Need-add-s Inv-loop μ-loop
 add-s c = omega arith
@@ -32,8 +33,9 @@ loop-less c = omega arith
 
 loop-again : tie.Need-loop-again Inv-loop μ-loop
 loop-again c =
-    let part = c .before .before .before .before .part in
-    compared-more (c .before .before .before .loop .inv) (c .before .before .loop-test .taken) (part .ensures) (c .before .part2 .ensures) (c .same-classes .ensures)
+    let own = c .before in
+    let turn = own .before .before in
+    compared-more (turn .loop .inv) (own .before .loop-test .taken) (turn .before .part .ensures) (own .part2 .ensures) (c .same-classes .ensures)
 
 returns : tie.Need-returns Inv-loop μ-loop
 returns c = compared-done (c .before .loop .inv) (c .loop-test .left)

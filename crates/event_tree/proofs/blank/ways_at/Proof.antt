@@ -9,7 +9,9 @@ shared-slice-read-states : tie.Need-shared-slice-read-states
 shared-slice-read-states c = search needs
 
 cast-size : tie.Need-cast-size
-cast-size c = omega (arith, c .before .before .before .pre .0 .most 0 (c .before .before .before .pre .1))
+cast-size c =
+    let start = c .before .before .before in
+    omega (arith, start .pre .0 .most 0 (start .pre .1))
 
 div-size : tie.Need-div-size
 div-size c =

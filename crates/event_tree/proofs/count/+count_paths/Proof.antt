@@ -1,17 +1,17 @@
 -- `event_tree::count::count_paths` meets its contract. The components left fall at each call; the paths of the ways below s are counted (`Counted`).
-use Prim.Native.Nat.{_-_}
+use Prim.Native.Nat.{_+_, _-_}
 use mathlib.Core.Path.{refl}
 use native.Mathlib.Omega.{arith}
-use lib.ListN.{length}
+use lib.ListN.{length, take, drop}
 use denote.Ref.{now}
 use Rattle.event_tree.proofs.Fork.{no-fork, fork, fork-fewer, fork-most, fork-inside, fork-block, fork-smaller}
 use Rattle.event_tree.proofs.Counted.{Counted, counted-start, counted-more, counted-most, counted-done}
 use Prim.Native.Nat.{ℕ, _<_}
-use borrow.Fn.Kinds.{In}
+use borrow.Fn.Kinds.{In, Out}
 use borrow.Fn.PlainCycle.{Measures, is, falls, and}
 use Rattle.event_tree.proofs.count.count_paths.Reads as count-paths
 use Rattle.event_tree.proofs.count.count_paths.Kinds as count-paths-kinds
-use Rattle.event_tree.proofs.count.+count_paths.Lts-count_paths as count-paths-lts
+use Rattle.event_tree.proofs.count.+count_paths.Lts-count_paths as lts
 use Rattle.event_tree.proofs.blank.part.Reads as part-reads
 use Rattle.event_tree.proofs.blank.ways_at.Reads as ways-at-reads
 use Rattle.event_tree.proofs.count.+count_paths.{statement}
@@ -28,65 +28,73 @@ abbrev under-t : ℕ → In 2 count-paths-kinds.ps
 under-t t =
     and 2 count-paths-kinds.ps (falls 2 count-paths-kinds.ps _<_ μ t) count-paths.Pre
 
-abbrev claims : ℕ → count-paths-lts.Claims
+abbrev claims : ℕ → lts.Claims
 claims t = (ways-at-reads.Asked, ways-at-reads.Learnt, part-reads.Asked, part-reads.Learnt, under-t t, count-paths.Post)
 
-abbrev Inv-loop : count-paths-lts.InvT-loop
+abbrev Inv-loop : lts.InvT-loop
 Inv-loop counts block way later paths₀ s₀ paths s = Counted counts block way later s paths
 
-abbrev μ-loop : count-paths-lts.MeasureT-loop
+abbrev μ-loop : lts.MeasureT-loop
 μ-loop counts block way later paths₀ s₀ paths s = way .number - s
 
 module _ (t : ℕ) where
-  returns : count-paths-lts.Need-returns (claims t) (at t) count-paths.Post Inv-loop μ-loop
-  returns c = rw (no-fork _ _ (c .if1 .taken)) refl
+  -- a step or a need of the call with t components left
+  abbrev here : (lts.Claims → In 2 count-paths-kinds.ps → Out 2 count-paths-kinds.ps count-paths-kinds.r → lts.InvT-loop → lts.MeasureT-loop → Type 0) → Type 0
+  here of = of (claims t) (at t) count-paths.Post Inv-loop μ-loop
 
-  ways-at-requires : count-paths-lts.Need-ways-at-requires (claims t) (at t) count-paths.Post Inv-loop μ-loop
-  ways-at-requires c κs = (c .before .before .before .pre .1 .0, omega (arith, c .if1 .left))
+  abbrev start : here lts.Else1 → here lts.Start
+  start c = c .before .before .before
 
-  sub-later : count-paths-lts.Need-sub-later (claims t) (at t) count-paths.Post Inv-loop μ-loop
-  sub-later c = omega (arith, c .before .if1 .left)
+  -- a turn of the loop
+  abbrev turn : here lts.Then2 → here lts.At-loop
+  turn c = c .before .before
 
-  part-later-start : count-paths-lts.Need-part-later-start (claims t) (at t) count-paths.Post Inv-loop μ-loop
-  part-later-start c = omega (arith, c .before .if1 .left)
+  abbrev begun : here lts.Then2 → here lts.Start
+  begun c = start (turn c .before .before .before)
 
-  part-later-end : count-paths-lts.Need-part-later-end (claims t) (at t) count-paths.Post Inv-loop μ-loop
-  part-later-end c = omega (arith, c .before .if1 .left)
+  -- the paths of way s are counted too
+  counted : (c : here lts.After-count-paths)
+      → let l = turn (c .before .before) in
+      let counts = now (begun (c .before .before) .args .counts) in
+      Counted counts (now (begun (c .before .before) .args .block)) (l .before .before .ways-at .result) (take (length counts - 1) (drop 1 counts))
+      (l .loop .s + 1) (l .loop .paths + c .count-paths .result .paths)
+  counted c = counted-more (turn (c .before .before) .loop .inv) (c .before .before .if2 .taken) (c .before .part .ensures) (c .count-paths .ensures)
 
-  loop-holds : count-paths-lts.Need-loop-holds (claims t) (at t) count-paths.Post Inv-loop μ-loop
-  loop-holds c = counted-start (fork _ _ _ (c .before .before .before .before .before .pre .1 .0) (c .before .before .if1 .left) (c .before .ways-at .ensures))
+  ways-at-requires : here lts.Need-ways-at-requires
+  ways-at-requires c κs = (start c .pre .1 .0, omega (arith, c .if1 .left))
 
-  part-requires : count-paths-lts.Need-part-requires (claims t) (at t) count-paths.Post Inv-loop μ-loop
-  part-requires c κs = fork-inside (c .before .before .loop .inv .fork) (c .if2 .taken)
+  loop-holds : here lts.Need-loop-holds
+  loop-holds c =
+      let more = c .before .before in
+      counted-start (fork _ _ _ (start more .pre .1 .0) (more .if1 .left) (c .before .ways-at .ensures))
 
-  count-paths-requires : count-paths-lts.Need-count-paths-requires (claims t) (at t) count-paths.Post Inv-loop μ-loop
+  part-requires : here lts.Need-part-requires
+  part-requires c κs = fork-inside (turn c .loop .inv .fork) (c .if2 .taken)
+
+  count-paths-requires : here lts.Need-count-paths-requires
   count-paths-requires c κs =
-      let way = c .before .before .before .loop .inv .fork in
-      let start = c .before .before .before .before .before .before .before .before .before in
+      let way = turn (c .before) .loop .inv .fork in
+      let pre = begun (c .before) .pre in
       let taken = c .before .if2 .taken in (
-        omega (arith, fork-fewer way, start .pre .0),
-        (fork-block way _ taken (c .part .ensures), omega (arith, fork-smaller way _ taken (c .part .ensures), start .pre .1 .1)),
+        omega (arith, fork-fewer way, pre .0),
+        (fork-block way _ taken (c .part .ensures), omega (arith, fork-smaller way _ taken (c .part .ensures), pre .1 .1)),
       )
 
-  add-paths : count-paths-lts.Need-add-paths (claims t) (at t) count-paths.Post Inv-loop μ-loop
-  add-paths c =
-      let more = counted-more (c .before .before .before .before .before .loop .inv) (c .before .before .before .if2 .taken) (c .before .before .part .ensures) (c .before .count-paths .ensures) in
-      let start = c .before .before .before .before .before .before .before .before .before .before .before in
-      record { fits = omega (arith, counted-most more, start .pre .1 .1) }
+  add-paths : here lts.Need-add-paths
+  add-paths c = record { fits = omega (arith, counted-most (counted (c .before)), begun (c .before .before .before) .pre .1 .1) }
 
-  add-s : count-paths-lts.Need-add-s (claims t) (at t) count-paths.Post Inv-loop μ-loop
-  add-s c = record { fits = omega (arith, fork-most (c .before .before .before .before .before .loop .inv .fork) (c .before .before .before .if2 .taken)) }
+  add-s : here lts.Need-add-s
+  add-s c =
+      let at-turn = c .before .before .before in
+      record { fits = omega (arith, fork-most (turn at-turn .loop .inv .fork) (at-turn .if2 .taken)) }
 
-  loop-less : count-paths-lts.Need-loop-less (claims t) (at t) count-paths.Post Inv-loop μ-loop
+  loop-less : here lts.Need-loop-less
   loop-less c = omega (arith, c .before .before .before .if2 .taken)
-
-  loop-again : count-paths-lts.Need-loop-again (claims t) (at t) count-paths.Post Inv-loop μ-loop
-  loop-again c = counted-more (c .before .before .before .before .before .loop .inv) (c .before .before .before .if2 .taken) (c .before .before .part .ensures) (c .before .count-paths .ensures)
-
-  returns-2 : count-paths-lts.Need-returns-2 (claims t) (at t) count-paths.Post Inv-loop μ-loop
-  returns-2 c = counted-done (c .before .before .loop .inv) (c .if2 .left)
 
 pub +count-paths-spec : {M : Type 1} → statement M
 +count-paths-spec =
     close μ
-    λ t. count-paths-lts.spec (claims t) (at t) count-paths.Post Inv-loop μ-loop (returns t) (ways-at-requires t) (sub-later t) (part-later-start t) (part-later-end t) (loop-holds t) (part-requires t) (count-paths-requires t) (add-paths t) (add-s t) (loop-less t) (loop-again t) (returns-2 t)
+    λ t. lts.spec (claims t) (at t) count-paths.Post Inv-loop μ-loop (λ c. rw (no-fork _ _ (c .if1 .taken)) refl) (ways-at-requires t)
+    (λ c. omega (arith, c .before .if1 .left)) (λ c. omega (arith, c .before .if1 .left)) (λ c. omega (arith, c .before .if1 .left))
+    (loop-holds t) (part-requires t) (count-paths-requires t) (add-paths t) (add-s t) (loop-less t) (λ c. counted t (c .before))
+    (λ c. counted-done (c .before .before .loop .inv) (c .if2 .left))

@@ -16,8 +16,8 @@ use borrow.Author.Needs.{needs}
 use Rattle.event_tree.proofs.lent.list_lent.Statement.{statement}
 use Rattle.event_tree.proofs.lent.list_lent.Tie as tie
 
-abbrev start : tie.After-room-fault → tie.Start
-start c = c .before .before .before .before .before .before
+abbrev start : tie.After-count-paths → tie.Start
+start c = c .before .before .before .before
 
 -- the entries that the list has
 abbrev entries : tie.Start → List (List ℕ)
@@ -25,15 +25,15 @@ entries c = paths (now (c .args .counts)) (now (c .args .block))
 
 -- the breach is that of the exact need
 fault-is : (c : tie.After-room-fault)
-    → c .room-fault .result ≡ roomFault (length (joined (entries (start c)))) (length (now (start c .args .buffer)))
-fault-is c = room-is (start c .pre) _ (c .before .before .count-paths .ensures) (c .before .list-need .ensures) (c .room-fault .ensures)
+    → let s = start (c .before .before) in c .room-fault .result ≡ roomFault (length (joined (entries s))) (length (now (s .args .buffer)))
+fault-is c = room-is (start (c .before .before) .pre) _ (c .before .before .count-paths .ensures) (c .before .list-need .ensures) (c .room-fault .ensures)
 
 count-paths-requires : tie.Need-count-paths-requires
 count-paths-requires c κs = search needs
 
 list-need-requires : tie.Need-list-need-requires
 list-need-requires c κs =
-    let pre = c .before .before .before .before .pre in
+    let pre = start c .pre in
     (pre .components, omega (arith, c .count-paths .ensures, paths-few pre))
 
 room-fault-requires : tie.Need-room-fault-requires
@@ -46,7 +46,7 @@ returns c =
 list-paths-requires : tie.Need-list-paths-requires
 list-paths-requires c κs =
     let judged = c .before .before in
-    let pre = start judged .pre in
+    let pre = start (judged .before .before) .pre in
     (pre .whole, (pre .components, room-kept _ _ (sym (fault-is judged) ∙ c .before .if1 .left)))
 
 same-length : tie.Need-same-length

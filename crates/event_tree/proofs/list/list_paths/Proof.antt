@@ -8,6 +8,9 @@ use borrow.Author.Needs.{needs}
 use Rattle.event_tree.proofs.list.list_paths.Statement.{statement}
 use Rattle.event_tree.proofs.list.list_paths.Tie as tie
 
+abbrev start : tie.After-no-marks → tie.Start
+start c = c .before .before .before .before
+
 no-marks-requires : tie.Need-no-marks-requires
 no-marks-requires c κs = search needs
 
@@ -16,17 +19,19 @@ slice-aggregate-list-block c = search needs
 
 list-block-requires : tie.Need-list-block-requires
 list-block-requires c κs =
-    let start = c .before .before .before .before .before .before in
-    let long = ap length (unmarked (paths (start .args .counts .now) (start .args .block .now))) in
-    (start .pre .0, (omega (arith, c .before .before .no-marks .ensures, start .pre .1 .0), omega (arith, long, start .pre .1 .1)))
+    let marks = c .before .before in
+    let long = ap length (unmarked (paths (start marks .args .counts .now) (start marks .args .block .now))) in
+    let pre = start marks .pre in
+    (pre .0, (omega (arith, marks .no-marks .ensures, pre .1 .0), omega (arith, long, pre .1 .1)))
 
 same-length : tie.Need-same-length
 same-length c = search needs
 
 returns : tie.Need-returns
 returns c =
-    let start = c .before .before .before .before .before .before .before .before .before .before in
-    rw (unmarked (paths (start .args .counts .now) (start .args .block .now))) at (c .before .before .before .list-block .ensures .1 .0)
+    let call = c .before .before .before in
+    let args = start (call .before .before .before) .args in
+    rw (unmarked (paths (args .counts .now) (args .block .now))) at (call .list-block .ensures .1 .0)
 
 pub list-paths-spec : {M : Type 1} → statement M
 list-paths-spec =

@@ -50,7 +50,8 @@ unfolding customersSum
 returns c =
     let start = c .before .before in
     let places : length (start .args .t1) ≡ mostLoads = search needs in
-    summed-done (c .before .loop .inv) (c .loop-test .left) (front-sum (start .args .t1) (start .args .n) places (start .pre .0) (λ (j : ℕ) (l : Load). l .customers))
+    let front = front-sum (start .args .t1) (start .args .n) places (start .pre .0) in
+    summed-done (c .before .loop .inv) (c .loop-test .left) (front (λ (j : ℕ) (l : Load). l .customers))
 
 pub customers-sum-spec : {M : Type 1} → statement M
 customers-sum-spec =

@@ -60,7 +60,8 @@ unfolding lossSum
 returns c =
     let start = c .before .before in
     let places : length (start .args .t2) ≡ mostLoads = search needs in
-    summed-done (c .before .loop .inv) (c .loop-test .left) (front-sum (start .args .t2) (start .args .n) places (start .pre .0) (λ (j : ℕ) (l : Load). getD (start .args .t1) j 0 * l .customers))
+    let front = front-sum (start .args .t2) (start .args .n) places (start .pre .0) in
+    summed-done (c .before .loop .inv) (c .loop-test .left) (front (λ (j : ℕ) (l : Load). getD (start .args .t1) j 0 * l .customers))
 
 pub loss-sum-spec : {M : Type 1} → statement M
 loss-sum-spec =

@@ -16,10 +16,14 @@ use Rattle.indices.proofs.sums.minutes_sum.Statement.{statement}
 use Rattle.indices.proofs.sums.minutes_sum.Tie as tie
 
 abbrev Inv-loop : tie.InvT-loop
-Inv-loop n losses load loads sum₀ j₀ sum j = Summed (λ (j : ℕ). getD losses j 0 * getD load j zeroLoad .customers * getD load j zeroLoad .minutes) (one * mostCustomers * mostMinutes) loads j sum
+Inv-loop n losses load loads sum₀ j₀ sum j =
+    Summed (λ (j : ℕ). getD losses j 0 * getD load j zeroLoad .customers * getD load j zeroLoad .minutes) (one * mostCustomers * mostMinutes) loads j sum
 
 abbrev μ-loop : tie.MeasureT-loop
 μ-loop n losses load loads sum₀ j₀ sum j = loads - j
+
+abbrev turn : tie.After-struct-known2 Inv-loop μ-loop → tie.In-loop Inv-loop μ-loop
+turn c = c .before .before .before
 
 loop-holds : tie.Need-loop-holds Inv-loop μ-loop
 loop-holds c =
@@ -45,33 +49,35 @@ mul-sum-2 : tie.Need-mul-sum-2 Inv-loop μ-loop
 mul-sum-2 c =
     let start = c .before .before .before .before in
     let places : length (start .args .t2) ≡ mostLoads = search needs in
-    let most = loss-limit (start .args .t2) (start .args .n) places (start .pre .0) (start .pre .1 .0) _ (c .before .before .loop-test .taken) (start .pre .1 .1) in
+    let taken = c .before .before .loop-test .taken in
+    let most = loss-limit (start .args .t2) (start .args .n) places (start .pre .0) (start .pre .1 .0) _ taken (start .pre .1 .1) in
     record { fits = omega (arith, most) }
 
 cast-sum-2 : tie.Need-cast-sum-2 Inv-loop μ-loop
 cast-sum-2 c = search needs
 
 mul-sum-3 : tie.Need-mul-sum-3 Inv-loop μ-loop
-mul-sum-3 c = record { fits = omega (arith, c .before .before .before .before .loop .inv .limit _ (c .before .before .before .loop-test .taken)) }
+mul-sum-3 c = record { fits = omega (arith, turn c .before .loop .inv .limit _ (turn c .loop-test .taken)) }
 
 add-sum : tie.Need-add-sum Inv-loop μ-loop
-add-sum c = record { fits = omega (arith, summed-fits (c .before .before .before .before .loop .inv) (c .before .before .before .loop-test .taken)) }
+add-sum c = record { fits = omega (arith, summed-fits (turn c .before .loop .inv) (turn c .loop-test .taken)) }
 
 add-j : tie.Need-add-j Inv-loop μ-loop
 add-j c = omega arith
 
 loop-less : tie.Need-loop-less Inv-loop μ-loop
-loop-less c = omega (arith, c .before .before .before .loop-test .taken)
+loop-less c = omega (arith, turn c .loop-test .taken)
 
 loop-again : tie.Need-loop-again Inv-loop μ-loop
-loop-again c = summed-more (c .before .before .before .before .loop .inv) (c .before .before .before .loop-test .taken)
+loop-again c = summed-more (turn c .before .loop .inv) (turn c .loop-test .taken)
 
 returns : tie.Need-returns Inv-loop μ-loop
 unfolding minutesSum
 returns c =
     let start = c .before .before in
     let places : length (start .args .t2) ≡ mostLoads = search needs in
-    summed-done (c .before .loop .inv) (c .loop-test .left) (front-sum (start .args .t2) (start .args .n) places (start .pre .0) (λ (j : ℕ) (l : Load). getD (start .args .t1) j 0 * l .customers * l .minutes))
+    let front = front-sum (start .args .t2) (start .args .n) places (start .pre .0) in
+    summed-done (c .before .loop .inv) (c .loop-test .left) (front (λ (j : ℕ) (l : Load). getD (start .args .t1) j 0 * l .customers * l .minutes))
 
 pub minutes-sum-spec : {M : Type 1} → statement M
 minutes-sum-spec =

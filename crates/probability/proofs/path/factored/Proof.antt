@@ -25,8 +25,10 @@ scale-requires c κs =
 
 returns-2 : tie.Need-returns-2
 returns-2 c =
-    let start = c .before .before .before .before .before .before in
-    (settled-factor _ _ _ _ _ (start .pre .1 .1 .1 .0) (c .before .before .if1 .left) (c .before .probability-at .ensures) (c .scale .ensures .0), c .scale .ensures .1)
+    let own = c .before .probability-at .ensures in
+    let settled = c .before .before in
+    let pre = settled .before .before .before .before .pre in
+    (settled-factor _ _ _ _ _ (pre .1 .1 .1 .0) (settled .if1 .left) own (c .scale .ensures .0), c .scale .ensures .1)
 
 pub factored-spec : {M : Type 1} → statement M
 factored-spec =

@@ -31,7 +31,9 @@ mul-sum-at-most : tie.Need-mul-sum-at-most Inv-loop μ-loop
 mul-sum-at-most c = record { fits = omega arith }
 
 slice-read-sum-at-most : tie.Need-slice-read-sum-at-most Inv-loop μ-loop
-slice-read-sum-at-most c = omega (arith, classed-size (c .before .before .before .before .loop .inv), c .before .before .before .before .loop .inv .room)
+slice-read-sum-at-most c =
+    let classed = c .before .before .before .before .loop .inv in
+    omega (arith, classed-size classed, classed .room)
 
 sum-at-most-requires : tie.Need-sum-at-most-requires Inv-loop μ-loop
 sum-at-most-requires c κs =
@@ -41,7 +43,9 @@ mul-out : tie.Need-mul-out Inv-loop μ-loop
 mul-out c = record { fits = omega arith }
 
 slice-write-out : tie.Need-slice-write-out Inv-loop μ-loop
-slice-write-out c = omega (arith, classed-size (c .before .before .before .before .before .loop .inv), c .before .before .before .before .before .loop .inv .room)
+slice-write-out c =
+    let classed = c .before .before .before .before .before .loop .inv in
+    omega (arith, classed-size classed, classed .room)
 
 add-k : tie.Need-add-k Inv-loop μ-loop
 add-k c = omega arith
@@ -51,8 +55,9 @@ loop-less c = omega (arith, c .before .before .before .before .loop-test .taken)
 
 loop-again : tie.Need-loop-again Inv-loop μ-loop
 loop-again c =
-    classed-more (c .before .before .before .before .before .loop .inv) (c .before .before .before .before .loop-test .taken) (omega arith)
-    (c .before .before .before .class-at .ensures) (c .before .before .bound-at .ensures) (c .sum-at-most .ensures)
+    let own = c .before .before .before in
+    let taken = own .before .loop-test .taken in
+    classed-more (own .before .before .loop .inv) taken (omega arith) (own .class-at .ensures) (c .before .before .bound-at .ensures) (c .sum-at-most .ensures)
 
 same-length : tie.Need-same-length Inv-loop μ-loop
 same-length c = classed-size (c .before .loop .inv)

@@ -14,7 +14,9 @@ abbrev μ-loop : tie.MeasureT-loop
 μ-loop rounding most probabilities n list paths totals₀ k₀ totals k = paths - k
 
 loop-holds : tie.Need-loop-holds Inv-loop μ-loop
-loop-holds c = loaded-start (c .before .before .pre .0) (c .before .before .pre .1 .0) (c .before .before .pre .1 .1)
+loop-holds c =
+    let pre = c .before .before .pre in
+    loaded-start (pre .0) (pre .1 .0) (pre .1 .1)
 
 class-at-requires : tie.Need-class-at-requires Inv-loop μ-loop
 class-at-requires c κs = entry-in (c .before .loop .inv .known .room) (c .loop-test .taken)
@@ -33,8 +35,9 @@ loop-less c = omega (arith, c .before .before .before .loop-test .taken)
 
 loop-again : tie.Need-loop-again Inv-loop μ-loop
 loop-again c =
-    loaded-more (c .before .before .before .before .loop .inv) (c .before .before .before .loop-test .taken) (c .before .before .class-at .ensures)
-    (c .before .bound-at .ensures) (c .with-path .ensures)
+    let classed = c .before .before in
+    let taken = classed .before .loop-test .taken in
+    loaded-more (classed .before .before .loop .inv) taken (classed .class-at .ensures) (c .before .bound-at .ensures) (c .with-path .ensures)
 
 returns : tie.Need-returns Inv-loop μ-loop
 returns c = loaded-done (c .before .loop .inv) (c .loop-test .left)

@@ -37,7 +37,8 @@ counted-bit-requires c κs = c .loop-test .taken
 sum-at-most-requires : tie.Need-sum-at-most-requires Inv-loop μ-loop
 sum-at-most-requires c κs =
     let start = c .before .before .before in
-    (start .pre .0 _ (c .before .loop-test .taken), omega (arith, c .counted-bit .ensures, counted-most (bit (start .args .class) (c .before .before .loop .j)) (start .args .bound), start .pre .1))
+    let most = counted-most (bit (start .args .class) (c .before .before .loop .j)) (start .args .bound) in
+    (start .pre .0 _ (c .before .loop-test .taken), omega (arith, c .counted-bit .ensures, most, start .pre .1))
 
 mul-more : tie.Need-mul-more Inv-loop μ-loop
 mul-more c = omega (arith, c .before .before .loop-test .taken)
