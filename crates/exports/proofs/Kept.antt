@@ -1,6 +1,6 @@
 -- Which breach stands in the way of keeping a study in a slice, and what none tells. An edit has no breach for the room: a slice shorter than an
 -- image holds no sound study.
-use Prim.Native.Nat.{ℕ, _≤_}
+use Prim.Native.Nat.{ℕ, _≤_, _<_, _^_}
 use mathlib.Core.Path.{_≡_, refl, sym, subst, _∙_}
 use mathlib.Core.Bool.{Bool, true, false}
 use mathlib.Core.List.{List, _∷_}
@@ -8,6 +8,9 @@ use native.Mathlib.Omega.{arith}
 use lib.Dec.{eqb, ltb}
 use lib.IntN.{ℤ}
 use lib.ListN.{length}
+use lib.Signed.{mag}
+use mir.Syntax.{w64}
+use mir.Val.{hbits, toZ, ofZ}
 use borrow.Author.Tests.{eqb-true, eqb-false}
 use Rattle.rules.specs.Breach.{refuse, first, firstBreach, outside}
 use Rattle.rules.specs.Table.{unsoundFault, roomFault}
@@ -22,6 +25,7 @@ use Rattle.rules.proofs.Rows.{room-kept}
 use Rattle.answers.specs.Numbers.{refusalOf}
 use Rattle.editing.specs.Edits.{edited}
 use Rattle.exports.specs.Images.{openFault, Keeps, Opens, Edits}
+use Rattle.exports.proofs.Signed.{handed-on}
 
 -- ---- opening
 
@@ -84,6 +88,9 @@ module _ (slice rest : List ℕ) (new : Study) where
       let same = edited-refusal (firstBreach (unsoundFault (sound (studyIn slice)) ∷ rest)) (studyIn slice) new in
       rw first-last (spare _ _ (λ none. sound-room slice (list-kept _ rest (sym same ∙ none) .left)))
 
-  -- that it is kept does not turn on the room
-  pub edit-keeps : {after : List ℕ} {answer : ℤ} → Opens edit slice after answer → Edits edit slice after answer
-  edit-keeps {after} {answer} kept = subst (λ (breach : ℕ). Keeps breach (edit .study) slice after answer) edit-fault kept
+  -- that it is kept does not turn on the room; the answer is handed on
+  pub edit-keeps : {answer : StudyAnswer} {after : List ℕ} {r : ℤ} → answer ≡ edit → mag r < 2 ^ hbits w64 → Opens answer slice after r
+      → Edits edit slice after (toZ w64 (ofZ w64 r))
+  edit-keeps {answer} {after} {r} is fits kept =
+      let opens : Opens edit slice after r = subst (λ (a : StudyAnswer). Opens a slice after r) is kept in
+      handed-on fits (subst (λ (breach : ℕ). Keeps breach (edit .study) slice after r) edit-fault opens)

@@ -52,7 +52,8 @@ module _ {n : ℕ} {list : List ℕ} {paths : ℕ} where
   pub borne-start : {table : List ℕ} → PathList n paths list → table ≡ noneBearing → Borne n list paths 0 table
   unfolding noneBearing allBearing bearing sumOver
   borne-start {table} room e =
-      record { room = room; made = e ∙ tabulated (λ (c : ℕ). 0) classPlaces (replicate classPlaces 0) 0 (length-replicate {A = ℕ} classPlaces 0) (λ c h. getD-replicate {A = ℕ} classPlaces c 0 0 h) }
+      let zeros = tabulated {A = ℕ} (λ (c : ℕ). 0) classPlaces (replicate classPlaces 0) 0 (length-replicate {A = ℕ} classPlaces 0) in
+      record { room = room; made = e ∙ zeros (λ c h. getD-replicate {A = ℕ} classPlaces c 0 0 h) }
 
   -- the count that stands at a class
   borne-at : {k : ℕ} {table : List ℕ} (class : ℕ) → Borne n list paths k table → class < classPlaces

@@ -21,5 +21,6 @@ unfolding pathLines
 lines-at probabilities n list paths =
     let entries = entriesOf n paths list in
     let long = length-map entries (pathLine probabilities n) ∙ entries-long n paths list in
-    ap joined (tabulated (lineAt probabilities n list) paths (map (pathLine probabilities n) entries) [] long
-    (λ k h. getD-map-inside (pathLine probabilities n) entries k [] [] (rw (entries-long n paths list) h) ∙ ap (pathLine probabilities n) (entry-is n paths list k h)))
+    let line = pathLine probabilities n in
+    ap joined (tabulated (lineAt probabilities n list) paths (map line entries) [] long
+    (λ k h. getD-map-inside line entries k [] [] (rw (entries-long n paths list) h) ∙ ap line (entry-is n paths list k h)))

@@ -42,10 +42,11 @@ entry-short n entry class lower upper few small low high =
       ending-short 10 (omega arith) lower upper (omega (arith, low)) (omega (arith, high)),
     ))
 
-pub path-lines-short : (probabilities : List ℕ) (n : ℕ) (list : List ℕ) (paths : ℕ) → AtMostOne probabilities → n ≤ mostComponents → ((i : ℕ) → getD list i 0 < byteValues)
-    → length (pathLines probabilities n (entriesOf n paths list)) ≤ paths * 41
+pub path-lines-short : (probabilities : List ℕ) (n : ℕ) (list : List ℕ) (paths : ℕ) → AtMostOne probabilities
+    → n ≤ mostComponents → ((i : ℕ) → getD list i 0 < byteValues) → length (pathLines probabilities n (entriesOf n paths list)) ≤ paths * 41
 unfolding pathLine
-path-lines-short probabilities n list paths probability few bytes = rw (lines-at probabilities n list paths) (lines-short (lineAt probabilities n list) paths 41 line)
+path-lines-short probabilities n list paths probability few bytes =
+    rw (lines-at probabilities n list paths) (lines-short (lineAt probabilities n list) paths 41 line)
   where
     line : (k : ℕ) → k < paths → length (lineAt probabilities n list k) ≤ 41
     line k h =
@@ -64,19 +65,20 @@ class-short paths c lower upper inside low high = go (eqb paths 0)
     go true = omega arith
     go false = item-short 13 (omega arith) 3 (letters "K") c lower upper (field-short 3 (omega arith) c (omega (arith, inside))) low high
 
-pub class-lines-short : (paths lower upper : List ℕ) → ((c : ℕ) → c < classPlaces → getD lower c 0 < 10 ^ 13) → ((c : ℕ) → c < classPlaces → getD upper c 0 < 10 ^ 13)
-    → length (classLines paths lower upper) ≤ classPlaces * 34
+pub class-lines-short : (paths lower upper : List ℕ) → ((c : ℕ) → c < classPlaces → getD lower c 0 < 10 ^ 13)
+    → ((c : ℕ) → c < classPlaces → getD upper c 0 < 10 ^ 13) → length (classLines paths lower upper) ≤ classPlaces * 34
 unfolding classLines
 class-lines-short paths lower upper low high =
     lines-short (λ (c : ℕ). classLine (getD paths c 0) c (getD lower c 0) (getD upper c 0)) classPlaces 34
     (λ c h. class-short (getD paths c 0) c (getD lower c 0) (getD upper c 0) h (low c h) (high c h))
 
-pub load-lines-short : (lower upper : List ℕ) (loads : ℕ) → loads ≤ mostLoads → ((j : ℕ) → j < loads → getD lower j 0 ≤ one) → ((j : ℕ) → j < loads → getD upper j 0 ≤ one)
-    → length (loadLines lower upper loads) ≤ loads * 26
+pub load-lines-short : (lower upper : List ℕ) (loads : ℕ) → loads ≤ mostLoads → ((j : ℕ) → j < loads → getD lower j 0 ≤ one)
+    → ((j : ℕ) → j < loads → getD upper j 0 ≤ one) → length (loadLines lower upper loads) ≤ loads * 26
 unfolding loadLines loadLine
 load-lines-short lower upper loads few low high =
-    lines-short (loadLine lower upper) loads 26
-    (λ j h. item-short 10 (omega arith) 1 (letters "L") j (getD lower j 0) (getD upper j 0) (field-short 1 (omega arith) j (omega (arith, h, few))) (omega (arith, low j h)) (omega (arith, high j h)))
+    lines-short (loadLine lower upper) loads 26 (λ j h.
+    let number = field-short 1 (omega arith) j (omega (arith, h, few)) in
+    item-short 10 (omega arith) 1 (letters "L") j (getD lower j 0) (getD upper j 0) number (omega (arith, low j h)) (omega (arith, high j h)))
 
 -- ---- figures
 

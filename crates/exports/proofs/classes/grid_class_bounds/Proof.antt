@@ -27,9 +27,10 @@ same-length-2 c = search needs
 
 returns : tie.Need-returns
 returns c =
-    let bounded = rw (c .before .before .before .before .before .before .before .before .before .read-image .ensures) at (c .before .before .before .before .before .before .class-bounds .ensures) in
-    let answered = c .before .refusal .ensures ∙ ap refusalOf (bounded .0) in
-    (handed _ _ (c .refused .ok) (c .refused .ensures ∙ ap below answered), bounded .1)
+    let answering = c .before in
+    let asked = answering .before .before .before .before .before in
+    let bounded = rw (asked .before .before .before .read-image .ensures) at (asked .class-bounds .ensures) in
+    (handed _ _ (c .refused .ok) (c .refused .ensures ∙ ap below (answering .refusal .ensures ∙ ap refusalOf (bounded .0))), bounded .1)
 
 pub grid-class-bounds-spec : {M : Type 1} → statement M
 grid-class-bounds-spec =

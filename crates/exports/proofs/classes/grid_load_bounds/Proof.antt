@@ -1,5 +1,8 @@
 -- `exports::classes::grid_load_bounds` meets its contract: each kind of answer by its own clause.
-use mathlib.Core.Path.{sym, ap, _∙_}
+use Prim.Native.Nat.{ℕ}
+use mathlib.Core.Path.{_≡_, sym, ap, _∙_}
+use Rattle.study_image.specs.Image.{studyIn}
+use Rattle.planning.specs.Bounds.{loadBounded}
 use Rattle.answers.specs.declared.bounds.BoundsAnswer.{BoundsAnswer}
 use Rattle.exports.specs.Answers.{lossAnswered}
 use Rattle.exports.specs.Bounds.{lowerOfLoss, upperOfLoss}
@@ -7,6 +10,23 @@ use Rattle.exports.proofs.Signed.{handed}
 use borrow.Author.Needs.{needs}
 use Rattle.exports.proofs.classes.grid_load_bounds.Statement.{statement}
 use Rattle.exports.proofs.classes.grid_load_bounds.Tie as tie
+
+abbrev start : tie.After-load-bounds → tie.Start
+start c = c .before .before .before
+
+bounded : (c : tie.After-load-bounds) → c .load-bounds .result ≡ loadBounded (studyIn (start c .args .study .now)) (start c .args .load)
+bounded c = rw (c .before .read-image .ensures) at (c .load-bounds .ensures)
+
+-- the same answer is left in the two numbers
+module _ (c : tie.After-load-bounds) {a b : BoundsAnswer} (same : a ≡ b) where
+  abbrev low : BoundsAnswer → ℕ
+  low x = lowerOfLoss x (start c .args .lower .now)
+
+  abbrev high : BoundsAnswer → ℕ
+  high x = upperOfLoss x (start c .args .upper .now)
+
+  left-in : (low a ≡ low b) × (high a ≡ high b)
+  left-in = (ap low same, ap high same)
 
 read-image-requires : tie.Need-read-image-requires
 read-image-requires c κs = search needs
@@ -25,15 +45,15 @@ refused-requires c κs = search needs
 
 returns : tie.Need-returns
 returns c =
-    let bounded = rw (c .before .before .before .before .read-image .ensures) at (c .before .before .before .load-bounds .ensures) in
-    let answer = sym (c .before .answer .given .1) ∙ bounded in
-    (ap lossAnswered answer, (ap (λ (a : BoundsAnswer). lowerOfLoss a (c .before .before .before .before .before .before .args .lower .now)) answer, ap (λ (a : BoundsAnswer). upperOfLoss a (c .before .before .before .before .before .before .args .upper .now)) answer))
+    let asked = c .before .before .before in
+    let answer = sym (c .before .answer .given .1) ∙ bounded asked in
+    (ap lossAnswered answer, left-in asked answer)
 
 returns-2 : tie.Need-returns-2
 returns-2 c =
-    let bounded = rw (c .before .before .before .before .before .read-image .ensures) at (c .before .before .before .before .load-bounds .ensures) in
-    let answer = sym (c .before .before .answer2 .given .1) ∙ bounded in
-    (handed _ _ (c .refused .ok) (c .refused .ensures ∙ ap lossAnswered answer), (ap (λ (a : BoundsAnswer). lowerOfLoss a (c .before .before .before .before .before .before .before .args .lower .now)) answer, ap (λ (a : BoundsAnswer). upperOfLoss a (c .before .before .before .before .before .before .before .args .upper .now)) answer))
+    let asked = c .before .before .before .before in
+    let answer = sym (c .before .before .answer2 .given .1) ∙ bounded asked in
+    (handed _ _ (c .refused .ok) (c .refused .ensures ∙ ap lossAnswered answer), left-in asked answer)
 
 pub grid-load-bounds-spec : {M : Type 1} → statement M
 grid-load-bounds-spec =

@@ -1,14 +1,27 @@
 -- `exports::figure_places::grid_figures` meets its contract: 16 and 18 are looked at first; without them the call for the figures decides.
-use mathlib.Core.Path.{ap, _∙_}
+use Prim.Native.Nat.{ℕ}
+use mathlib.Core.Path.{_≡_, refl, _∙_}
+use mathlib.Core.List.{List}
 use lib.ListN.{length}
 use Rattle.study_image.specs.Image.{studyIn}
-use Rattle.answers.specs.declared.figures.FiguresAnswer.{FiguresAnswer}
-use Rattle.exports.specs.Figures.{figuresAnswered, figuresWritten}
-use Rattle.exports.proofs.Figured.{figures-refused-in, places-room, figures-given-in}
-use Rattle.exports.proofs.Signed.{handed}
+use Rattle.study.specs.declared.Study.{Study}
+use Rattle.exports.specs.Figures.{placesFault}
+use Rattle.exports.proofs.Figured.{figures-refused-in, places-room, figures-given-in, figures-on}
 use borrow.Author.Needs.{needs}
 use Rattle.exports.proofs.figure_places.grid_figures.Statement.{statement}
 use Rattle.exports.proofs.figure_places.grid_figures.Tie as tie
+
+abbrev start : tie.After-places-fault → tie.Start
+start c = c .before .before .before .before
+
+abbrev study : tie.After-places-fault → Study
+study c = studyIn (start c .args .study .now)
+
+abbrev places : tie.After-places-fault → List ℕ
+places c = start c .args .figures .now
+
+fault : (c : tie.After-places-fault) → c .places-fault .result ≡ placesFault (study c) (length (places c))
+fault c = rw (c .before .read-image .ensures) at (c .places-fault .ensures)
 
 read-image-requires : tie.Need-read-image-requires
 read-image-requires c κs = search needs
@@ -21,31 +34,29 @@ refused-requires c κs = search needs
 
 returns : tie.Need-returns
 returns c =
-    let start = c .before .before .before .before .before .before in
-    let fault = rw (c .before .before .before .read-image .ensures) at (c .before .before .places-fault .ensures) in
-    let answer = figures-refused-in (studyIn (start .args .study .now)) (length (start .args .figures .now)) _ fault (c .before .if1 .taken) in
-    (handed _ _ (c .refused .ok) (c .refused .ensures ∙ ap figuresAnswered answer), ap (λ (a : FiguresAnswer). figuresWritten a (start .args .figures .now)) answer)
+    let judged = c .before .before in
+    let answer = figures-refused-in (study judged) (length (places judged)) _ (fault judged) (c .before .if1 .taken) in
+    figures-on (places judged) answer (c .refused .ok) (c .refused .ensures) refl
 
 figures-requires : tie.Need-figures-requires
 figures-requires c κs = search needs
 
 hand-on-requires : tie.Need-hand-on-requires
 hand-on-requires c κs =
-    let start = c .before .before .before .before .before .before .before in
-    let fault = rw (c .before .before .before .before .read-image .ensures) at (c .before .before .before .places-fault .ensures) in
-    places-room (studyIn (start .args .study .now)) (length (start .args .figures .now)) _ fault (c .before .before .if1 .left)
+    let judged = c .before .before .before in
+    places-room (study judged) (length (places judged)) _ (fault judged) (c .before .before .if1 .left)
 
 same-length : tie.Need-same-length
 same-length c = search needs
 
 returns-2 : tie.Need-returns-2
 returns-2 c =
-    let start = c .before .before .before .before .before .before .before .before .before .before in
-    let fault = rw (c .before .before .before .before .before .before .before .read-image .ensures) at (c .before .before .before .before .before .before .places-fault .ensures) in
-    let given = rw (c .before .before .before .before .before .before .before .read-image .ensures) at (c .before .before .before .before .figures .ensures) in
-    let answer = given ∙ figures-given-in (studyIn (start .args .study .now)) (length (start .args .figures .now)) _ fault (c .before .before .before .before .before .if1 .left) in
-    let handed-over = c .before .before .hand-on .ensures in
-    (handed _ _ (c .before .before .hand-on .ok) (handed-over .0 ∙ ap figuresAnswered answer), handed-over .1 ∙ ap (λ (a : FiguresAnswer). figuresWritten a (start .args .figures .now)) answer)
+    let handing = c .before .before in
+    let asked = handing .before .before in
+    let judged = asked .before .before in
+    let given = rw (judged .before .read-image .ensures) at (asked .figures .ensures) in
+    let answer = given ∙ figures-given-in (study judged) (length (places judged)) _ (fault judged) (asked .before .if1 .left) in
+    figures-on (places judged) answer (handing .hand-on .ok) (handing .hand-on .ensures .0) (handing .hand-on .ensures .1)
 
 pub grid-figures-spec : {M : Type 1} → statement M
 grid-figures-spec =

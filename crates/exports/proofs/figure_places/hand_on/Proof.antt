@@ -1,9 +1,7 @@
 -- `exports::figure_places::hand_on` meets its contract: each kind of answer by its own clause.
-use mathlib.Core.Path.{sym, ap, _∙_}
+use mathlib.Core.Path.{refl, sym, ap, _∙_}
 use lib.IntN.{pos}
-use Rattle.answers.specs.declared.figures.FiguresAnswer.{FiguresAnswer}
-use Rattle.exports.specs.Figures.{figuresAnswered, figuresWritten}
-use Rattle.exports.proofs.Signed.{handed}
+use Rattle.exports.proofs.Figured.{figures-on}
 use borrow.Author.Needs.{needs}
 use Rattle.exports.proofs.figure_places.hand_on.Statement.{statement}
 use Rattle.exports.proofs.figure_places.hand_on.Tie as tie
@@ -28,14 +26,16 @@ same-length c = search needs
 
 returns : tie.Need-returns
 returns c =
-    let answer = sym (c .before .before .before .before .before .before .answer .given .1) in
-    let wrote = c .before .before .before .write-figures .ensures in
-    (handed _ _ (c .counted .ok) (c .counted .ensures ∙ ap pos (wrote .0) ∙ ap figuresAnswered answer), wrote .1 ∙ ap (λ (a : FiguresAnswer). figuresWritten a (c .before .before .before .before .before .before .before .before .before .args .places .now)) answer)
+    let writing = c .before .before .before in
+    let matched = writing .before .before .before in
+    let places = matched .before .before .before .args .places .now in
+    let wrote = writing .write-figures .ensures in
+    figures-on places (sym (matched .answer .given .1)) (c .counted .ok) (c .counted .ensures ∙ ap pos (wrote .0)) (wrote .1)
 
 returns-2 : tie.Need-returns-2
 returns-2 c =
-    let answer = sym (c .before .before .answer2 .given .1) in
-    (handed _ _ (c .refused .ok) (c .refused .ensures ∙ ap figuresAnswered answer), ap (λ (a : FiguresAnswer). figuresWritten a (c .before .before .before .before .before .args .places .now)) answer)
+    let matched = c .before .before in
+    figures-on (matched .before .before .before .args .places .now) (sym (matched .answer2 .given .1)) (c .refused .ok) (c .refused .ensures) refl
 
 pub hand-on-spec : {M : Type 1} → statement M
 hand-on-spec =

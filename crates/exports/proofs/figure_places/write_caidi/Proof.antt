@@ -26,8 +26,11 @@ same-length c = search needs
 
 returns : tie.Need-returns
 returns c =
-    let caidi = sym (c .before .before .before .before .before .caidi .given .1) in
-    (ap stated caidi, c .before .before .write-pair .ensures ∙ ap (λ (a : Caidi). put (c .before .before .before .before .before .before .before .before .args .places .now) 4 (caidiRow a)) caidi)
+    let writing = c .before .before in
+    let matched = writing .before .before .before in
+    let caidi = sym (matched .caidi .given .1) in
+    let places = matched .before .before .before .args .places .now in
+    (ap stated caidi, writing .write-pair .ensures ∙ ap (λ (a : Caidi). put places 4 (caidiRow a)) caidi)
 
 returns-2 : tie.Need-returns-2
 returns-2 c =

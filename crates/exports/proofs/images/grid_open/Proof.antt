@@ -15,8 +15,8 @@ same-length c = search needs
 
 returns : tie.Need-returns
 returns c =
-    let kept = rw (c .before .before .before .before .«open» .ensures) at (c .before .before .keep .ensures) in
-    handed-on (c .before .before .keep .ok) kept
+    let keeping = c .before .before in
+    handed-on (keeping .keep .ok) (rw (keeping .before .before .«open» .ensures) at (keeping .keep .ensures))
 
 pub grid-open-spec : {M : Type 1} → statement M
 grid-open-spec = tie.close (tie.spec open-requires keep-requires same-length returns)

@@ -1,14 +1,33 @@
 -- `exports::images::keep` meets its contract: a breach leaves the slice, and without one the image fits and holds the study.
-use mathlib.Core.Path.{sym, ap, _∙_}
+use Prim.Native.Nat.{_≤_}
+use mathlib.Core.Path.{_≡_, sym, ap, _∙_}
+use lib.ListN.{length}
+use Rattle.study_image.specs.Places.{imageBytes}
 use Rattle.study_image.specs.Image.{studyIn}
 use Rattle.study_image.proofs.ImageBack.{image-back}
 use Rattle.answers.proofs.Answered.{filled-refused, filled-done}
 use Rattle.exports.specs.Answers.{below}
+use Rattle.exports.specs.Images.{openFault}
 use Rattle.exports.proofs.Kept.{open-is, open-room}
 use Rattle.exports.proofs.Signed.{handed}
 use borrow.Author.Needs.{needs}
 use Rattle.exports.proofs.images.keep.Statement.{statement}
 use Rattle.exports.proofs.images.keep.Tie as tie
+
+abbrev start : tie.After-first → tie.Start
+start c = c .before .before .before .before
+
+-- the breach that the code finds
+fault : (c : tie.After-first) → c .first .result ≡ openFault (start c .args .answer) (start c .args .image .now)
+fault c =
+    open-is (start c .args .answer) (start c .args .image .now) _ _ _ (c .first .ensures) (c .before .before .refusal .ensures)
+    (c .before .room-fault .ensures)
+
+none : (c : tie.Else1) → openFault (start (c .before) .args .answer) (start (c .before) .args .image .now) ≡ 0
+none c = sym (fault (c .before)) ∙ c .if1 .left
+
+room : (c : tie.Else1) → imageBytes ≤ length (start (c .before) .args .image .now)
+room c = open-room (start (c .before) .args .answer) (start (c .before) .args .image .now) (none c)
 
 refusal-requires : tie.Need-refusal-requires
 refusal-requires c κs = search needs
@@ -24,10 +43,8 @@ refused-requires c κs = search needs
 
 returns : tie.Need-returns
 returns c =
-    let start = c .before .before .before .before .before .before in
-    let fault = open-is (start .args .answer) (start .args .image .now) _ _ _ (c .before .before .first .ensures) (c .before .before .before .before .refusal .ensures) (c .before .before .before .room-fault .ensures) in
     let some = c .before .if1 .taken in
-    rw (← fault)
+    rw (← fault (c .before .before))
     (record {
       answered = handed _ _ (c .refused .ok) (c .refused .ensures);
       written = sym (filled-refused _ _ _ some);
@@ -35,25 +52,19 @@ returns c =
     })
 
 write-image-requires : tie.Need-write-image-requires
-write-image-requires c κs =
-    let start = c .before .before .before .before .before .before in
-    let fault = open-is (start .args .answer) (start .args .image .now) _ _ _ (c .before .before .first .ensures) (c .before .before .before .before .refusal .ensures) (c .before .before .before .room-fault .ensures) in
-    open-room (start .args .answer) (start .args .image .now) (sym fault ∙ c .before .if1 .left)
+write-image-requires c κs = room (c .before)
 
 same-length : tie.Need-same-length
 same-length c = search needs
 
 returns-2 : tie.Need-returns-2
 returns-2 c =
-    let start = c .before .before .before .before .before .before .before .before .before in
-    let fault = open-is (start .args .answer) (start .args .image .now) _ _ _ (c .before .before .before .before .before .first .ensures) (c .before .before .before .before .before .before .before .refusal .ensures) (c .before .before .before .before .before .before .room-fault .ensures) in
-    let none = sym fault ∙ c .before .before .before .before .if1 .left in
-    let room = open-room (start .args .answer) (start .args .image .now) none in
+    let fine = c .before .before .before .before in
     let wrote = c .before .before .write-image .ensures in
     record {
-      answered = ap below (sym none);
-      written = wrote .0 ∙ sym (filled-done _ _ _ none);
-      held = λ _. ap studyIn (wrote .0) ∙ image-back _ _ (wrote .1) room;
+      answered = ap below (sym (none fine));
+      written = wrote .0 ∙ sym (filled-done _ _ _ (none fine));
+      held = λ _. ap studyIn (wrote .0) ∙ image-back _ _ (wrote .1) (room fine);
     }
 
 pub keep-spec : {M : Type 1} → statement M

@@ -20,7 +20,8 @@ same-length c = search needs
 
 returns : tie.Need-returns
 returns c =
-    let listed = rw (c .before .before .before .before .before .read-image .ensures) at (c .before .before .before .list-paths .ensures) in
+    let asked = c .before .before .before in
+    let listed = rw (asked .before .before .read-image .ensures) at (asked .list-paths .ensures) in
     (handed _ _ (c .answer-listing .ok) (c .answer-listing .ensures ∙ ap listAnswered (listed .0)), listed .1)
 
 pub grid-list-paths-spec : {M : Type 1} → statement M

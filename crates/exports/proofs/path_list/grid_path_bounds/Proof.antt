@@ -23,7 +23,8 @@ same-length-2 c = search needs
 
 returns : tie.Need-returns
 returns c =
-    let bounded = rw (c .before .before .before .before .before .before .before .before .read-image .ensures) at (c .before .before .before .before .before .path-bounds .ensures) in
+    let asked = c .before .before .before .before .before in
+    let bounded = rw (asked .before .before .before .read-image .ensures) at (asked .path-bounds .ensures) in
     (handed _ _ (c .answer-count .ok) (c .answer-count .ensures ∙ ap countAnswered (bounded .0)), bounded .1)
 
 pub grid-path-bounds-spec : {M : Type 1} → statement M

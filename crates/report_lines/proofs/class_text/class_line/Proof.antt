@@ -17,14 +17,18 @@ slice-aggregate-item-line c = search needs
 
 item-line-requires : tie.Need-item-line-requires
 unfolding classLine
-item-line-requires c κs = rw (ne-eqb _ 0 (c .before .before .if1 .left)) at (c .before .before .before .before .pre)
+item-line-requires c κs =
+    let occurs = c .before .before in
+    rw (ne-eqb _ 0 (occurs .if1 .left)) at (occurs .before .before .pre)
 
 same-length : tie.Need-same-length
 same-length c = search needs
 
 returns-2 : tie.Need-returns-2
 unfolding classLine
-returns-2 c = rw (ne-eqb _ 0 (c .before .before .before .before .before .if1 .left)) (c .before .before .item-line .ensures)
+returns-2 c =
+    let written = c .before .before in
+    rw (ne-eqb _ 0 (written .before .before .before .if1 .left)) (written .item-line .ensures)
 
 pub class-line-spec : {M : Type 1} → statement M
 class-line-spec =

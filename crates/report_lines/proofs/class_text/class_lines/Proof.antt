@@ -21,6 +21,14 @@ Inv-loop out₀ at paths lower upper place₀ c₀ out place c = Tabled (line pa
 abbrev μ-loop : tie.MeasureT-loop
 μ-loop out₀ at paths lower upper place₀ c₀ out place c = classPlaces - c
 
+abbrev start : tie.In-loop Inv-loop μ-loop → tie.Start Inv-loop μ-loop
+start c =
+    let looping = c .before in
+    looping .before .before .before .before .before
+
+abbrev turn : tie.After-class-line Inv-loop μ-loop → tie.In-loop Inv-loop μ-loop
+turn c = c .before .before .before .before .before
+
 loop-holds : tie.Need-loop-holds Inv-loop μ-loop
 unfolding classLines
 loop-holds c = tabled-start _ _ (c .before .before .before .before .pre .1 .1 .1)
@@ -29,35 +37,33 @@ mul-class-line : tie.Need-mul-class-line Inv-loop μ-loop
 mul-class-line c = record { fits = omega (arith, c .before .loop-test .taken) }
 
 shared-slice-read-class-line : tie.Need-shared-slice-read-class-line Inv-loop μ-loop
-shared-slice-read-class-line c = omega (arith, c .before .before .loop-test .taken, c .before .before .before .before .before .before .before .before .pre .0)
+shared-slice-read-class-line c = let turn = c .before .before in omega (arith, turn .loop-test .taken, start turn .pre .0)
 
 mul-class-line-2 : tie.Need-mul-class-line-2 Inv-loop μ-loop
 mul-class-line-2 c = record { fits = omega (arith, c .before .before .loop-test .taken) }
 
 shared-slice-read-class-line-2 : tie.Need-shared-slice-read-class-line-2 Inv-loop μ-loop
-shared-slice-read-class-line-2 c = omega (arith, c .before .before .before .loop-test .taken, c .before .before .before .before .before .before .before .before .before .pre .1 .0)
+shared-slice-read-class-line-2 c = let turn = c .before .before .before in omega (arith, turn .loop-test .taken, start turn .pre .1 .0)
 
 mul-class-line-3 : tie.Need-mul-class-line-3 Inv-loop μ-loop
 mul-class-line-3 c = record { fits = omega (arith, c .before .before .before .loop-test .taken) }
 
 shared-slice-read-class-line-3 : tie.Need-shared-slice-read-class-line-3 Inv-loop μ-loop
-shared-slice-read-class-line-3 c = omega (arith, c .before .before .before .before .loop-test .taken, c .before .before .before .before .before .before .before .before .before .before .pre .1 .1 .0)
+shared-slice-read-class-line-3 c = let turn = c .before .before .before .before in omega (arith, turn .loop-test .taken, start turn .pre .1 .1 .0)
 
 class-line-requires : tie.Need-class-line-requires Inv-loop μ-loop
-class-line-requires c κs =
-    let taken = c .before .before .before .before .loop-test .taken in
-    tabled-room (c .before .before .before .before .before .loop .inv) taken
+class-line-requires c κs = let turn = c .before .before .before .before in tabled-room (turn .before .loop .inv) (turn .loop-test .taken)
 
 add-c : tie.Need-add-c Inv-loop μ-loop
 add-c c = search needs
 
 loop-less : tie.Need-loop-less Inv-loop μ-loop
-loop-less c = omega (arith, c .before .before .before .before .before .before .before .loop-test .taken)
+loop-less c = omega (arith, turn (c .before .before) .loop-test .taken)
 
 loop-again : tie.Need-loop-again Inv-loop μ-loop
 loop-again c =
-    let taken = c .before .before .before .before .before .before .before .loop-test .taken in
-    tabled-more (c .before .before .before .before .before .before .before .before .loop .inv) taken (c .before .before .class-line .ensures)
+    let written = c .before .before in
+    tabled-more (turn written .before .loop .inv) (turn written .loop-test .taken) (written .class-line .ensures)
 
 same-length : tie.Need-same-length Inv-loop μ-loop
 same-length c = tabled-size (c .before .loop .inv)

@@ -1,37 +1,55 @@
 -- `report_lines::figure_text::all_figures` meets its contract: its lines stand one behind the other (`Pieces`).
+use Prim.Native.Nat.{ℕ}
+use mathlib.Core.List.{List, [], _∷_}
 use native.Mathlib.Omega.{arith}
-use Rattle.text.proofs.Pieces.{pieces-start, pieces-room, pieces-more, pieces-done}
-use Rattle.report_lines.specs.Figures.{allFigures}
+use Rattle.text.specs.Letters.{letters}
+use Rattle.text.specs.Lines.{boundsLine}
+use Rattle.text.proofs.Pieces.{Pieces, pieces-start, pieces-room, pieces-more, pieces-done}
+use Rattle.answers.specs.declared.bounds.Enclosure.{Enclosure}
+use Rattle.report_lines.specs.Figures.{caidiLine, allFigures}
 use borrow.Author.Needs.{needs}
 use Rattle.report_lines.proofs.figure_text.all_figures.Statement.{statement}
 use Rattle.report_lines.proofs.figure_text.all_figures.Tie as tie
+
+abbrev start : tie.After-bounds-line → tie.Start
+start c =
+    let named = c .before .before .before in
+    named .before .before .before
+
+abbrev first : tie.After-bounds-line2 → tie.After-bounds-line
+first c = c .before .before .before .before .before
+
+abbrev row : List ℕ → Enclosure → List ℕ
+row name pair = boundsLine name (pair .lower) (pair .upper)
+
+-- the lines below k are written
+abbrev Written : tie.Start → ℕ → List ℕ → ℕ → Type 0
+Written s k d p =
+    let f = s .args .f in
+    Pieces (row (letters "SAIFI") (f .saifi) ∷ row (letters "SAIDI") (f .saidi) ∷ caidiLine (f .caidi) ∷ []) (s .args .out .now) (s .args .at) k d p
+
+one : (c : tie.After-bounds-line) → Written (start c) 1 (c .bounds-line .last .0) (c .bounds-line .result)
+unfolding allFigures
+one c = pieces-more (pieces-start _ (start c .pre)) (omega arith) (c .bounds-line .ensures)
+
+two : (c : tie.After-bounds-line2) → Written (start (first c)) 2 (c .bounds-line2 .last .0) (c .bounds-line2 .result)
+two c = pieces-more (one (first c)) (omega arith) (c .bounds-line2 .ensures)
 
 slice-aggregate-bounds-line : tie.Need-slice-aggregate-bounds-line
 slice-aggregate-bounds-line c = search needs
 
 bounds-line-requires : tie.Need-bounds-line-requires
 unfolding allFigures
-bounds-line-requires c κs =
-    let written0 = pieces-start _ (c .before .before .before .before .before .pre) in
-    pieces-room written0 (omega arith)
+bounds-line-requires c κs = pieces-room (pieces-start _ (c .before .before .before .before .before .pre)) (omega arith)
 
 slice-aggregate-bounds-line-2 : tie.Need-slice-aggregate-bounds-line-2
 slice-aggregate-bounds-line-2 c = search needs
 
 bounds-line-requires-2 : tie.Need-bounds-line-requires-2
-unfolding allFigures
-bounds-line-requires-2 c κs =
-    let written0 = pieces-start _ (c .before .before .before .before .before .before .before .before .before .before .pre) in
-    let written1 = pieces-more written0 (omega arith) (c .before .before .before .before .bounds-line .ensures) in
-    pieces-room written1 (omega arith)
+bounds-line-requires-2 c κs = pieces-room (one (c .before .before .before .before)) (omega arith)
 
 caidi-line-requires : tie.Need-caidi-line-requires
-unfolding allFigures
-caidi-line-requires c κs =
-    let written0 = pieces-start _ (c .before .before .before .before .before .before .before .before .before .before .before .before .before .before .pre) in
-    let written1 = pieces-more written0 (omega arith) (c .before .before .before .before .before .before .before .before .bounds-line .ensures) in
-    let written2 = pieces-more written1 (omega arith) (c .before .before .before .bounds-line2 .ensures) in
-    pieces-room written2 (omega arith)
+caidi-line-requires c κs = pieces-room (two (c .before .before .before)) (omega arith)
 
 same-length : tie.Need-same-length
 same-length c = search needs
@@ -39,11 +57,9 @@ same-length c = search needs
 returns : tie.Need-returns
 unfolding allFigures
 returns c =
-    let written0 = pieces-start _ (c .before .before .before .before .before .before .before .before .before .before .before .before .before .before .before .before .before .pre) in
-    let written1 = pieces-more written0 (omega arith) (c .before .before .before .before .before .before .before .before .before .before .before .bounds-line .ensures) in
-    let written2 = pieces-more written1 (omega arith) (c .before .before .before .before .before .before .bounds-line2 .ensures) in
-    let written3 = pieces-more written2 (omega arith) (c .before .before .caidi-line .ensures) in
-    pieces-done written3 (omega arith)
+    let last = c .before .before in
+    let three = pieces-more (two (last .before .before .before .before)) (omega arith) (last .caidi-line .ensures) in
+    pieces-done three (omega arith)
 
 pub all-figures-spec : {M : Type 1} → statement M
 all-figures-spec =

@@ -14,7 +14,9 @@ slice-aggregate-bounds-line c = search needs
 
 bounds-line-requires : tie.Need-bounds-line-requires
 unfolding caidiLine
-bounds-line-requires c κs = rw (c .before .before .before .caidi .given .1) at (c .before .before .before .before .before .before .pre)
+bounds-line-requires c κs =
+    let matched = c .before .before .before in
+    rw (matched .caidi .given .1) at (matched .before .before .before .pre)
 
 enum-told : tie.Need-enum-told
 enum-told c = search needs
@@ -24,21 +26,27 @@ slice-aggregate-copy c = search needs
 
 copy-requires : tie.Need-copy-requires
 unfolding caidiLine
-copy-requires c κs = rw (c .before .before .enum-told .given .1) at (c .before .before .before .before .before .pre)
+copy-requires c κs =
+    let matched = c .before .before in
+    rw (matched .enum-told .given .1) at (matched .before .before .before .pre)
 
 same-length : tie.Need-same-length
 same-length c = search needs
 
 returns : tie.Need-returns
 unfolding caidiLine
-returns c = rw (c .before .before .before .before .before .before .caidi .given .1) (c .before .before .bounds-line .ensures)
+returns c =
+    let written = c .before .before in
+    rw (written .before .before .before .before .caidi .given .1) (written .bounds-line .ensures)
 
 same-length-2 : tie.Need-same-length-2
 same-length-2 c = search needs
 
 returns-2 : tie.Need-returns-2
 unfolding caidiLine
-returns-2 c = rw (c .before .before .before .before .before .enum-told .given .1) (c .before .before .copy .ensures)
+returns-2 c =
+    let written = c .before .before in
+    rw (written .before .before .before .enum-told .given .1) (written .copy .ensures)
 
 pub caidi-line-spec : {M : Type 1} → statement M
 caidi-line-spec =

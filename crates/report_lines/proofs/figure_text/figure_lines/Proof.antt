@@ -11,7 +11,9 @@ enum-known-answer c = search needs
 
 all-figures-requires : tie.Need-all-figures-requires
 unfolding figureLines
-all-figures-requires c κs = rw (c .before .before .answer .given .1) at (c .before .before .before .before .before .pre)
+all-figures-requires c κs =
+    let matched = c .before .before in
+    rw (matched .answer .given .1) at (matched .before .before .before .pre)
 
 enum-known-answer-2 : tie.Need-enum-known-answer-2
 enum-known-answer-2 c = search needs
@@ -24,21 +26,27 @@ cast-number-line c = search needs
 
 number-line-requires : tie.Need-number-line-requires
 unfolding figureLines
-number-line-requires c κs = rw (c .before .before .before .answer2 .given .1) at (c .before .before .before .before .before .before .pre)
+number-line-requires c κs =
+    let matched = c .before .before .before in
+    rw (matched .answer2 .given .1) at (matched .before .before .before .pre)
 
 same-length : tie.Need-same-length
 same-length c = search needs
 
 returns : tie.Need-returns
 unfolding figureLines
-returns c = rw (c .before .before .before .before .before .answer .given .1) (c .before .before .all-figures .ensures)
+returns c =
+    let written = c .before .before in
+    rw (written .before .before .before .answer .given .1) (written .all-figures .ensures)
 
 same-length-2 : tie.Need-same-length-2
 same-length-2 c = search needs
 
 returns-2 : tie.Need-returns-2
 unfolding figureLines
-returns-2 c = rw (c .before .before .before .before .before .before .answer2 .given .1) (c .before .before .number-line .ensures)
+returns-2 c =
+    let written = c .before .before in
+    rw (written .before .before .before .before .answer2 .given .1) (written .number-line .ensures)
 
 pub figure-lines-spec : {M : Type 1} → statement M
 figure-lines-spec =

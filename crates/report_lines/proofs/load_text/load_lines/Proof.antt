@@ -19,7 +19,10 @@ unfolding loadLines
 loop-holds c = tabled-start _ _ (c .before .pre .1)
 
 load-line-requires : tie.Need-load-line-requires Inv-loop μ-loop
-load-line-requires c κs = (omega (arith, c .before .loop-test .taken, c .before .before .before .before .pre .0), tabled-room (c .before .before .loop .inv) (c .before .loop-test .taken))
+load-line-requires c κs =
+    let turn = c .before in
+    let taken = turn .loop-test .taken in
+    (omega (arith, taken, turn .before .before .before .pre .0), tabled-room (turn .before .loop .inv) taken)
 
 add-j : tie.Need-add-j Inv-loop μ-loop
 add-j c = search needs
@@ -28,7 +31,9 @@ loop-less : tie.Need-loop-less Inv-loop μ-loop
 loop-less c = omega (arith, c .before .before .before .before .loop-test .taken)
 
 loop-again : tie.Need-loop-again Inv-loop μ-loop
-loop-again c = tabled-more (c .before .before .before .before .before .loop .inv) (c .before .before .before .before .loop-test .taken) (c .before .before .load-line .ensures)
+loop-again c =
+    let turn = c .before .before .before .before in
+    tabled-more (turn .before .loop .inv) (turn .loop-test .taken) (c .before .before .load-line .ensures)
 
 same-length : tie.Need-same-length Inv-loop μ-loop
 same-length c = tabled-size (c .before .loop .inv)

@@ -16,20 +16,25 @@ Inv-loop out₀ at probabilities n list paths place₀ k₀ out place k = Tabled
 abbrev μ-loop : tie.MeasureT-loop
 μ-loop out₀ at probabilities n list paths place₀ k₀ out place k = paths - k
 
+abbrev start : tie.In-loop Inv-loop μ-loop → tie.Start Inv-loop μ-loop
+start c = c .before .before .before .before .before
+
 loop-holds : tie.Need-loop-holds Inv-loop μ-loop
 loop-holds c =
     let start = c .before .before .before in
-    tabled-start _ _ (rw (lines-at (start .args .probabilities .now) (start .args .n) (start .args .list .now) (start .args .paths)) at (start .pre .1 .1))
+    let args = start .args in
+    tabled-start _ _ (rw (lines-at (args .probabilities .now) (args .n) (args .list .now) (args .paths)) at (start .pre .1 .1))
 
 entry-at-requires : tie.Need-entry-at-requires Inv-loop μ-loop
-entry-at-requires c κs = entry-in (c .before .before .before .before .before .before .pre .1 .0) (c .before .loop-test .taken)
+entry-at-requires c κs = let turn = c .before in entry-in (start turn .pre .1 .0) (turn .loop-test .taken)
 
 path-line-requires : tie.Need-path-line-requires Inv-loop μ-loop
 path-line-requires c κs =
-    let pre = c .before .before .before .before .before .before .before .pre in
-    let taken = c .before .before .loop-test .taken in
+    let turn = c .before .before in
+    let pre = start turn .pre in
+    let taken = turn .loop-test .taken in
     let entry = c .entry-at .ensures in
-    (pre .0, (pre .1 .0 .components, (entry-long (pre .1 .0) _ taken entry, rw entry (tabled-room (c .before .before .before .loop .inv) taken))))
+    (pre .0, (pre .1 .0 .components, (entry-long (pre .1 .0) _ taken entry, rw entry (tabled-room (turn .before .loop .inv) taken))))
 
 add-k : tie.Need-add-k Inv-loop μ-loop
 add-k c = search needs
@@ -39,16 +44,18 @@ loop-less c = omega (arith, c .before .before .before .before .before .loop-test
 
 loop-again : tie.Need-loop-again Inv-loop μ-loop
 loop-again c =
-    let taken = c .before .before .before .before .before .loop-test .taken in
-    tabled-more (c .before .before .before .before .before .before .loop .inv) taken (rw (c .before .before .before .entry-at .ensures) at (c .before .before .path-line .ensures))
+    let written = c .before .before in
+    let read = written .before in
+    let turn = read .before .before in
+    tabled-more (turn .before .loop .inv) (turn .loop-test .taken) (rw (read .entry-at .ensures) at (written .path-line .ensures))
 
 same-length : tie.Need-same-length Inv-loop μ-loop
 same-length c = tabled-size (c .before .loop .inv)
 
 returns : tie.Need-returns Inv-loop μ-loop
 returns c =
-    let start = c .before .before .before .before .before in
-    rw (lines-at (start .args .probabilities .now) (start .args .n) (start .args .list .now) (start .args .paths)) (tabled-done (c .before .loop .inv) (c .loop-test .left))
+    let args = c .before .before .before .before .before .args in
+    rw (lines-at (args .probabilities .now) (args .n) (args .list .now) (args .paths)) (tabled-done (c .before .loop .inv) (c .loop-test .left))
 
 pub path-lines-spec : {M : Type 1} → statement M
 path-lines-spec =
