@@ -14,24 +14,15 @@ use Rattle.opening.proofs.open_records.Tie as tie
 abbrev components-read : tie.After-counts → tie.Else1
 components-read c = c .before .before .before
 
-read-components-requires : tie.Need-read-components-requires
-read-components-requires c κs = search needs
-
 returns : tie.Need-returns
 unfolding records
 returns c = c .refused-opening .ensures ∙ answer-refused _ (c .before .before .before .read-components .ensures) (c .before .if1 .taken)
-
-array-share-prefix-counts : tie.Need-array-share-prefix-counts
-array-share-prefix-counts c = search needs
 
 slice-aggregate-read-gates : tie.Need-slice-aggregate-read-gates
 slice-aggregate-read-gates c =
     let counts = c .before .state-counts .result in
     let long : length counts ≡ mostComponents = search needs in
     sym (length-take-le _ counts (rw long (components-read c .before .before .before .before .pre .components-fit)))
-
-read-gates-requires : tie.Need-read-gates-requires
-read-gates-requires c κs = search needs
 
 returns-2 : tie.Need-returns-2
 unfolding records
@@ -42,9 +33,6 @@ returns-2 c =
     c .refused-opening2 .ensures
     ∙ answer-refused _ gates (c .before .if2 .taken)
     ∙ answer-going _ (components .before .before .read-components .ensures) (components .if1 .left)
-
-read-loads-requires : tie.Need-read-loads-requires
-read-loads-requires c κs = search needs
 
 returns-3 : tie.Need-returns-3
 unfolding records
@@ -74,6 +62,6 @@ returns-4 c =
 pub open-records-spec : {M : Type 1} → statement M
 open-records-spec =
     tie.close
-    (tie.spec read-components-requires asks-nothing returns asks-nothing array-share-prefix-counts
-    slice-aggregate-read-gates read-gates-requires asks-nothing returns-2 read-loads-requires asks-nothing returns-3
+    (tie.spec (λ c κs. search needs) asks-nothing returns asks-nothing (λ c. search needs)
+    slice-aggregate-read-gates (λ c κs. search needs) asks-nothing returns-2 (λ c κs. search needs) asks-nothing returns-3
     asks-nothing returns-4)

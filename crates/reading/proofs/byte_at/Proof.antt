@@ -6,12 +6,6 @@ use borrow.Author.Needs.{needs}
 use Rattle.reading.proofs.byte_at.Statement.{statement}
 use Rattle.reading.proofs.byte_at.Tie as tie
 
-add-t5 : tie.Need-add-t5
-add-t5 c = search needs
-
-shared-slice-read-t7 : tie.Need-shared-slice-read-t7
-shared-slice-read-t7 c = search needs
-
 returns : tie.Need-returns
 unfolding asRead
 returns c = record { same = sym (byte-got _ _ (c .before .if1 .taken)) }
@@ -21,4 +15,4 @@ unfolding asRead
 returns-2 c = record { same = sym (byte-short _ _ (c .if1 .left)) }
 
 pub byte-at-spec : {M : Type 1} → statement M
-byte-at-spec = tie.close (tie.spec add-t5 shared-slice-read-t7 returns returns-2)
+byte-at-spec = tie.close (tie.spec (λ c. search needs) (λ c. search needs) returns returns-2)

@@ -35,18 +35,9 @@ long c = length-take-le _ (c .before .state-counts .result) (room c)
 
 -- ---- the needs
 
-front-fault-requires : tie.Need-front-fault-requires
-front-fault-requires c κs = search needs
-
 returns : tie.Need-returns
 unfolding sound first
 returns c = rw (← c .before .front-fault .ensures, ne-eqb _ _ (c .if1 .taken), ne-eqb _ _ (c .if1 .taken))
-
-state-counts-requires : tie.Need-state-counts-requires
-state-counts-requires c κs = search needs
-
-cast-all : tie.Need-cast-all
-cast-all c = search needs
 
 array-share-prefix-all : tie.Need-array-share-prefix-all
 array-share-prefix-all c = room c
@@ -60,18 +51,6 @@ joint-states-requires c κs =
       rw (long known) (components-most (study known) (front-none known)),
       λ k h. rw (known .before .state-counts .ensures) (counts-most (study known) (front-none known) k (rw (long known) at h)),
     )
-
-width-fault-requires : tie.Need-width-fault-requires
-width-fault-requires c κs = search needs
-
-gates-fault-requires : tie.Need-gates-fault-requires
-gates-fault-requires c κs = search needs
-
-loads-fault-requires : tie.Need-loads-fault-requires
-loads-fault-requires c κs = search needs
-
-first-of-three-requires : tie.Need-first-of-three-requires
-first-of-three-requires c κs = search needs
 
 -- where the width is judged, and the state counts before that
 abbrev width : tie.After-first-of-three → tie.After-width-fault
@@ -92,15 +71,15 @@ pub is-sound-spec : {M : Type 1} → statement M
 is-sound-spec =
     tie.close
     (tie.spec
-    front-fault-requires
+    (λ c κs. search needs)
     returns
-    state-counts-requires
-    cast-all
+    (λ c κs. search needs)
+    (λ c. search needs)
     array-share-prefix-all
     slice-aggregate-counts
     joint-states-requires
-    width-fault-requires
-    gates-fault-requires
-    loads-fault-requires
-    first-of-three-requires
+    (λ c κs. search needs)
+    (λ c κs. search needs)
+    (λ c κs. search needs)
+    (λ c κs. search needs)
     returns-2)

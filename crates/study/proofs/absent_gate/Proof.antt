@@ -5,12 +5,9 @@ use Rattle.study.specs.Absent.{absentGate}
 use Rattle.study.proofs.absent_gate.Statement.{statement}
 use Rattle.study.proofs.absent_gate.Tie as tie
 
-zero-gate-requires : tie.Need-zero-gate-requires
-zero-gate-requires c κs = search needs
-
 returns : tie.Need-returns
 unfolding zeroGate absentGate
 returns c = rw (c .zero-gate .ensures)
 
 pub absent-gate-spec : {M : Type 1} → statement M
-absent-gate-spec = tie.close (tie.spec zero-gate-requires returns)
+absent-gate-spec = tie.close (tie.spec (λ c κs. search needs) returns)

@@ -8,19 +8,10 @@ use Rattle.study.specs.Zero.{zeroComponent}
 use Rattle.study.proofs.component_at.Statement.{statement}
 use Rattle.study.proofs.component_at.Tie as tie
 
-mul-c : tie.Need-mul-c
-mul-c c = search needs
-
-element-copy-out-c : tie.Need-element-copy-out-c
-element-copy-out-c c = search needs
-
-returns : tie.Need-returns
-returns c = search needs
-
 returns-2 : tie.Need-returns-2
 returns-2 c =
     let places : length (c .before .args .t1 .component) ≡ mostComponents = search (mapped, needs) in
     sym (List·getD-eq-default (c .before .args .t1 .component) zeroComponent (rw places (c .if1 .left)))
 
 pub component-at-spec : {M : Type 1} → statement M
-component-at-spec = tie.close (tie.spec mul-c element-copy-out-c returns returns-2)
+component-at-spec = tie.close (tie.spec (λ c. search needs) (λ c. search needs) (λ c. search needs) returns-2)

@@ -8,19 +8,10 @@ use Rattle.study.specs.Zero.{zeroLoad}
 use Rattle.study.proofs.load_at.Statement.{statement}
 use Rattle.study.proofs.load_at.Tie as tie
 
-mul-l : tie.Need-mul-l
-mul-l c = search needs
-
-element-copy-out-l : tie.Need-element-copy-out-l
-element-copy-out-l c = search needs
-
-returns : tie.Need-returns
-returns c = search needs
-
 returns-2 : tie.Need-returns-2
 returns-2 c =
     let places : length (c .before .args .t1 .load) ≡ mostLoads = search (mapped, needs) in
     sym (List·getD-eq-default (c .before .args .t1 .load) zeroLoad (rw places (c .if1 .left)))
 
 pub load-at-spec : {M : Type 1} → statement M
-load-at-spec = tie.close (tie.spec mul-l element-copy-out-l returns returns-2)
+load-at-spec = tie.close (tie.spec (λ c. search needs) (λ c. search needs) (λ c. search needs) returns-2)

@@ -4,12 +4,9 @@ use Rattle.study.specs.Zero.{noGates}
 use Rattle.study.proofs.no_gates.Statement.{statement}
 use Rattle.study.proofs.no_gates.Tie as tie
 
-zero-gate-requires : tie.Need-zero-gate-requires
-zero-gate-requires c κs = search needs
-
 returns : tie.Need-returns
 unfolding noGates
 returns c = rw (c .zero-gate .ensures)
 
 pub no-gates-spec : {M : Type 1} → statement M
-no-gates-spec = tie.close (tie.spec zero-gate-requires returns)
+no-gates-spec = tie.close (tie.spec (λ c κs. search needs) returns)

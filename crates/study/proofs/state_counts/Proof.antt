@@ -31,12 +31,6 @@ loop-holds c =
 mul-counts : tie.Need-mul-counts Inv-loop μ-loop
 mul-counts c = omega arith
 
-element-copy-out-counts : tie.Need-element-copy-out-counts Inv-loop μ-loop
-element-copy-out-counts c = search needs
-
-array-write-counts : tie.Need-array-write-counts Inv-loop μ-loop
-array-write-counts c = search needs
-
 add-i : tie.Need-add-i Inv-loop μ-loop
 add-i c = omega arith
 
@@ -66,8 +60,8 @@ state-counts-spec =
     μ-loop
     loop-holds
     mul-counts
-    element-copy-out-counts
-    array-write-counts
+    (λ c. search needs)
+    (λ c. search needs)
     add-i
     loop-less
     loop-again

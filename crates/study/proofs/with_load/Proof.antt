@@ -13,14 +13,5 @@ returns c =
     let places : length (c .before .args .t .load) ≡ mostLoads = search (mapped, needs) in
     rw (set-out (c .before .args .t .load) (c .before .args .j) (c .before .args .l) (rw places (c .if1 .taken)))
 
-mul-l : tie.Need-mul-l
-mul-l c = search needs
-
-element-set-from-l : tie.Need-element-set-from-l
-element-set-from-l c = search needs
-
-returns-2 : tie.Need-returns-2
-returns-2 c = search needs
-
 pub with-load-spec : {M : Type 1} → statement M
-with-load-spec = tie.close (tie.spec returns mul-l element-set-from-l returns-2)
+with-load-spec = tie.close (tie.spec returns (λ c. search needs) (λ c. search needs) (λ c. search needs))

@@ -7,9 +7,6 @@ use Rattle.entries.proofs.Entries.{entry-at-long}
 use Rattle.entries.proofs.reading.class_at.Statement.{statement}
 use Rattle.entries.proofs.reading.class_at.Tie as tie
 
-entry-at-requires : tie.Need-entry-at-requires
-entry-at-requires c κs = search needs
-
 class-of-requires : tie.Need-class-of-requires
 class-of-requires c κs = omega (arith, entry-at-long _ (c .before .before .pre) (c .entry-at .ensures))
 
@@ -17,4 +14,4 @@ returns : tie.Need-returns
 returns c = c .class-of .ensures ∙ ap (classBorne _) (c .before .entry-at .ensures)
 
 pub class-at-spec : {M : Type 1} → statement M
-class-at-spec = tie.close (tie.spec entry-at-requires class-of-requires returns)
+class-at-spec = tie.close (tie.spec (λ c κs. search needs) class-of-requires returns)

@@ -4,12 +4,9 @@ use Rattle.entries.specs.Entries.{classBorne}
 use Rattle.entries.proofs.reading.class_of.Statement.{statement}
 use Rattle.entries.proofs.reading.class_of.Tie as tie
 
-shared-slice-read-result : tie.Need-shared-slice-read-result
-shared-slice-read-result c = search needs
-
 returns : tie.Need-returns
 unfolding classBorne
 returns c = search needs
 
 pub class-of-spec : {M : Type 1} → statement M
-class-of-spec = tie.close (tie.spec shared-slice-read-result returns)
+class-of-spec = tie.close (tie.spec (λ c. search needs) returns)

@@ -8,17 +8,11 @@ use Rattle.entries.specs.Entries.{entryBytes, listBytes}
 use Rattle.entries.proofs.reading.list_need.Statement.{statement}
 use Rattle.entries.proofs.reading.list_need.Tie as tie
 
-add-result : tie.Need-add-result
-add-result c = search needs
-
 mul-result : tie.Need-mul-result
 mul-result c =
     let width : entryBytes (c .args .n) ≤ entryBytes mostComponents = omega arith in
     let most : c .args .paths * entryBytes (c .args .n) ≤ listBytes = mul-le-mul (c .pre .1) width in
     record { fits = omega (arith, most) }
 
-returns : tie.Need-returns
-returns c = search needs
-
 pub list-need-spec : {M : Type 1} → statement M
-list-need-spec = tie.close (tie.spec add-result mul-result returns)
+list-need-spec = tie.close (tie.spec (λ c. search needs) mul-result (λ c. search needs))

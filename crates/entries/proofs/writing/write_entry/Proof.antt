@@ -10,15 +10,9 @@ copy-requires c κs = marks-room _ _ (c .before .before .before .pre)
 slice-write-out : tie.Need-slice-write-out
 slice-write-out c = class-room _ _ (c .before .before .before .before .before .before .pre) (c .before .before .copy .ensures)
 
-add-result : tie.Need-add-result
-add-result c = search needs
-
-same-length : tie.Need-same-length
-same-length c = search needs
-
 returns : tie.Need-returns
 returns c = class-written _ _ (c .before .before .before .before .before .before .pre) (c .before .before .copy .ensures)
 
 pub write-entry-spec : {M : Type 1} → statement M
 write-entry-spec =
-    tie.close (tie.spec copy-requires slice-write-out add-result same-length returns)
+    tie.close (tie.spec copy-requires slice-write-out (λ c. search needs) (λ c. search needs) returns)

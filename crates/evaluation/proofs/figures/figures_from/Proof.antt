@@ -16,12 +16,6 @@ fault-is : (c : tie.After-customers-fault)
     → c .customers-fault .result ≡ customersFault (customersSum (take (c .before .before .args .n) (c .before .before .args .load)))
 fault-is c = c .customers-fault .ensures ∙ ap customersFault (c .before .customers-sum .ensures .is)
 
-customers-sum-requires : tie.Need-customers-sum-requires
-customers-sum-requires c κs = search needs
-
-customers-fault-requires : tie.Need-customers-fault-requires
-customers-fault-requires c κs = search needs
-
 returns : tie.Need-returns
 unfolding figuresBy
 returns c = rw (← fault-is (c .before)) (sym (answered-refused Refused _ _ (c .if1 .taken)))
@@ -42,8 +36,8 @@ pub figures-from-spec : {M : Type 1} → statement M
 figures-from-spec =
     tie.close
     (tie.spec
-    customers-sum-requires
-    customers-fault-requires
+    (λ c κs. search needs)
+    (λ c κs. search needs)
     returns
     figures-of-requires
     returns-2)

@@ -11,9 +11,6 @@ use Rattle.evaluation.proofs.losses.loss_bounds.Tie as tie
 load-totals-requires : tie.Need-load-totals-requires
 load-totals-requires c κs = (omega arith, (held-boundable (c .before .before .pre .holds), omega arith))
 
-cast-load-totals : tie.Need-cast-load-totals
-cast-load-totals c = search needs
-
 load-totals-requires-2 : tie.Need-load-totals-requires-2
 load-totals-requires-2 c κs = (omega arith, (held-boundable (c .before .before .before .pre .holds), omega arith))
 
@@ -24,4 +21,4 @@ returns c =
 
 pub loss-bounds-spec : {M : Type 1} → statement M
 loss-bounds-spec =
-    tie.close (tie.spec load-totals-requires cast-load-totals load-totals-requires-2 returns)
+    tie.close (tie.spec load-totals-requires (λ c. search needs) load-totals-requires-2 returns)

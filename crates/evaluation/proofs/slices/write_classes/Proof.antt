@@ -8,21 +8,6 @@ use borrow.Author.Needs.{needs}
 use Rattle.evaluation.proofs.slices.write_classes.Statement.{statement}
 use Rattle.evaluation.proofs.slices.write_classes.Tie as tie
 
-class-totals-requires : tie.Need-class-totals-requires
-class-totals-requires c κs = search needs
-
-cast-class-totals : tie.Need-cast-class-totals
-cast-class-totals c = search needs
-
-class-totals-requires-2 : tie.Need-class-totals-requires-2
-class-totals-requires-2 c κs = search needs
-
-same-length : tie.Need-same-length
-same-length c = search needs
-
-same-length-2 : tie.Need-same-length-2
-same-length-2 c = search needs
-
 returns : tie.Need-returns
 returns c =
     let uppers = c .before .before in
@@ -36,9 +21,9 @@ pub write-classes-spec : {M : Type 1} → statement M
 write-classes-spec =
     tie.close
     (tie.spec
-    class-totals-requires
-    cast-class-totals
-    class-totals-requires-2
-    same-length
-    same-length-2
+    (λ c κs. search needs)
+    (λ c. search needs)
+    (λ c κs. search needs)
+    (λ c. search needs)
+    (λ c. search needs)
     returns)

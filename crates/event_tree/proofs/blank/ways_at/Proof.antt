@@ -5,9 +5,6 @@ use borrow.Author.Needs.{needs}
 use Rattle.event_tree.proofs.blank.ways_at.Statement.{statement}
 use Rattle.event_tree.proofs.blank.ways_at.Tie as tie
 
-shared-slice-read-states : tie.Need-shared-slice-read-states
-shared-slice-read-states c = search needs
-
 cast-size : tie.Need-cast-size
 cast-size c =
     let start = c .before .before .before in
@@ -23,9 +20,6 @@ is-blank-requires c κs =
     let start = c .before .before .before in
     (whole-parts _ _ (start .pre .0) (start .pre .1), first-some _ _ (start .pre .0) (start .pre .1))
 
-number-of-ways-requires : tie.Need-number-of-ways-requires
-number-of-ways-requires c κs = search needs
-
 returns : tie.Need-returns
 returns c =
     let start = c .before .before .before .before .before in
@@ -36,9 +30,9 @@ pub ways-at-spec : {M : Type 1} → statement M
 ways-at-spec =
     tie.close
     (tie.spec
-    shared-slice-read-states
+    (λ c. search needs)
     cast-size
     div-size
     is-blank-requires
-    number-of-ways-requires
+    (λ c κs. search needs)
     returns)

@@ -28,16 +28,10 @@ fault-is : (c : tie.After-room-fault)
     → let s = start (c .before .before) in c .room-fault .result ≡ roomFault (length (joined (entries s))) (length (now (s .args .buffer)))
 fault-is c = room-is (start (c .before .before) .pre) _ (c .before .before .count-paths .ensures) (c .before .list-need .ensures) (c .room-fault .ensures)
 
-count-paths-requires : tie.Need-count-paths-requires
-count-paths-requires c κs = search needs
-
 list-need-requires : tie.Need-list-need-requires
 list-need-requires c κs =
     let pre = start c .pre in
     (pre .components, omega (arith, c .count-paths .ensures, paths-few pre))
-
-room-fault-requires : tie.Need-room-fault-requires
-room-fault-requires c κs = search needs
 
 returns : tie.Need-returns
 returns c =
@@ -48,9 +42,6 @@ list-paths-requires c κs =
     let judged = c .before .before in
     let pre = start (judged .before .before) .pre in
     (pre .whole, (pre .components, room-kept _ _ (sym (fault-is judged) ∙ c .before .if1 .left)))
-
-same-length : tie.Need-same-length
-same-length c = search needs
 
 returns-2 : tie.Need-returns-2
 returns-2 c =
@@ -64,10 +55,10 @@ pub list-lent-spec : {M : Type 1} → statement M
 list-lent-spec =
     tie.close
     (tie.spec
-    count-paths-requires
+    (λ c κs. search needs)
     list-need-requires
-    room-fault-requires
+    (λ c κs. search needs)
     returns
     list-paths-requires
-    same-length
+    (λ c. search needs)
     returns-2)

@@ -11,21 +11,12 @@ use Rattle.event_tree.proofs.list.list_paths.Tie as tie
 abbrev start : tie.After-no-marks → tie.Start
 start c = c .before .before .before .before
 
-no-marks-requires : tie.Need-no-marks-requires
-no-marks-requires c κs = search needs
-
-slice-aggregate-list-block : tie.Need-slice-aggregate-list-block
-slice-aggregate-list-block c = search needs
-
 list-block-requires : tie.Need-list-block-requires
 list-block-requires c κs =
     let marks = c .before .before in
     let long = ap length (unmarked (paths (start marks .args .counts .now) (start marks .args .block .now))) in
     let pre = start marks .pre in
     (pre .0, (omega (arith, marks .no-marks .ensures, pre .1 .0), omega (arith, long, pre .1 .1)))
-
-same-length : tie.Need-same-length
-same-length c = search needs
 
 returns : tie.Need-returns
 returns c =
@@ -36,4 +27,4 @@ returns c =
 pub list-paths-spec : {M : Type 1} → statement M
 list-paths-spec =
     tie.close
-    (tie.spec no-marks-requires slice-aggregate-list-block list-block-requires same-length returns)
+    (tie.spec (λ c κs. search needs) (λ c. search needs) list-block-requires (λ c. search needs) returns)

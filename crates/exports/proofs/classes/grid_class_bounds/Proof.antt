@@ -7,24 +7,6 @@ use borrow.Author.Needs.{needs}
 use Rattle.exports.proofs.classes.grid_class_bounds.Statement.{statement}
 use Rattle.exports.proofs.classes.grid_class_bounds.Tie as tie
 
-read-image-requires : tie.Need-read-image-requires
-read-image-requires c κs = search needs
-
-class-bounds-requires : tie.Need-class-bounds-requires
-class-bounds-requires c κs = search needs
-
-refusal-requires : tie.Need-refusal-requires
-refusal-requires c κs = search needs
-
-refused-requires : tie.Need-refused-requires
-refused-requires c κs = search needs
-
-same-length : tie.Need-same-length
-same-length c = search needs
-
-same-length-2 : tie.Need-same-length-2
-same-length-2 c = search needs
-
 returns : tie.Need-returns
 returns c =
     let answering = c .before in
@@ -36,10 +18,10 @@ pub grid-class-bounds-spec : {M : Type 1} → statement M
 grid-class-bounds-spec =
     tie.close
     (tie.spec
-    read-image-requires
-    class-bounds-requires
-    refusal-requires
-    refused-requires
-    same-length
-    same-length-2
+    (λ c κs. search needs)
+    (λ c κs. search needs)
+    (λ c κs. search needs)
+    (λ c κs. search needs)
+    (λ c. search needs)
+    (λ c. search needs)
     returns)

@@ -6,14 +6,8 @@ use borrow.Author.Needs.{needs}
 use Rattle.exports.proofs.classes.grid_loads_lost.Statement.{statement}
 use Rattle.exports.proofs.classes.grid_loads_lost.Tie as tie
 
-loads-lost-requires : tie.Need-loads-lost-requires
-loads-lost-requires c κs = search needs
-
-counted-requires : tie.Need-counted-requires
-counted-requires c κs = search needs
-
 returns : tie.Need-returns
 returns c = handed _ _ (c .counted .ok) (c .counted .ensures ∙ ap pos (c .before .loads-lost .ensures))
 
 pub grid-loads-lost-spec : {M : Type 1} → statement M
-grid-loads-lost-spec = tie.close (tie.spec loads-lost-requires counted-requires returns)
+grid-loads-lost-spec = tie.close (tie.spec (λ c κs. search needs) (λ c κs. search needs) returns)

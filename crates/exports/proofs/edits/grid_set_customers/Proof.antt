@@ -5,18 +5,6 @@ use Rattle.exports.proofs.Kept.{edit-keeps}
 use Rattle.exports.proofs.edits.grid_set_customers.Statement.{statement}
 use Rattle.exports.proofs.edits.grid_set_customers.Tie as tie
 
-read-image-requires : tie.Need-read-image-requires
-read-image-requires c κs = search needs
-
-set-customers-requires : tie.Need-set-customers-requires
-set-customers-requires c κs = search needs
-
-keep-requires : tie.Need-keep-requires
-keep-requires c κs = search needs
-
-same-length : tie.Need-same-length
-same-length c = search needs
-
 returns : tie.Need-returns
 unfolding customersSet loadEditFault
 returns c =
@@ -29,4 +17,4 @@ returns c =
 pub grid-set-customers-spec : {M : Type 1} → statement M
 grid-set-customers-spec =
     tie.close
-    (tie.spec read-image-requires set-customers-requires keep-requires same-length returns)
+    (tie.spec (λ c κs. search needs) (λ c κs. search needs) (λ c κs. search needs) (λ c. search needs) returns)

@@ -5,18 +5,6 @@ use Rattle.exports.proofs.Kept.{edit-keeps}
 use Rattle.exports.proofs.edits.grid_set_minutes.Statement.{statement}
 use Rattle.exports.proofs.edits.grid_set_minutes.Tie as tie
 
-read-image-requires : tie.Need-read-image-requires
-read-image-requires c κs = search needs
-
-set-minutes-requires : tie.Need-set-minutes-requires
-set-minutes-requires c κs = search needs
-
-keep-requires : tie.Need-keep-requires
-keep-requires c κs = search needs
-
-same-length : tie.Need-same-length
-same-length c = search needs
-
 returns : tie.Need-returns
 unfolding minutesSet loadEditFault
 returns c =
@@ -28,4 +16,4 @@ returns c =
 
 pub grid-set-minutes-spec : {M : Type 1} → statement M
 grid-set-minutes-spec =
-    tie.close (tie.spec read-image-requires set-minutes-requires keep-requires same-length returns)
+    tie.close (tie.spec (λ c κs. search needs) (λ c κs. search needs) (λ c κs. search needs) (λ c. search needs) returns)

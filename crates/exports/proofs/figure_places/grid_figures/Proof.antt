@@ -23,31 +23,16 @@ places c = start c .args .figures .now
 fault : (c : tie.After-places-fault) → c .places-fault .result ≡ placesFault (study c) (length (places c))
 fault c = rw (c .before .read-image .ensures) at (c .places-fault .ensures)
 
-read-image-requires : tie.Need-read-image-requires
-read-image-requires c κs = search needs
-
-places-fault-requires : tie.Need-places-fault-requires
-places-fault-requires c κs = search needs
-
-refused-requires : tie.Need-refused-requires
-refused-requires c κs = search needs
-
 returns : tie.Need-returns
 returns c =
     let judged = c .before .before in
     let answer = figures-refused-in (study judged) (length (places judged)) _ (fault judged) (c .before .if1 .taken) in
     figures-on (places judged) answer (c .refused .ok) (c .refused .ensures) refl
 
-figures-requires : tie.Need-figures-requires
-figures-requires c κs = search needs
-
 hand-on-requires : tie.Need-hand-on-requires
 hand-on-requires c κs =
     let judged = c .before .before .before in
     places-room (study judged) (length (places judged)) _ (fault judged) (c .before .before .if1 .left)
-
-same-length : tie.Need-same-length
-same-length c = search needs
 
 returns-2 : tie.Need-returns-2
 returns-2 c =
@@ -62,11 +47,11 @@ pub grid-figures-spec : {M : Type 1} → statement M
 grid-figures-spec =
     tie.close
     (tie.spec
-    read-image-requires
-    places-fault-requires
-    refused-requires
+    (λ c κs. search needs)
+    (λ c κs. search needs)
+    (λ c κs. search needs)
     returns
-    figures-requires
+    (λ c κs. search needs)
     hand-on-requires
-    same-length
+    (λ c. search needs)
     returns-2)

@@ -6,24 +6,6 @@ use borrow.Author.Needs.{needs}
 use Rattle.exports.proofs.figure_places.hand_on.Statement.{statement}
 use Rattle.exports.proofs.figure_places.hand_on.Tie as tie
 
-enum-known-answer : tie.Need-enum-known-answer
-enum-known-answer c = search needs
-
-write-figures-requires : tie.Need-write-figures-requires
-write-figures-requires c κs = search needs
-
-counted-requires : tie.Need-counted-requires
-counted-requires c κs = search needs
-
-enum-known-answer-2 : tie.Need-enum-known-answer-2
-enum-known-answer-2 c = search needs
-
-refused-requires : tie.Need-refused-requires
-refused-requires c κs = search needs
-
-same-length : tie.Need-same-length
-same-length c = search needs
-
 returns : tie.Need-returns
 returns c =
     let writing = c .before .before .before in
@@ -41,11 +23,11 @@ pub hand-on-spec : {M : Type 1} → statement M
 hand-on-spec =
     tie.close
     (tie.spec
-    enum-known-answer
-    write-figures-requires
-    counted-requires
-    enum-known-answer-2
-    refused-requires
-    same-length
+    (λ c. search needs)
+    (λ c κs. search needs)
+    (λ c κs. search needs)
+    (λ c. search needs)
+    (λ c κs. search needs)
+    (λ c. search needs)
     returns
     returns-2)

@@ -4,18 +4,6 @@ use borrow.Author.Needs.{needs}
 use Rattle.exports.proofs.figure_places.places_fault.Statement.{statement}
 use Rattle.exports.proofs.figure_places.places_fault.Tie as tie
 
-is-sound-requires : tie.Need-is-sound-requires
-is-sound-requires c κs = search needs
-
-unsound-fault-requires : tie.Need-unsound-fault-requires
-unsound-fault-requires c κs = search needs
-
-room-fault-requires : tie.Need-room-fault-requires
-room-fault-requires c κs = search needs
-
-first-requires : tie.Need-first-requires
-first-requires c κs = search needs
-
 returns : tie.Need-returns
 returns c =
     let start = c .before .before .before .before in
@@ -25,4 +13,4 @@ returns c =
 pub places-fault-spec : {M : Type 1} → statement M
 places-fault-spec =
     tie.close
-    (tie.spec is-sound-requires unsound-fault-requires room-fault-requires first-requires returns)
+    (tie.spec (λ c κs. search needs) (λ c κs. search needs) (λ c κs. search needs) (λ c κs. search needs) returns)

@@ -12,18 +12,6 @@ use borrow.Author.Needs.{needs}
 use Rattle.exports.proofs.figure_places.write_caidi.Statement.{statement}
 use Rattle.exports.proofs.figure_places.write_caidi.Tie as tie
 
-enum-known-caidi : tie.Need-enum-known-caidi
-enum-known-caidi c = search needs
-
-write-pair-requires : tie.Need-write-pair-requires
-write-pair-requires c κs = search needs
-
-enum-told : tie.Need-enum-told
-enum-told c = search needs
-
-same-length : tie.Need-same-length
-same-length c = search needs
-
 returns : tie.Need-returns
 returns c =
     let writing = c .before .before in
@@ -43,4 +31,4 @@ returns-2 c =
 pub write-caidi-spec : {M : Type 1} → statement M
 write-caidi-spec =
     tie.close
-    (tie.spec enum-known-caidi write-pair-requires enum-told same-length returns returns-2)
+    (tie.spec (λ c. search needs) (λ c κs. search needs) (λ c. search needs) (λ c. search needs) returns returns-2)

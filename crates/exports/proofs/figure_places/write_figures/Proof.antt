@@ -11,18 +11,6 @@ use borrow.Author.Needs.{needs}
 use Rattle.exports.proofs.figure_places.write_figures.Statement.{statement}
 use Rattle.exports.proofs.figure_places.write_figures.Tie as tie
 
-write-pair-requires : tie.Need-write-pair-requires
-write-pair-requires c κs = search needs
-
-write-pair-requires-2 : tie.Need-write-pair-requires-2
-write-pair-requires-2 c κs = search needs
-
-write-caidi-requires : tie.Need-write-caidi-requires
-write-caidi-requires c κs = search needs
-
-same-length : tie.Need-same-length
-same-length c = search needs
-
 returns : tie.Need-returns
 returns c =
     let last = c .before .before in
@@ -41,4 +29,4 @@ returns c =
 pub write-figures-spec : {M : Type 1} → statement M
 write-figures-spec =
     tie.close
-    (tie.spec write-pair-requires write-pair-requires-2 write-caidi-requires same-length returns)
+    (tie.spec (λ c κs. search needs) (λ c κs. search needs) (λ c κs. search needs) (λ c. search needs) returns)

@@ -4,19 +4,10 @@ use borrow.Author.Needs.{needs}
 use Rattle.exports.proofs.images.grid_open.Statement.{statement}
 use Rattle.exports.proofs.images.grid_open.Tie as tie
 
-open-requires : tie.Need-open-requires
-open-requires c κs = search needs
-
-keep-requires : tie.Need-keep-requires
-keep-requires c κs = search needs
-
-same-length : tie.Need-same-length
-same-length c = search needs
-
 returns : tie.Need-returns
 returns c =
     let keeping = c .before .before in
     handed-on (keeping .keep .ok) (rw (keeping .before .before .«open» .ensures) at (keeping .keep .ensures))
 
 pub grid-open-spec : {M : Type 1} → statement M
-grid-open-spec = tie.close (tie.spec open-requires keep-requires same-length returns)
+grid-open-spec = tie.close (tie.spec (λ c κs. search needs) (λ c κs. search needs) (λ c. search needs) returns)

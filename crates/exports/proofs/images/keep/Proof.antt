@@ -29,18 +29,6 @@ none c = sym (fault (c .before)) ∙ c .if1 .left
 room : (c : tie.Else1) → imageBytes ≤ length (start (c .before) .args .image .now)
 room c = open-room (start (c .before) .args .answer) (start (c .before) .args .image .now) (none c)
 
-refusal-requires : tie.Need-refusal-requires
-refusal-requires c κs = search needs
-
-room-fault-requires : tie.Need-room-fault-requires
-room-fault-requires c κs = search needs
-
-first-requires : tie.Need-first-requires
-first-requires c κs = search needs
-
-refused-requires : tie.Need-refused-requires
-refused-requires c κs = search needs
-
 returns : tie.Need-returns
 returns c =
     let some = c .before .if1 .taken in
@@ -53,9 +41,6 @@ returns c =
 
 write-image-requires : tie.Need-write-image-requires
 write-image-requires c κs = room (c .before)
-
-same-length : tie.Need-same-length
-same-length c = search needs
 
 returns-2 : tie.Need-returns-2
 returns-2 c =
@@ -71,11 +56,11 @@ pub keep-spec : {M : Type 1} → statement M
 keep-spec =
     tie.close
     (tie.spec
-    refusal-requires
-    room-fault-requires
-    first-requires
-    refused-requires
+    (λ c κs. search needs)
+    (λ c κs. search needs)
+    (λ c κs. search needs)
+    (λ c κs. search needs)
     returns
     write-image-requires
-    same-length
+    (λ c. search needs)
     returns-2)

@@ -6,18 +6,6 @@ use borrow.Author.Needs.{needs}
 use Rattle.exports.proofs.numbers.answer_count.Statement.{statement}
 use Rattle.exports.proofs.numbers.answer_count.Tie as tie
 
-enum-known-answer : tie.Need-enum-known-answer
-enum-known-answer c = search needs
-
-counted-requires : tie.Need-counted-requires
-counted-requires c κs = search needs
-
-enum-known-answer-2 : tie.Need-enum-known-answer-2
-enum-known-answer-2 c = search needs
-
-refused-requires : tie.Need-refused-requires
-refused-requires c κs = search needs
-
 returns : tie.Need-returns
 returns c = handed _ _ (c .counted .ok) (c .counted .ensures ∙ sym (ap countAnswered (c .before .before .answer .given .1)))
 
@@ -28,9 +16,9 @@ pub answer-count-spec : {M : Type 1} → statement M
 answer-count-spec =
     tie.close
     (tie.spec
-    enum-known-answer
-    counted-requires
-    enum-known-answer-2
-    refused-requires
+    (λ c. search needs)
+    (λ c κs. search needs)
+    (λ c. search needs)
+    (λ c κs. search needs)
     returns
     returns-2)

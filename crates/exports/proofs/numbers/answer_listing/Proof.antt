@@ -6,18 +6,6 @@ use borrow.Author.Needs.{needs}
 use Rattle.exports.proofs.numbers.answer_listing.Statement.{statement}
 use Rattle.exports.proofs.numbers.answer_listing.Tie as tie
 
-enum-known-listing : tie.Need-enum-known-listing
-enum-known-listing c = search needs
-
-counted-requires : tie.Need-counted-requires
-counted-requires c κs = search needs
-
-enum-known-listing-2 : tie.Need-enum-known-listing-2
-enum-known-listing-2 c = search needs
-
-refused-requires : tie.Need-refused-requires
-refused-requires c κs = search needs
-
 returns : tie.Need-returns
 returns c = handed _ _ (c .counted .ok) (c .counted .ensures ∙ sym (ap listAnswered (c .before .before .listing .given .1)))
 
@@ -28,9 +16,9 @@ pub answer-listing-spec : {M : Type 1} → statement M
 answer-listing-spec =
     tie.close
     (tie.spec
-    enum-known-listing
-    counted-requires
-    enum-known-listing-2
-    refused-requires
+    (λ c. search needs)
+    (λ c κs. search needs)
+    (λ c. search needs)
+    (λ c κs. search needs)
     returns
     returns-2)

@@ -6,11 +6,8 @@ use borrow.Author.Needs.{needs}
 use Rattle.exports.proofs.numbers.counted.Statement.{statement}
 use Rattle.exports.proofs.numbers.counted.Tie as tie
 
-cast-result : tie.Need-cast-result
-cast-result c = search needs
-
 returns : tie.Need-returns
 returns c = toZ-pos w64 (c .args .number) (omega (arith, c .fits .number .fits))
 
 pub counted-spec : {M : Type 1} → statement M
-counted-spec = tie.close (tie.spec cast-result returns)
+counted-spec = tie.close (tie.spec (λ c. search needs) returns)

@@ -4,9 +4,6 @@ use borrow.Author.Needs.{needs}
 use Rattle.exports.proofs.numbers.refused.Statement.{statement}
 use Rattle.exports.proofs.numbers.refused.Tie as tie
 
-cast-result : tie.Need-cast-result
-cast-result c = search needs
-
 sub-result : tie.Need-sub-result
 sub-result c = minus-fits (c .args .number) (c .fits .number .fits)
 
@@ -14,4 +11,4 @@ returns : tie.Need-returns
 returns c = minus-is (c .args .number) (c .fits .number .fits)
 
 pub refused-spec : {M : Type 1} → statement M
-refused-spec = tie.close (tie.spec cast-result sub-result returns)
+refused-spec = tie.close (tie.spec (λ c. search needs) sub-result returns)

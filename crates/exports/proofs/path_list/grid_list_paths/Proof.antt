@@ -6,18 +6,6 @@ use borrow.Author.Needs.{needs}
 use Rattle.exports.proofs.path_list.grid_list_paths.Statement.{statement}
 use Rattle.exports.proofs.path_list.grid_list_paths.Tie as tie
 
-read-image-requires : tie.Need-read-image-requires
-read-image-requires c κs = search needs
-
-list-paths-requires : tie.Need-list-paths-requires
-list-paths-requires c κs = search needs
-
-answer-listing-requires : tie.Need-answer-listing-requires
-answer-listing-requires c κs = search needs
-
-same-length : tie.Need-same-length
-same-length c = search needs
-
 returns : tie.Need-returns
 returns c =
     let asked = c .before .before .before in
@@ -27,4 +15,4 @@ returns c =
 pub grid-list-paths-spec : {M : Type 1} → statement M
 grid-list-paths-spec =
     tie.close
-    (tie.spec read-image-requires list-paths-requires answer-listing-requires same-length returns)
+    (tie.spec (λ c κs. search needs) (λ c κs. search needs) (λ c κs. search needs) (λ c. search needs) returns)

@@ -14,12 +14,6 @@ returns : tie.Need-returns
 unfolding lost
 returns c = rw (eq-eqb (c .before .before .args .l .gate) never (c .if1 .taken)) refl
 
-cast-i : tie.Need-cast-i
-cast-i c = search needs
-
-shared-slice-read-result : tie.Need-shared-slice-read-result
-shared-slice-read-result c = search needs
-
 returns-2 : tie.Need-returns-2
 unfolding lost
 returns-2 c =
@@ -35,4 +29,4 @@ returns-3 c =
     rw (ne-eqb (start .args .l .gate) never (has-gate .if1 .left), past) refl
 
 pub lost-spec : {M : Type 1} → statement M
-lost-spec = tie.close (tie.spec returns cast-i shared-slice-read-result returns-2 returns-3)
+lost-spec = tie.close (tie.spec returns (λ c. search needs) (λ c. search needs) returns-2 returns-3)

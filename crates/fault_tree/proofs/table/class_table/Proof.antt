@@ -33,15 +33,6 @@ states-room c =
 
 -- ---- the needs
 
-cast-n : tie.Need-cast-n
-cast-n c = search needs
-
-state-counts-requires : tie.Need-state-counts-requires
-state-counts-requires c κs = search needs
-
-all-up-requires : tie.Need-all-up-requires
-all-up-requires c κs = search needs
-
 array-share-prefix-all : tie.Need-array-share-prefix-all
 array-share-prefix-all c = counts-room (c .before)
 
@@ -62,19 +53,16 @@ fill-table-requires c κs =
     let long = sym (length-map (study known .component) (λ (k : Component). k .states)) ∙ ap length (sym (counts .ensures)) ∙ places in
     rw (counts .ensures, c .before .before .all-up .ensures) (begins (study known) (is-sound known) long)
 
-returns : tie.Need-returns
-returns c = search needs
-
 pub class-table-spec : {M : Type 1} → statement M
 class-table-spec =
     tie.close
     (tie.spec
-    cast-n
-    state-counts-requires
-    all-up-requires
+    (λ c. search needs)
+    (λ c κs. search needs)
+    (λ c κs. search needs)
     array-share-prefix-all
     slice-aggregate-fill-table
     array-borrow-prefix-x
     slice-aggregate-fill-table-2
     fill-table-requires
-    returns)
+    (λ c. search needs))

@@ -46,9 +46,6 @@ gate-inside c = omega (arith, gates-most _ (turn c .before .loop .inv .sound), c
 
 -- ---- the needs
 
-cast-gates : tie.Need-cast-gates Inv-loop2 μ-loop2 Inv-loop μ-loop
-cast-gates c = search needs
-
 joint-states-requires : tie.Need-joint-states-requires Inv-loop2 μ-loop2 Inv-loop μ-loop
 joint-states-requires c κs =
     let b = start c .pre in
@@ -147,7 +144,7 @@ fill-table-spec =
     μ-loop2
     Inv-loop
     μ-loop
-    cast-gates
+    (λ c. search needs)
     joint-states-requires
     cast-joint
     cleared-table-requires

@@ -11,15 +11,6 @@ use borrow.Author.Needs.{needs}
 use Rattle.fault_tree.proofs.truth.gate_true.Statement.{statement}
 use Rattle.fault_tree.proofs.truth.gate_true.Tie as tie
 
-cast-result : tie.Need-cast-result
-cast-result c = search needs
-
-true-tests-requires : tie.Need-true-tests-requires
-true-tests-requires c κs = search needs
-
-true-gates-requires : tie.Need-true-gates-requires
-true-gates-requires c κs = search needs
-
 add-result : tie.Need-add-result
 add-result c =
     let start = c .before .before .before .before .before in
@@ -34,4 +25,4 @@ returns c = rw (c .before .true-tests .ensures, c .true-gates .ensures) refl
 
 pub gate-true-spec : {M : Type 1} → statement M
 gate-true-spec =
-    tie.close (tie.spec cast-result true-tests-requires true-gates-requires add-result returns)
+    tie.close (tie.spec (λ c. search needs) (λ c κs. search needs) (λ c κs. search needs) add-result returns)

@@ -5,11 +5,8 @@ use borrow.Author.Needs.{needs}
 use Rattle.fault_tree.proofs.truth.test_true.Statement.{statement}
 use Rattle.fault_tree.proofs.truth.test_true.Tie as tie
 
-shr-result : tie.Need-shr-result
-shr-result c = search needs
-
 returns : tie.Need-returns
 returns c = rw (and-mask _ 1) refl
 
 pub test-true-spec : {M : Type 1} → statement M
-test-true-spec = tie.close (tie.spec shr-result returns)
+test-true-spec = tie.close (tie.spec (λ c. search needs) returns)

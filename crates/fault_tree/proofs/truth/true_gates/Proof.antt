@@ -24,17 +24,11 @@ start c = c .before .before .before .before
 readable : (c : tie.In-loop Inv-loop μ-loop) → InputsReadable (start c .args .g) (start c .args .truths .now)
 readable c = start c .pre
 
-cast-gates : tie.Need-cast-gates Inv-loop μ-loop
-cast-gates c = search needs
-
 loop-holds : tie.Need-loop-holds Inv-loop μ-loop
 loop-holds c = counted-start
 
 array-read-i : tie.Need-array-read-i Inv-loop μ-loop
 array-read-i c = omega (arith, readable c .count)
-
-cast-i : tie.Need-cast-i Inv-loop μ-loop
-cast-i c = search needs
 
 shared-slice-read-n : tie.Need-shared-slice-read-n Inv-loop μ-loop
 shared-slice-read-n c = readable (c .before) .input _ (c .before .loop-test .taken)
@@ -64,10 +58,10 @@ true-gates-spec =
     (tie.spec
     Inv-loop
     μ-loop
-    cast-gates
+    (λ c. search needs)
     loop-holds
     array-read-i
-    cast-i
+    (λ c. search needs)
     shared-slice-read-n
     cast-n
     add-n

@@ -25,17 +25,11 @@ start c =
 readable : (c : tie.In-loop Inv-loop μ-loop) → TestsReadable (start c .args .g) (start c .args .x .now)
 readable c = start c .pre
 
-cast-tests : tie.Need-cast-tests Inv-loop μ-loop
-cast-tests c = search needs
-
 loop-holds : tie.Need-loop-holds Inv-loop μ-loop
 loop-holds c = counted-start
 
 array-read-c : tie.Need-array-read-c Inv-loop μ-loop
 array-read-c c = omega (arith, readable c .count)
-
-cast-c : tie.Need-cast-c Inv-loop μ-loop
-cast-c c = search needs
 
 array-read-test-true : tie.Need-array-read-test-true Inv-loop μ-loop
 array-read-test-true c = omega (arith, readable c .count)
@@ -73,10 +67,10 @@ true-tests-spec =
     (tie.spec
     Inv-loop
     μ-loop
-    cast-tests
+    (λ c. search needs)
     loop-holds
     array-read-c
-    cast-c
+    (λ c. search needs)
     array-read-test-true
     shared-slice-read-test-true
     test-true-requires

@@ -10,9 +10,6 @@ returns : tie.Need-returns
 unfolding inputs
 returns c = stopped _ (c .before .before .inputs-at .ensures .reads) (c .if1 .taken)
 
-cast-read-input-list : tie.Need-cast-read-input-list
-cast-read-input-list c = search needs
-
 read-input-list-requires : tie.Need-read-input-list-requires
 read-input-list-requires c κs = c .before .before .before .inputs-at .ensures .kept (c .before .if1 .left)
 
@@ -23,4 +20,4 @@ returns-2 c =
     going _ count (c .before .before .if1 .left) (c .read-input-list .ensures)
 
 pub read-inputs-spec : {M : Type 1} → statement M
-read-inputs-spec = tie.close (tie.spec asks-nothing returns cast-read-input-list read-input-list-requires returns-2)
+read-inputs-spec = tie.close (tie.spec asks-nothing returns (λ c. search needs) read-input-list-requires returns-2)

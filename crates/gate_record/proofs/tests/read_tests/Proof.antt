@@ -10,9 +10,6 @@ returns : tie.Need-returns
 unfolding tests
 returns c = stopped _ (c .before .before .inputs-at .ensures .reads) (c .if1 .taken)
 
-cast-read-test-list : tie.Need-cast-read-test-list
-cast-read-test-list c = search needs
-
 read-test-list-requires : tie.Need-read-test-list-requires
 read-test-list-requires c κs = c .before .before .before .inputs-at .ensures .kept (c .before .if1 .left)
 
@@ -23,4 +20,4 @@ returns-2 c =
     going _ count (c .before .before .if1 .left) (c .read-test-list .ensures)
 
 pub read-tests-spec : {M : Type 1} → statement M
-read-tests-spec = tie.close (tie.spec asks-nothing returns cast-read-test-list read-test-list-requires returns-2)
+read-tests-spec = tie.close (tie.spec asks-nothing returns (λ c. search needs) read-test-list-requires returns-2)

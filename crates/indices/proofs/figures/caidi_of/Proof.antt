@@ -14,16 +14,10 @@ loss-sum-requires c κs = (c .pre .0, (c .pre .1 .0, lower-most (c .pre .1 .1)))
 returns : tie.Need-returns
 returns c = sym (caidi-not-stated _ _ _ (sym (c .before .loss-sum .ensures .is) ∙ c .if1 .taken))
 
-loss-sum-requires-2 : tie.Need-loss-sum-requires-2
-loss-sum-requires-2 c κs = search needs
-
 minutes-sum-requires : tie.Need-minutes-sum-requires
 minutes-sum-requires c κs =
     let pre = c .before .before .before .pre in
     (pre .0, (pre .1 .0, lower-most (pre .1 .1)))
-
-minutes-sum-requires-2 : tie.Need-minutes-sum-requires-2
-minutes-sum-requires-2 c κs = search needs
 
 quotients-requires : tie.Need-quotients-requires
 quotients-requires c κs =
@@ -49,8 +43,8 @@ caidi-of-spec =
     (tie.spec
     loss-sum-requires
     returns
-    loss-sum-requires-2
+    (λ c κs. search needs)
     minutes-sum-requires
-    minutes-sum-requires-2
+    (λ c κs. search needs)
     quotients-requires
     returns-2)

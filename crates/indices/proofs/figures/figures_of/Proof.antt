@@ -5,33 +5,15 @@ use borrow.Author.Needs.{needs}
 use Rattle.indices.proofs.figures.figures_of.Statement.{statement}
 use Rattle.indices.proofs.figures.figures_of.Tie as tie
 
-customers-sum-requires : tie.Need-customers-sum-requires
-customers-sum-requires c κs = search needs
-
 loss-sum-requires : tie.Need-loss-sum-requires
 loss-sum-requires c κs =
     let pre = c .before .pre in
     (pre .0, (pre .1 .0, lower-most (pre .1 .1 .0)))
 
-loss-sum-requires-2 : tie.Need-loss-sum-requires-2
-loss-sum-requires-2 c κs = search needs
-
-quotients-requires : tie.Need-quotients-requires
-quotients-requires c κs = search needs
-
 minutes-sum-requires : tie.Need-minutes-sum-requires
 minutes-sum-requires c κs =
     let pre = c .before .before .before .before .pre in
     (pre .0, (pre .1 .0, lower-most (pre .1 .1 .0)))
-
-minutes-sum-requires-2 : tie.Need-minutes-sum-requires-2
-minutes-sum-requires-2 c κs = search needs
-
-quotients-requires-2 : tie.Need-quotients-requires-2
-quotients-requires-2 c κs = search needs
-
-caidi-of-requires : tie.Need-caidi-of-requires
-caidi-of-requires c κs = search needs
 
 returns : tie.Need-returns
 unfolding figuresOf
@@ -52,12 +34,12 @@ pub figures-of-spec : {M : Type 1} → statement M
 figures-of-spec =
     tie.close
     (tie.spec
-    customers-sum-requires
+    (λ c κs. search needs)
     loss-sum-requires
-    loss-sum-requires-2
-    quotients-requires
+    (λ c κs. search needs)
+    (λ c κs. search needs)
     minutes-sum-requires
-    minutes-sum-requires-2
-    quotients-requires-2
-    caidi-of-requires
+    (λ c κs. search needs)
+    (λ c κs. search needs)
+    (λ c κs. search needs)
     returns)

@@ -30,9 +30,6 @@ mul-l c = omega arith
 array-copy-out-l : tie.Need-array-copy-out-l Inv-loop μ-loop
 array-copy-out-l c = omega (arith, c .before .loop .inv .few)
 
-cast-sum : tie.Need-cast-sum Inv-loop μ-loop
-cast-sum c = search needs
-
 add-sum : tie.Need-add-sum Inv-loop μ-loop
 add-sum c = record { fits = omega (arith, summed-fits (c .before .before .before .loop .inv) (c .before .before .loop-test .taken)) }
 
@@ -62,7 +59,7 @@ customers-sum-spec =
     loop-holds
     mul-l
     array-copy-out-l
-    cast-sum
+    (λ c. search needs)
     add-sum
     add-j
     loop-less

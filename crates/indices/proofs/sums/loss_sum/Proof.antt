@@ -31,14 +31,8 @@ mul-l c = omega arith
 array-copy-out-l : tie.Need-array-copy-out-l Inv-loop μ-loop
 array-copy-out-l c = omega (arith, c .before .loop .inv .few)
 
-mul-sum : tie.Need-mul-sum Inv-loop μ-loop
-mul-sum c = search needs
-
 array-read-sum : tie.Need-array-read-sum Inv-loop μ-loop
 array-read-sum c = omega (arith, c .before .loop-test .taken, c .before .before .loop .inv .few)
-
-cast-sum : tie.Need-cast-sum Inv-loop μ-loop
-cast-sum c = search needs
 
 mul-sum-2 : tie.Need-mul-sum-2 Inv-loop μ-loop
 mul-sum-2 c = record { fits = omega (arith, c .before .before .before .loop .inv .limit _ (c .before .before .loop-test .taken)) }
@@ -72,9 +66,9 @@ loss-sum-spec =
     loop-holds
     mul-l
     array-copy-out-l
-    mul-sum
+    (λ c. search needs)
     array-read-sum
-    cast-sum
+    (λ c. search needs)
     mul-sum-2
     add-sum
     add-j

@@ -36,14 +36,8 @@ mul-l c = omega arith
 array-copy-out-l : tie.Need-array-copy-out-l Inv-loop μ-loop
 array-copy-out-l c = omega (arith, c .before .loop .inv .few)
 
-mul-sum : tie.Need-mul-sum Inv-loop μ-loop
-mul-sum c = search needs
-
 array-read-sum : tie.Need-array-read-sum Inv-loop μ-loop
 array-read-sum c = omega (arith, c .before .loop-test .taken, c .before .before .loop .inv .few)
-
-cast-sum : tie.Need-cast-sum Inv-loop μ-loop
-cast-sum c = search needs
 
 mul-sum-2 : tie.Need-mul-sum-2 Inv-loop μ-loop
 mul-sum-2 c =
@@ -52,9 +46,6 @@ mul-sum-2 c =
     let taken = c .before .before .loop-test .taken in
     let most = loss-limit (start .args .t2) (start .args .n) places (start .pre .0) (start .pre .1 .0) _ taken (start .pre .1 .1) in
     record { fits = omega (arith, most) }
-
-cast-sum-2 : tie.Need-cast-sum-2 Inv-loop μ-loop
-cast-sum-2 c = search needs
 
 mul-sum-3 : tie.Need-mul-sum-3 Inv-loop μ-loop
 mul-sum-3 c = record { fits = omega (arith, turn c .before .loop .inv .limit _ (turn c .loop-test .taken)) }
@@ -88,11 +79,11 @@ minutes-sum-spec =
     loop-holds
     mul-l
     array-copy-out-l
-    mul-sum
+    (λ c. search needs)
     array-read-sum
-    cast-sum
+    (λ c. search needs)
     mul-sum-2
-    cast-sum-2
+    (λ c. search needs)
     mul-sum-3
     add-sum
     add-j

@@ -16,9 +16,6 @@ use Rattle.opening.specs.Opening.{componentAfter}
 use Rattle.opening.proofs.components.read_component_after.Statement.{statement}
 use Rattle.opening.proofs.components.read_component_after.Tie as tie
 
-cast-width-fault : tie.Need-cast-width-fault
-cast-width-fault c = search needs
-
 mul-width-fault : tie.Need-mul-width-fault
 mul-width-fault c =
     let states : c .before .before .read-component .result .component .states < 2 ^ bits w8 = search needs in
@@ -33,4 +30,4 @@ returns c =
     kept-last component (λ x. widthFault (_ * x .states)) (λ x kept. ltb-false _ _ (refuse-kept _ _ kept)) read rule (c .first .ensures)
 
 pub read-component-after-spec : {M : Type 1} → statement M
-read-component-after-spec = tie.close (tie.spec asks-nothing cast-width-fault mul-width-fault asks-nothing asks-nothing returns)
+read-component-after-spec = tie.close (tie.spec asks-nothing (λ c. search needs) mul-width-fault asks-nothing asks-nothing returns)

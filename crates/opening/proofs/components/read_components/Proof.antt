@@ -54,9 +54,6 @@ mul-component c = omega arith
 array-set-from-component : tie.Need-array-set-from-component Inv-loop μ-loop
 array-set-from-component c = omega arith
 
-cast-joint : tie.Need-cast-joint Inv-loop μ-loop
-cast-joint c = search needs
-
 mul-joint : tie.Need-mul-joint Inv-loop μ-loop
 mul-joint c =
     let read = c .before .before .before .before .read-component-after .ensures in
@@ -93,4 +90,4 @@ pub read-components-spec : {M : Type 1} → statement M
 read-components-spec =
     tie.close
     (tie.spec Inv-loop μ-loop asks-nothing loop-holds read-component-after-requires returns mul-component
-    array-set-from-component cast-joint mul-joint add-i loop-less loop-again returns-2)
+    array-set-from-component (λ c. search needs) mul-joint add-i loop-less loop-again returns-2)

@@ -24,43 +24,16 @@ held : (c : tie.After-first-components)
     (sliced c .slice-study .last .1 .0) (sliced c .slice-study .result .paths)
 held c = held-front (sliced c .slice-study .ensures) (c .first-components .ensures)
 
-empty-list-requires : tie.Need-empty-list-requires
-empty-list-requires c κs = search needs
-
-slice-aggregate-slice-study : tie.Need-slice-aggregate-slice-study
-slice-aggregate-slice-study c = search needs
-
-slice-study-requires : tie.Need-slice-study-requires
-slice-study-requires c κs = search needs
-
-cast-paths : tie.Need-cast-paths
-cast-paths c = search needs
-
-cast-n : tie.Need-cast-n
-cast-n c = search needs
-
-slice-aggregate-first-components : tie.Need-slice-aggregate-first-components
-slice-aggregate-first-components c = search needs
-
 first-components-requires : tie.Need-first-components-requires
 first-components-requires c κs =
     let study = c .before .before .before .before .before in
     front-inside (start study .pre .0) (search needs)
-
-slice-aggregate-write-classes : tie.Need-slice-aggregate-write-classes
-slice-aggregate-write-classes c = search needs
 
 write-classes-requires : tie.Need-write-classes-requires
 write-classes-requires c κs =
     let front = c .before .before .before in
     let pre = start (sliced front) .pre in
     (held-boundable (held front), (pre .1 .0, pre .1 .1))
-
-same-length : tie.Need-same-length
-same-length c = search needs
-
-same-length-2 : tie.Need-same-length-2
-same-length-2 c = search needs
 
 returns : tie.Need-returns
 returns c =
@@ -75,15 +48,15 @@ pub bound-classes-spec : {M : Type 1} → statement M
 bound-classes-spec =
     tie.close
     (tie.spec
-    empty-list-requires
-    slice-aggregate-slice-study
-    slice-study-requires
-    cast-paths
-    cast-n
-    slice-aggregate-first-components
+    (λ c κs. search needs)
+    (λ c. search needs)
+    (λ c κs. search needs)
+    (λ c. search needs)
+    (λ c. search needs)
+    (λ c. search needs)
     first-components-requires
-    slice-aggregate-write-classes
+    (λ c. search needs)
     write-classes-requires
-    same-length
-    same-length-2
+    (λ c. search needs)
+    (λ c. search needs)
     returns)

@@ -8,9 +8,6 @@ use borrow.Author.Needs.{needs}
 use Rattle.planning.proofs.classes.class_bounds.Statement.{statement}
 use Rattle.planning.proofs.classes.class_bounds.Tie as tie
 
-classes-breach-requires : tie.Need-classes-breach-requires
-classes-breach-requires c κs = search needs
-
 returns : tie.Need-returns
 unfolding classesBounded
 returns c =
@@ -21,12 +18,6 @@ bound-classes-requires : tie.Need-bound-classes-requires
 bound-classes-requires c κs =
     let kept = pair-kept (sym (c .before .before .before .classes-breach .ensures) ∙ c .before .before .if1 .left) in
     (kept .is-sound, (kept .room .in-lower, kept .room .in-upper))
-
-same-length : tie.Need-same-length
-same-length c = search needs
-
-same-length-2 : tie.Need-same-length-2
-same-length-2 c = search needs
 
 returns-2 : tie.Need-returns-2
 unfolding classesBounded
@@ -42,9 +33,9 @@ pub class-bounds-spec : {M : Type 1} → statement M
 class-bounds-spec =
     tie.close
     (tie.spec
-    classes-breach-requires
+    (λ c κs. search needs)
     returns
     bound-classes-requires
-    same-length
-    same-length-2
+    (λ c. search needs)
+    (λ c. search needs)
     returns-2)

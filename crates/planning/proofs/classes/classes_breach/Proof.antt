@@ -7,18 +7,6 @@ use borrow.Author.Needs.{needs}
 use Rattle.planning.proofs.classes.classes_breach.Statement.{statement}
 use Rattle.planning.proofs.classes.classes_breach.Tie as tie
 
-is-sound-requires : tie.Need-is-sound-requires
-is-sound-requires c κs = search needs
-
-unsound-fault-requires : tie.Need-unsound-fault-requires
-unsound-fault-requires c κs = search needs
-
-pair-fault-requires : tie.Need-pair-fault-requires
-pair-fault-requires c κs = search needs
-
-first-requires : tie.Need-first-requires
-first-requires c κs = search needs
-
 returns : tie.Need-returns
 unfolding pairBreach
 returns c =
@@ -27,4 +15,4 @@ returns c =
 pub classes-breach-spec : {M : Type 1} → statement M
 classes-breach-spec =
     tie.close
-    (tie.spec is-sound-requires unsound-fault-requires pair-fault-requires first-requires returns)
+    (tie.spec (λ c κs. search needs) (λ c κs. search needs) (λ c κs. search needs) (λ c κs. search needs) returns)

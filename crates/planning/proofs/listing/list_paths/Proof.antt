@@ -8,12 +8,6 @@ use borrow.Author.Needs.{needs}
 use Rattle.planning.proofs.listing.list_paths.Statement.{statement}
 use Rattle.planning.proofs.listing.list_paths.Tie as tie
 
-is-sound-requires : tie.Need-is-sound-requires
-is-sound-requires c κs = search needs
-
-unsound-fault-requires : tie.Need-unsound-fault-requires
-unsound-fault-requires c κs = search needs
-
 returns : tie.Need-returns
 unfolding listFault pathsListed bufferListed
 returns c =
@@ -25,9 +19,6 @@ list-lent-requires : tie.Need-list-lent-requires
 list-lent-requires c κs =
     sound-behind _ (c .before .before .before .is-sound .ensures) (c .before .before .unsound-fault .ensures) (c .before .if1 .left)
 
-same-length : tie.Need-same-length
-same-length c = search needs
-
 returns-2 : tie.Need-returns-2
 unfolding listFault pathsListed bufferListed
 returns-2 c =
@@ -38,9 +29,9 @@ pub list-paths-spec : {M : Type 1} → statement M
 list-paths-spec =
     tie.close
     (tie.spec
-    is-sound-requires
-    unsound-fault-requires
+    (λ c κs. search needs)
+    (λ c κs. search needs)
     returns
     list-lent-requires
-    same-length
+    (λ c. search needs)
     returns-2)

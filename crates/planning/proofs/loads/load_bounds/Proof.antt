@@ -21,9 +21,6 @@ has-load c = c .before .load-breach .ensures .has-load (c .if1 .left)
 inside : (c : tie.Else1) → c .before .before .args .load < mostLoads
 inside c = omega (arith, has-load c .below, loads-most (c .before .before .args .study) (has-load c .is-sound))
 
-load-breach-requires : tie.Need-load-breach-requires
-load-breach-requires c κs = search needs
-
 returns : tie.Need-returns
 unfolding loadBounded
 returns c = rw (← c .before .load-breach .ensures .is) (sym (answered-refused Refused _ _ (c .if1 .taken)))
@@ -54,7 +51,7 @@ pub load-bounds-spec : {M : Type 1} → statement M
 load-bounds-spec =
     tie.close
     (tie.spec
-    load-breach-requires
+    (λ c κs. search needs)
     returns
     study-losses-requires
     mul-t8

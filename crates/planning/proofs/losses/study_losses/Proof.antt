@@ -20,29 +20,8 @@ held : (c : tie.After-first-components)
     (sliced c .slice-study .last .1 .0) (sliced c .slice-study .result .paths)
 held c = held-front (sliced c .slice-study .ensures) (c .first-components .ensures)
 
-empty-list-requires : tie.Need-empty-list-requires
-empty-list-requires c κs = search needs
-
-slice-aggregate-slice-study : tie.Need-slice-aggregate-slice-study
-slice-aggregate-slice-study c = search needs
-
-slice-study-requires : tie.Need-slice-study-requires
-slice-study-requires c κs = search needs
-
-cast-n : tie.Need-cast-n
-cast-n c = search needs
-
-slice-aggregate-first-components : tie.Need-slice-aggregate-first-components
-slice-aggregate-first-components c = search needs
-
 first-components-requires : tie.Need-first-components-requires
 first-components-requires c κs = front-inside (start (c .before .before .before .before) .pre) (search needs)
-
-slice-aggregate-loss-bounds : tie.Need-slice-aggregate-loss-bounds
-slice-aggregate-loss-bounds c = search needs
-
-cast-loss-bounds : tie.Need-cast-loss-bounds
-cast-loss-bounds c = search needs
 
 loss-bounds-requires : tie.Need-loss-bounds-requires
 loss-bounds-requires c κs = record { model = _; holds = held (c .before .before) }
@@ -54,13 +33,13 @@ pub study-losses-spec : {M : Type 1} → statement M
 study-losses-spec =
     tie.close
     (tie.spec
-    empty-list-requires
-    slice-aggregate-slice-study
-    slice-study-requires
-    cast-n
-    slice-aggregate-first-components
+    (λ c κs. search needs)
+    (λ c. search needs)
+    (λ c κs. search needs)
+    (λ c. search needs)
+    (λ c. search needs)
     first-components-requires
-    slice-aggregate-loss-bounds
-    cast-loss-bounds
+    (λ c. search needs)
+    (λ c. search needs)
     loss-bounds-requires
     returns)

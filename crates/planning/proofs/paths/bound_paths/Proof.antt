@@ -42,37 +42,13 @@ held : (c : tie.After-first-components)
     (sliced (judged c) .slice-study .last .1 .0) (sliced (judged c) .slice-study .result .paths)
 held c = held-front (sliced (judged c) .slice-study .ensures) (c .first-components .ensures)
 
-empty-list-requires : tie.Need-empty-list-requires
-empty-list-requires c κs = search needs
-
-slice-aggregate-slice-study : tie.Need-slice-aggregate-slice-study
-slice-aggregate-slice-study c = search needs
-
-slice-study-requires : tie.Need-slice-study-requires
-slice-study-requires c κs = search needs
-
-cast-paths : tie.Need-cast-paths
-cast-paths c = search needs
-
-pair-fault-requires : tie.Need-pair-fault-requires
-pair-fault-requires c κs = search needs
-
 returns : tie.Need-returns
 returns c =
     let taken = c .if1 .taken in
     rw (← fault-is (c .before)) (sym (answered-refused Refused _ _ taken), (sym (filled-refused _ _ _ taken), sym (filled-refused _ _ _ taken)))
 
-cast-n : tie.Need-cast-n
-cast-n c = search needs
-
-slice-aggregate-first-components : tie.Need-slice-aggregate-first-components
-slice-aggregate-first-components c = search needs
-
 first-components-requires : tie.Need-first-components-requires
 first-components-requires c κs = front-inside (start (sliced (c .before .before .before .before)) .pre) (search needs)
-
-slice-aggregate-write-paths : tie.Need-slice-aggregate-write-paths
-slice-aggregate-write-paths c = search needs
 
 write-paths-requires : tie.Need-write-paths-requires
 write-paths-requires c κs =
@@ -80,12 +56,6 @@ write-paths-requires c κs =
     let none = front .before .before .before .before .if1 .left in
     let room = pair-room (sym (judged front .pair-fault .ensures) ∙ none) in
     (held-boundable (held front), (room .in-lower, room .in-upper))
-
-same-length : tie.Need-same-length
-same-length c = search needs
-
-same-length-2 : tie.Need-same-length-2
-same-length-2 c = search needs
 
 returns-2 : tie.Need-returns-2
 returns-2 c =
@@ -104,17 +74,17 @@ pub bound-paths-spec : {M : Type 1} → statement M
 bound-paths-spec =
     tie.close
     (tie.spec
-    empty-list-requires
-    slice-aggregate-slice-study
-    slice-study-requires
-    cast-paths
-    pair-fault-requires
+    (λ c κs. search needs)
+    (λ c. search needs)
+    (λ c κs. search needs)
+    (λ c. search needs)
+    (λ c κs. search needs)
     returns
-    cast-n
-    slice-aggregate-first-components
+    (λ c. search needs)
+    (λ c. search needs)
     first-components-requires
-    slice-aggregate-write-paths
+    (λ c. search needs)
     write-paths-requires
-    same-length
-    same-length-2
+    (λ c. search needs)
+    (λ c. search needs)
     returns-2)

@@ -8,12 +8,6 @@ use borrow.Author.Needs.{needs}
 use Rattle.planning.proofs.paths.path_bounds.Statement.{statement}
 use Rattle.planning.proofs.paths.path_bounds.Tie as tie
 
-is-sound-requires : tie.Need-is-sound-requires
-is-sound-requires c κs = search needs
-
-unsound-fault-requires : tie.Need-unsound-fault-requires
-unsound-fault-requires c κs = search needs
-
 returns : tie.Need-returns
 unfolding pairBreach pathsBounded
 returns c =
@@ -26,12 +20,6 @@ bound-paths-requires c κs =
     let kept = c .before .before in
     sound-behind _ (kept .before .before .is-sound .ensures) (kept .before .unsound-fault .ensures) (kept .if1 .left)
 
-same-length : tie.Need-same-length
-same-length c = search needs
-
-same-length-2 : tie.Need-same-length-2
-same-length-2 c = search needs
-
 returns-2 : tie.Need-returns-2
 unfolding pairBreach pathsBounded
 returns-2 c =
@@ -43,10 +31,10 @@ pub path-bounds-spec : {M : Type 1} → statement M
 path-bounds-spec =
     tie.close
     (tie.spec
-    is-sound-requires
-    unsound-fault-requires
+    (λ c κs. search needs)
+    (λ c κs. search needs)
     returns
     bound-paths-requires
-    same-length
-    same-length-2
+    (λ c. search needs)
+    (λ c. search needs)
     returns-2)

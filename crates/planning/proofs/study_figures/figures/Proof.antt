@@ -17,12 +17,6 @@ use Rattle.planning.proofs.study_figures.figures.Tie as tie
 is-sound : (c : tie.Else1) → Sound (c .before .before .before .args .study)
 is-sound c = sound-behind _ (c .before .before .is-sound .ensures) (c .before .unsound-fault .ensures) (c .if1 .left)
 
-is-sound-requires : tie.Need-is-sound-requires
-is-sound-requires c κs = search needs
-
-unsound-fault-requires : tie.Need-unsound-fault-requires
-unsound-fault-requires c κs = search needs
-
 returns : tie.Need-returns
 unfolding figuresFault figuresGiven
 returns c =
@@ -51,8 +45,8 @@ pub figures-spec : {M : Type 1} → statement M
 figures-spec =
     tie.close
     (tie.spec
-    is-sound-requires
-    unsound-fault-requires
+    (λ c κs. search needs)
+    (λ c κs. search needs)
     returns
     study-losses-requires
     figures-from-requires

@@ -6,9 +6,6 @@ use borrow.Author.Needs.{needs}
 use Rattle.probability.proofs.path.bound_at.Statement.{statement}
 use Rattle.probability.proofs.path.bound_at.Tie as tie
 
-entry-at-requires : tie.Need-entry-at-requires
-entry-at-requires c κs = search needs
-
 path-bound-requires : tie.Need-path-bound-requires
 path-bound-requires c κs =
     let pre = c .before .before .before .pre in
@@ -18,4 +15,4 @@ returns : tie.Need-returns
 returns c = rw (sym (c .before .entry-at .ensures)) (c .path-bound .ensures)
 
 pub bound-at-spec : {M : Type 1} → statement M
-bound-at-spec = tie.close (tie.spec entry-at-requires path-bound-requires returns)
+bound-at-spec = tie.close (tie.spec (λ c κs. search needs) path-bound-requires returns)

@@ -4,19 +4,10 @@ use borrow.Author.Needs.{needs}
 use Rattle.probability.proofs.path.factored.Statement.{statement}
 use Rattle.probability.proofs.path.factored.Tie as tie
 
-shared-slice-read-mark : tie.Need-shared-slice-read-mark
-shared-slice-read-mark c = search needs
-
 returns : tie.Need-returns
 returns c =
     let start = c .before .before .before .before in
     (blank-factor _ _ _ _ _ (start .pre .1 .1 .1 .0) (c .if1 .taken), start .pre .1 .1 .1 .1)
-
-probability-at-requires : tie.Need-probability-at-requires
-probability-at-requires c κs = search needs
-
-cast-scale : tie.Need-cast-scale
-cast-scale c = search needs
 
 scale-requires : tie.Need-scale-requires
 scale-requires c κs =
@@ -34,9 +25,9 @@ pub factored-spec : {M : Type 1} → statement M
 factored-spec =
     tie.close
     (tie.spec
-    shared-slice-read-mark
+    (λ c. search needs)
     returns
-    probability-at-requires
-    cast-scale
+    (λ c κs. search needs)
+    (λ c. search needs)
     scale-requires
     returns-2)

@@ -12,9 +12,6 @@ Inv-loop rounding probabilities n entry bound₀ i₀ bound i = Factored roundin
 abbrev μ-loop : tie.MeasureT-loop
 μ-loop rounding probabilities n entry bound₀ i₀ bound i = n - i
 
-cast-bound : tie.Need-cast-bound Inv-loop μ-loop
-cast-bound c = search needs
-
 loop-holds : tie.Need-loop-holds Inv-loop μ-loop
 loop-holds c = factors-start
 
@@ -46,7 +43,7 @@ path-bound-spec =
     (tie.spec
     Inv-loop
     μ-loop
-    cast-bound
+    (λ c. search needs)
     loop-holds
     factored-requires
     add-i

@@ -6,14 +6,8 @@ use borrow.Author.Needs.{needs}
 use Rattle.probability.proofs.probabilities.first_components.Statement.{statement}
 use Rattle.probability.proofs.probabilities.first_components.Tie as tie
 
-mul-result : tie.Need-mul-result
-mul-result c = search needs
-
 slice-aggregate-result : tie.Need-slice-aggregate-result
 slice-aggregate-result c = sym (length-take-le _ _ (omega arith))
 
-returns : tie.Need-returns
-returns c = search needs
-
 pub first-components-spec : {M : Type 1} → statement M
-first-components-spec = tie.close (tie.spec mul-result slice-aggregate-result returns)
+first-components-spec = tie.close (tie.spec (λ c. search needs) slice-aggregate-result (λ c. search needs))

@@ -6,24 +6,9 @@ use borrow.Author.Needs.{needs}
 use Rattle.probability.proofs.probabilities.probability_at.Statement.{statement}
 use Rattle.probability.proofs.probabilities.probability_at.Tie as tie
 
-mul-at : tie.Need-mul-at
-mul-at c = search needs
-
-add-at : tie.Need-add-at
-add-at c = search needs
-
-mul-result : tie.Need-mul-result
-mul-result c = search needs
-
-shared-slice-read-result : tie.Need-shared-slice-read-result
-shared-slice-read-result c = search needs
-
-returns : tie.Need-returns
-returns c = search needs
-
 returns-2 : tie.Need-returns-2
 returns-2 c = sym (List·getD-eq-default (now (c .before .args .probabilities)) 0 (c .if1 .left))
 
 pub probability-at-spec : {M : Type 1} → statement M
 probability-at-spec =
-    tie.close (tie.spec mul-at add-at mul-result shared-slice-read-result returns returns-2)
+    tie.close (tie.spec (λ c. search needs) (λ c. search needs) (λ c. search needs) (λ c. search needs) (λ c. search needs) returns-2)

@@ -7,12 +7,6 @@ use borrow.Author.Needs.{needs}
 use Rattle.probability.proofs.totals.counted_bit.Statement.{statement}
 use Rattle.probability.proofs.totals.counted_bit.Tie as tie
 
-cast-if1 : tie.Need-cast-if1
-cast-if1 c = search needs
-
-shr-if1 : tie.Need-shr-if1
-shr-if1 c = search needs
-
 returns : tie.Need-returns
 returns c =
     let args = c .before .args in
@@ -24,4 +18,4 @@ returns-2 c =
     bit-clear (args .class) (args .j) (args .bound) (λ e. c .if1 .left (and-mask (args .class / 2 ^ args .j) 1 ∙ e))
 
 pub counted-bit-spec : {M : Type 1} → statement M
-counted-bit-spec = tie.close (tie.spec cast-if1 shr-if1 returns returns-2)
+counted-bit-spec = tie.close (tie.spec (λ c. search needs) (λ c. search needs) returns returns-2)

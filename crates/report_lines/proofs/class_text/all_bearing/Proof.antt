@@ -14,9 +14,6 @@ Inv-loop n list paths bearing₀ k₀ bearing k = Borne n list paths k bearing
 abbrev μ-loop : tie.MeasureT-loop
 μ-loop n list paths bearing₀ k₀ bearing k = paths - k
 
-none-bearing-requires : tie.Need-none-bearing-requires Inv-loop μ-loop
-none-bearing-requires c κs = search needs
-
 loop-holds : tie.Need-loop-holds Inv-loop μ-loop
 loop-holds c = borne-start (c .before .before .pre) (c .none-bearing .ensures)
 
@@ -43,9 +40,6 @@ mul-bearing-2 c = record { fits = omega arith }
 array-write-bearing : tie.Need-array-write-bearing Inv-loop μ-loop
 array-write-bearing c = omega arith
 
-add-k : tie.Need-add-k Inv-loop μ-loop
-add-k c = search needs
-
 loop-less : tie.Need-loop-less Inv-loop μ-loop
 loop-less c = omega (arith, c .before .loop-test .taken)
 
@@ -61,7 +55,7 @@ all-bearing-spec =
     (tie.spec
     Inv-loop
     μ-loop
-    none-bearing-requires
+    (λ c κs. search needs)
     loop-holds
     class-at-requires
     cast-class
@@ -70,7 +64,7 @@ all-bearing-spec =
     add-bearing
     mul-bearing-2
     array-write-bearing
-    add-k
+    (λ c. search needs)
     loop-less
     loop-again
     returns)

@@ -12,17 +12,11 @@ returns : tie.Need-returns
 unfolding classLine
 returns c = rw (eq-eqb _ 0 (c .if1 .taken)) (wrote-none _ _ (omega (arith, c .before .before .pre .fits)))
 
-slice-aggregate-item-line : tie.Need-slice-aggregate-item-line
-slice-aggregate-item-line c = search needs
-
 item-line-requires : tie.Need-item-line-requires
 unfolding classLine
 item-line-requires c κs =
     let occurs = c .before .before in
     rw (ne-eqb _ 0 (occurs .if1 .left)) at (occurs .before .before .pre)
-
-same-length : tie.Need-same-length
-same-length c = search needs
 
 returns-2 : tie.Need-returns-2
 unfolding classLine
@@ -32,4 +26,4 @@ returns-2 c =
 
 pub class-line-spec : {M : Type 1} → statement M
 class-line-spec =
-    tie.close (tie.spec returns slice-aggregate-item-line item-line-requires same-length returns-2)
+    tie.close (tie.spec returns (λ c. search needs) item-line-requires (λ c. search needs) returns-2)

@@ -54,9 +54,6 @@ shared-slice-read-class-line-3 c = let turn = c .before .before .before .before 
 class-line-requires : tie.Need-class-line-requires Inv-loop μ-loop
 class-line-requires c κs = let turn = c .before .before .before .before in tabled-room (turn .before .loop .inv) (turn .loop-test .taken)
 
-add-c : tie.Need-add-c Inv-loop μ-loop
-add-c c = search needs
-
 loop-less : tie.Need-loop-less Inv-loop μ-loop
 loop-less c = omega (arith, turn (c .before .before) .loop-test .taken)
 
@@ -86,7 +83,7 @@ class-lines-spec =
     mul-class-line-3
     shared-slice-read-class-line-3
     class-line-requires
-    add-c
+    (λ c. search needs)
     loop-less
     loop-again
     same-length

@@ -6,23 +6,11 @@ use Rattle.report_lines.proofs.figure_text.caidi_line.Tie as tie
 use Rattle.text.proofs.copy.Reads as copy-reads
 use Rattle.text.proofs.bounds_line.Reads as bounds-line-reads
 
-enum-known-caidi : tie.Need-enum-known-caidi
-enum-known-caidi c = search needs
-
-slice-aggregate-bounds-line : tie.Need-slice-aggregate-bounds-line
-slice-aggregate-bounds-line c = search needs
-
 bounds-line-requires : tie.Need-bounds-line-requires
 unfolding caidiLine
 bounds-line-requires c κs =
     let matched = c .before .before .before in
     rw (matched .caidi .given .1) at (matched .before .before .before .pre)
-
-enum-told : tie.Need-enum-told
-enum-told c = search needs
-
-slice-aggregate-copy : tie.Need-slice-aggregate-copy
-slice-aggregate-copy c = search needs
 
 copy-requires : tie.Need-copy-requires
 unfolding caidiLine
@@ -30,17 +18,11 @@ copy-requires c κs =
     let matched = c .before .before in
     rw (matched .enum-told .given .1) at (matched .before .before .before .pre)
 
-same-length : tie.Need-same-length
-same-length c = search needs
-
 returns : tie.Need-returns
 unfolding caidiLine
 returns c =
     let written = c .before .before in
     rw (written .before .before .before .before .caidi .given .1) (written .bounds-line .ensures)
-
-same-length-2 : tie.Need-same-length-2
-same-length-2 c = search needs
 
 returns-2 : tie.Need-returns-2
 unfolding caidiLine
@@ -52,13 +34,13 @@ pub caidi-line-spec : {M : Type 1} → statement M
 caidi-line-spec =
     tie.close
     (tie.spec
-    enum-known-caidi
-    slice-aggregate-bounds-line
+    (λ c. search needs)
+    (λ c. search needs)
     bounds-line-requires
-    enum-told
-    slice-aggregate-copy
+    (λ c. search needs)
+    (λ c. search needs)
     copy-requires
-    same-length
+    (λ c. search needs)
     returns
-    same-length-2
+    (λ c. search needs)
     returns-2)

@@ -24,9 +24,6 @@ load-line-requires c κs =
     let taken = turn .loop-test .taken in
     (omega (arith, taken, turn .before .before .before .pre .0), tabled-room (turn .before .loop .inv) taken)
 
-add-j : tie.Need-add-j Inv-loop μ-loop
-add-j c = search needs
-
 loop-less : tie.Need-loop-less Inv-loop μ-loop
 loop-less c = omega (arith, c .before .before .before .before .loop-test .taken)
 
@@ -50,7 +47,7 @@ load-lines-spec =
     μ-loop
     loop-holds
     load-line-requires
-    add-j
+    (λ c. search needs)
     loop-less
     loop-again
     same-length

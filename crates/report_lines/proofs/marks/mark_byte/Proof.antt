@@ -5,9 +5,6 @@ use borrow.Author.Needs.{needs}
 use Rattle.report_lines.proofs.marks.mark_byte.Statement.{statement}
 use Rattle.report_lines.proofs.marks.mark_byte.Tie as tie
 
-add-result : tie.Need-add-result
-add-result c = search needs
-
 returns : tie.Need-returns
 returns c = rw (lt-ltb _ _ (c .if1 .taken)) refl
 
@@ -15,4 +12,4 @@ returns-2 : tie.Need-returns-2
 returns-2 c = rw (le-ltb _ _ (c .if1 .left)) refl
 
 pub mark-byte-spec : {M : Type 1} → statement M
-mark-byte-spec = tie.close (tie.spec add-result returns returns-2)
+mark-byte-spec = tie.close (tie.spec (λ c. search needs) returns returns-2)

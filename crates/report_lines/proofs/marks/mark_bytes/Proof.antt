@@ -28,17 +28,8 @@ loop-holds c = writing-start (c .before .before .pre .1 .fits)
 shared-slice-read-mark-byte : tie.Need-shared-slice-read-mark-byte Inv-loop μ-loop
 shared-slice-read-mark-byte c = let turn = c .before in omega (arith, turn .loop-test .taken, start turn .pre .0)
 
-mark-byte-requires : tie.Need-mark-byte-requires Inv-loop μ-loop
-mark-byte-requires c κs = search needs
-
 slice-write-out : tie.Need-slice-write-out Inv-loop μ-loop
 slice-write-out c = let turn = c .before .before in writing-room (turn .before .loop .inv) (inside turn)
-
-add-place : tie.Need-add-place Inv-loop μ-loop
-add-place c = search needs
-
-add-i : tie.Need-add-i Inv-loop μ-loop
-add-i c = search needs
 
 loop-less : tie.Need-loop-less Inv-loop μ-loop
 loop-less c = omega (arith, c .before .before .loop-test .taken)
@@ -69,10 +60,10 @@ mark-bytes-spec =
     μ-loop
     loop-holds
     shared-slice-read-mark-byte
-    mark-byte-requires
+    (λ c κs. search needs)
     slice-write-out
-    add-place
-    add-i
+    (λ c. search needs)
+    (λ c. search needs)
     loop-less
     loop-again
     same-length

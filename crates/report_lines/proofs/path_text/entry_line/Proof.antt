@@ -19,9 +19,6 @@ second c = c .before .before .before .before
 abbrev third : tie.After-bounds-end → tie.After-field
 third c = c .before .before .before .before
 
-slice-aggregate-copy : tie.Need-slice-aggregate-copy
-slice-aggregate-copy c = search needs
-
 copy-requires : tie.Need-copy-requires
 unfolding entryLine
 copy-requires c κs = pieces-room (pieces-start _ (c .before .before .before .before .pre .1)) (omega arith)
@@ -54,9 +51,6 @@ bounds-end-requires c κs =
     let written3 = pieces-more written2 (omega arith) (classed .field .ensures) in
     pieces-room written3 (omega arith)
 
-same-length : tie.Need-same-length
-same-length c = search needs
-
 returns : tie.Need-returns
 unfolding entryLine
 returns c =
@@ -74,10 +68,10 @@ pub entry-line-spec : {M : Type 1} → statement M
 entry-line-spec =
     tie.close
     (tie.spec
-    slice-aggregate-copy
+    (λ c. search needs)
     copy-requires
     mark-bytes-requires
     field-requires
     bounds-end-requires
-    same-length
+    (λ c. search needs)
     returns)

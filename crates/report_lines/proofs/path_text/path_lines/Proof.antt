@@ -36,9 +36,6 @@ path-line-requires c κs =
     let entry = c .entry-at .ensures in
     (pre .0, (pre .1 .0 .components, (entry-long (pre .1 .0) _ taken entry, rw entry (tabled-room (turn .before .loop .inv) taken))))
 
-add-k : tie.Need-add-k Inv-loop μ-loop
-add-k c = search needs
-
 loop-less : tie.Need-loop-less Inv-loop μ-loop
 loop-less c = omega (arith, c .before .before .before .before .before .loop-test .taken)
 
@@ -66,7 +63,7 @@ path-lines-spec =
     loop-holds
     entry-at-requires
     path-line-requires
-    add-k
+    (λ c. search needs)
     loop-less
     loop-again
     same-length

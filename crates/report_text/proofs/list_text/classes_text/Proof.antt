@@ -28,41 +28,11 @@ lines-are c =
     let second = filled c .before .before .before in
     classes-are _ _ _ _ _ (c .all-bearing .ensures) (wrote .0) (second .before .no-bounds .ensures) (wrote .1) (second .no-bounds2 .ensures)
 
-no-bounds-requires : tie.Need-no-bounds-requires
-no-bounds-requires c κs = search needs
-
-no-bounds-requires-2 : tie.Need-no-bounds-requires-2
-no-bounds-requires-2 c κs = search needs
-
-slice-aggregate-write-classes : tie.Need-slice-aggregate-write-classes
-slice-aggregate-write-classes c = search needs
-
-slice-aggregate-write-classes-2 : tie.Need-slice-aggregate-write-classes-2
-slice-aggregate-write-classes-2 c = search needs
-
-write-classes-requires : tie.Need-write-classes-requires
-write-classes-requires c κs = search needs
-
-all-bearing-requires : tie.Need-all-bearing-requires
-all-bearing-requires c κs = search needs
-
-slice-aggregate-class-lines : tie.Need-slice-aggregate-class-lines
-slice-aggregate-class-lines c = search needs
-
-slice-aggregate-class-lines-2 : tie.Need-slice-aggregate-class-lines-2
-slice-aggregate-class-lines-2 c = search needs
-
-slice-aggregate-class-lines-3 : tie.Need-slice-aggregate-class-lines-3
-slice-aggregate-class-lines-3 c = search needs
-
 class-lines-requires : tie.Need-class-lines-requires
 class-lines-requires c κs =
     let counted = c .before .before .before .before in
     let bearing : length (counted .all-bearing .result) ≡ classPlaces = search needs in
     (omega (arith, bearing), (search needs, (search needs, rw (lines-are counted) (start (filled counted) .pre .1))))
-
-same-length : tie.Need-same-length
-same-length c = search needs
 
 returns : tie.Need-returns
 returns c =
@@ -73,15 +43,15 @@ pub classes-text-spec : {M : Type 1} → statement M
 classes-text-spec =
     tie.close
     (tie.spec
-    no-bounds-requires
-    no-bounds-requires-2
-    slice-aggregate-write-classes
-    slice-aggregate-write-classes-2
-    write-classes-requires
-    all-bearing-requires
-    slice-aggregate-class-lines
-    slice-aggregate-class-lines-2
-    slice-aggregate-class-lines-3
+    (λ c κs. search needs)
+    (λ c κs. search needs)
+    (λ c. search needs)
+    (λ c. search needs)
+    (λ c κs. search needs)
+    (λ c κs. search needs)
+    (λ c. search needs)
+    (λ c. search needs)
+    (λ c. search needs)
     class-lines-requires
-    same-length
+    (λ c. search needs)
     returns)

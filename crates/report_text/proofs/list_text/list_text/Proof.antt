@@ -74,9 +74,6 @@ three : (c : tie.After-classes-text)
     (c .classes-text .result)
 three c = pieces-more (two (pathed c)) (omega arith) (c .classes-text .ensures)
 
-slice-aggregate-number-line : tie.Need-slice-aggregate-number-line
-slice-aggregate-number-line c = search needs
-
 number-line-requires : tie.Need-number-line-requires
 number-line-requires c κs =
     let args = origin c .args in
@@ -100,9 +97,6 @@ losses-text-requires c κs =
     let pre = start (numbered (pathed classed)) .pre in
     (pre .0, (pre .1 .0, (pre .1 .1 .0, pieces-room (three classed) (omega arith))))
 
-same-length : tie.Need-same-length
-same-length c = search needs
-
 returns : tie.Need-returns
 unfolding listText
 returns c =
@@ -113,10 +107,10 @@ pub list-text-spec : {M : Type 1} → statement M
 list-text-spec =
     tie.close
     (tie.spec
-    slice-aggregate-number-line
+    (λ c. search needs)
     number-line-requires
     path-lines-requires
     classes-text-requires
     losses-text-requires
-    same-length
+    (λ c. search needs)
     returns)

@@ -63,9 +63,6 @@ one : (c : tie.After-load-lines)
     → Pieces (parts (start (figured c))) (now (start (figured c) .args .out)) (start (figured c) .args .at) 1 (c .load-lines .last .0) (c .load-lines .result)
 one c = pieces-more (begun (figured c)) (omega arith) (rw (load-lines-are (figured c)) at (c .load-lines .ensures))
 
-loss-bounds-requires : tie.Need-loss-bounds-requires
-loss-bounds-requires c κs = search needs
-
 figures-from-requires : tie.Need-figures-from-requires
 figures-from-requires c κs =
     let pre = c .before .before .before .before .pre in
@@ -81,9 +78,6 @@ figure-lines-requires c κs =
     let lined = c .before .before .before in
     rw (figure-lines-are (figured lined)) (pieces-room (one lined) (omega arith))
 
-same-length : tie.Need-same-length
-same-length c = search needs
-
 returns : tie.Need-returns
 unfolding lossesText
 returns c =
@@ -95,9 +89,9 @@ pub losses-text-spec : {M : Type 1} → statement M
 losses-text-spec =
     tie.close
     (tie.spec
-    loss-bounds-requires
+    (λ c κs. search needs)
     figures-from-requires
     load-lines-requires
     figure-lines-requires
-    same-length
+    (λ c. search needs)
     returns)

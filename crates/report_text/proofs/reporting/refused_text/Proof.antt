@@ -50,9 +50,6 @@ four : (c : tie.After-refusal-word)
     (c .refusal-word .last .0) (c .refusal-word .result)
 four c = pieces-more (three (parted c)) (omega arith) (c .refusal-word .ensures)
 
-slice-aggregate-copy : tie.Need-slice-aggregate-copy
-slice-aggregate-copy c = search needs
-
 copy-requires : tie.Need-copy-requires
 unfolding refusedText
 copy-requires c κs = pieces-room (pieces-start _ (c .before .before .before .pre)) (omega arith)
@@ -60,23 +57,14 @@ copy-requires c κs = pieces-room (pieces-start _ (c .before .before .before .pr
 field-requires : tie.Need-field-requires
 field-requires c κs = pieces-room (one (c .before .before .before)) (omega arith)
 
-slice-aggregate-copy-2 : tie.Need-slice-aggregate-copy-2
-slice-aggregate-copy-2 c = search needs
-
 copy-requires-2 : tie.Need-copy-requires-2
 copy-requires-2 c κs = pieces-room (two (c .before .before .before .before)) (omega arith)
 
 refusal-word-requires : tie.Need-refusal-word-requires
 refusal-word-requires c κs = pieces-room (three (c .before .before .before)) (omega arith)
 
-slice-aggregate-copy-3 : tie.Need-slice-aggregate-copy-3
-slice-aggregate-copy-3 c = search needs
-
 copy-requires-3 : tie.Need-copy-requires-3
 copy-requires-3 c κs = pieces-room (four (c .before .before .before .before)) (omega arith)
-
-same-length : tie.Need-same-length
-same-length c = search needs
 
 returns : tie.Need-returns
 unfolding refusedText
@@ -88,13 +76,13 @@ pub refused-text-spec : {M : Type 1} → statement M
 refused-text-spec =
     tie.close
     (tie.spec
-    slice-aggregate-copy
+    (λ c. search needs)
     copy-requires
     field-requires
-    slice-aggregate-copy-2
+    (λ c. search needs)
     copy-requires-2
     refusal-word-requires
-    slice-aggregate-copy-3
+    (λ c. search needs)
     copy-requires-3
-    same-length
+    (λ c. search needs)
     returns)

@@ -9,18 +9,6 @@ use borrow.Author.Needs.{needs}
 use Rattle.report_text.proofs.reporting.report.Statement.{statement}
 use Rattle.report_text.proofs.reporting.report.Tie as tie
 
-empty-report-requires : tie.Need-empty-report-requires
-empty-report-requires c κs = search needs
-
-slice-aggregate-report-text : tie.Need-slice-aggregate-report-text
-slice-aggregate-report-text c = search needs
-
-report-text-requires : tie.Need-report-text-requires
-report-text-requires c κs = search needs
-
-room-fault-requires : tie.Need-room-fault-requires
-room-fault-requires c κs = search needs
-
 returns : tie.Need-returns
 returns c = report-refused (c .before .before .before .report-text .ensures) _ _ (c .before .room-fault .ensures) (c .if1 .taken)
 
@@ -41,9 +29,6 @@ cast-t15 c =
     let whole : length (wrote .last .1 .0) ≡ reportBytes = search needs in
     record { fits = omega (arith, whole-inside (wrote .ensures), whole) }
 
-same-length : tie.Need-same-length
-same-length c = search needs
-
 returns-2 : tie.Need-returns-2
 returns-2 c =
     let kept = c .before .before .before .before .before in
@@ -54,14 +39,14 @@ pub report-spec : {M : Type 1} → statement M
 report-spec =
     tie.close
     (tie.spec
-    empty-report-requires
-    slice-aggregate-report-text
-    report-text-requires
-    room-fault-requires
+    (λ c κs. search needs)
+    (λ c. search needs)
+    (λ c κs. search needs)
+    (λ c κs. search needs)
     returns
     array-share-prefix-whole
     slice-aggregate-copy
     copy-requires
     cast-t15
-    same-length
+    (λ c. search needs)
     returns-2)

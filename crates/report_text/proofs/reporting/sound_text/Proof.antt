@@ -23,29 +23,8 @@ held : (c : tie.After-first-components)
     (sliced c .slice-study .last .1 .0) (sliced c .slice-study .result .paths)
 held c = held-front (sliced c .slice-study .ensures) (c .first-components .ensures)
 
-empty-list-requires : tie.Need-empty-list-requires
-empty-list-requires c κs = search needs
-
-slice-aggregate-slice-study : tie.Need-slice-aggregate-slice-study
-slice-aggregate-slice-study c = search needs
-
-slice-study-requires : tie.Need-slice-study-requires
-slice-study-requires c κs = search needs
-
-cast-n : tie.Need-cast-n
-cast-n c = search needs
-
-slice-aggregate-first-components : tie.Need-slice-aggregate-first-components
-slice-aggregate-first-components c = search needs
-
 first-components-requires : tie.Need-first-components-requires
 first-components-requires c κs = front-inside (start (c .before .before .before .before .before) .pre .0) (search needs)
-
-slice-aggregate-list-text : tie.Need-slice-aggregate-list-text
-slice-aggregate-list-text c = search needs
-
-cast-list-text : tie.Need-cast-list-text
-cast-list-text c = search needs
 
 list-text-requires : tie.Need-list-text-requires
 unfolding modelOf
@@ -53,9 +32,6 @@ list-text-requires c κs =
     let front = c .before .before .before in
     let pre = start (sliced front) .pre in
     (record { model = _; holds = held front }, (loads-most _ (pre .0), (sound-good _ (pre .0) .loads, pre .1)))
-
-same-length : tie.Need-same-length
-same-length c = search needs
 
 returns : tie.Need-returns
 unfolding modelText modelOf
@@ -69,14 +45,14 @@ pub sound-text-spec : {M : Type 1} → statement M
 sound-text-spec =
     tie.close
     (tie.spec
-    empty-list-requires
-    slice-aggregate-slice-study
-    slice-study-requires
-    cast-n
-    slice-aggregate-first-components
+    (λ c κs. search needs)
+    (λ c. search needs)
+    (λ c κs. search needs)
+    (λ c. search needs)
+    (λ c. search needs)
     first-components-requires
-    slice-aggregate-list-text
-    cast-list-text
+    (λ c. search needs)
+    (λ c. search needs)
     list-text-requires
-    same-length
+    (λ c. search needs)
     returns)

@@ -4,14 +4,8 @@ use Rattle.rules.proofs.Kept.{list-more}
 use Rattle.rules.proofs.breach.first_of_four.Statement.{statement}
 use Rattle.rules.proofs.breach.first_of_four.Tie as tie
 
-first-of-three-requires : tie.Need-first-of-three-requires
-first-of-three-requires c κs = search needs
-
-first-requires : tie.Need-first-requires
-first-requires c κs = search needs
-
 returns : tie.Need-returns
 returns c = rw list-more (cc)
 
 pub first-of-four-spec : {M : Type 1} → statement M
-first-of-four-spec = tie.close (tie.spec first-of-three-requires first-requires returns)
+first-of-four-spec = tie.close (tie.spec (λ c κs. search needs) (λ c κs. search needs) returns)

@@ -4,14 +4,8 @@ use Rattle.rules.proofs.Kept.{list-more, list-last}
 use Rattle.rules.proofs.breach.first_of_three.Statement.{statement}
 use Rattle.rules.proofs.breach.first_of_three.Tie as tie
 
-first-requires : tie.Need-first-requires
-first-requires c κs = search needs
-
-first-requires-2 : tie.Need-first-requires-2
-first-requires-2 c κs = search needs
-
 returns : tie.Need-returns
 returns c = simp (list-more, list-last) (cc)
 
 pub first-of-three-spec : {M : Type 1} → statement M
-first-of-three-spec = tie.close (tie.spec first-requires first-requires-2 returns)
+first-of-three-spec = tie.close (tie.spec (λ c κs. search needs) (λ c κs. search needs) returns)

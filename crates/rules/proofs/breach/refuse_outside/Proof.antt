@@ -9,9 +9,6 @@ returns : tie.Need-returns
 unfolding outside refuse
 returns c = simp (lt-ltb _ _ (c .if1 .taken))
 
-refuse-requires : tie.Need-refuse-requires
-refuse-requires c κs = search needs
-
 returns-2 : tie.Need-returns-2
 unfolding outside refuse
 returns-2 c =
@@ -21,4 +18,4 @@ returns-2 c =
     )
 
 pub refuse-outside-spec : {M : Type 1} → statement M
-refuse-outside-spec = tie.close (tie.spec returns refuse-requires returns-2)
+refuse-outside-spec = tie.close (tie.spec returns (λ c κs. search needs) returns-2)

@@ -23,23 +23,14 @@ only-zero states mask h m = rw (le-ltb (2 ^ states - 1) mask (le-ones states (le
 shifted : (states : ℕ) → states < maskBits → (1 * 2 ^ states) % 2 ^ 32 ≡ 2 ^ states
 shifted states h = shl-exact 1 states 32 (lit< tt) (omega arith) ∙ one-mul (2 ^ states)
 
-refuse-requires : tie.Need-refuse-requires
-refuse-requires c κs = search needs
-
 returns : tie.Need-returns
 returns c = rw (only-zero _ _ (c .before .if1 .taken) (c .before .before .fits .mask .fits)) (c .refuse .ensures)
 
-shl-refuse-outside : tie.Need-shl-refuse-outside
-shl-refuse-outside c = search needs
-
 sub-refuse-outside : tie.Need-sub-refuse-outside
 sub-refuse-outside c = rw (shifted _ (c .if1 .left)) (pow-pos _)
-
-refuse-outside-requires : tie.Need-refuse-outside-requires
-refuse-outside-requires c κs = search needs
 
 returns-2 : tie.Need-returns-2
 returns-2 c = rw (shifted _ (c .before .if1 .left)) at (c .refuse-outside .ensures)
 
 pub mask-fault-spec : {M : Type 1} → statement M
-mask-fault-spec = tie.close (tie.spec refuse-requires returns shl-refuse-outside sub-refuse-outside refuse-outside-requires returns-2)
+mask-fault-spec = tie.close (tie.spec (λ c κs. search needs) returns (λ c. search needs) sub-refuse-outside (λ c κs. search needs) returns-2)

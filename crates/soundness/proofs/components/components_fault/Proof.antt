@@ -22,30 +22,6 @@ loop-holds c = first-start
 mul-c : tie.Need-mul-c Inv-loop μ-loop
 mul-c c = omega arith
 
-array-copy-out-c : tie.Need-array-copy-out-c Inv-loop μ-loop
-array-copy-out-c c = search needs
-
-states-fault-requires : tie.Need-states-fault-requires Inv-loop μ-loop
-states-fault-requires c κs = search needs
-
-probabilities-fault-requires : tie.Need-probabilities-fault-requires Inv-loop μ-loop
-probabilities-fault-requires c κs = search needs
-
-first-requires : tie.Need-first-requires Inv-loop μ-loop
-first-requires c κs = search needs
-
-cast-unused-fault : tie.Need-cast-unused-fault Inv-loop μ-loop
-cast-unused-fault c = search needs
-
-unused-fault-requires : tie.Need-unused-fault-requires Inv-loop μ-loop
-unused-fault-requires c κs = search needs
-
-in-use-requires : tie.Need-in-use-requires Inv-loop μ-loop
-in-use-requires c κs = search needs
-
-first-requires-2 : tie.Need-first-requires-2 Inv-loop μ-loop
-first-requires-2 c κs = search needs
-
 add-i : tie.Need-add-i Inv-loop μ-loop
 add-i c = omega arith
 
@@ -71,14 +47,14 @@ components-fault-spec =
     μ-loop
     loop-holds
     mul-c
-    array-copy-out-c
-    states-fault-requires
-    probabilities-fault-requires
-    first-requires
-    cast-unused-fault
-    unused-fault-requires
-    in-use-requires
-    first-requires-2
+    (λ c. search needs)
+    (λ c κs. search needs)
+    (λ c κs. search needs)
+    (λ c κs. search needs)
+    (λ c. search needs)
+    (λ c κs. search needs)
+    (λ c κs. search needs)
+    (λ c κs. search needs)
     add-i
     loop-less
     loop-again

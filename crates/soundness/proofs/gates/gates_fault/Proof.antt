@@ -22,15 +22,6 @@ loop-holds c = first-start
 mul-g : tie.Need-mul-g Inv-loop μ-loop
 mul-g c = omega arith
 
-array-copy-out-g : tie.Need-array-copy-out-g Inv-loop μ-loop
-array-copy-out-g c = search needs
-
-gate-place-fault-requires : tie.Need-gate-place-fault-requires Inv-loop μ-loop
-gate-place-fault-requires c κs = search needs
-
-first-requires : tie.Need-first-requires Inv-loop μ-loop
-first-requires c κs = search needs
-
 add-i : tie.Need-add-i Inv-loop μ-loop
 add-i c = omega arith
 
@@ -54,9 +45,9 @@ gates-fault-spec =
     μ-loop
     loop-holds
     mul-g
-    array-copy-out-g
-    gate-place-fault-requires
-    first-requires
+    (λ c. search needs)
+    (λ c κs. search needs)
+    (λ c κs. search needs)
     add-i
     loop-less
     loop-again

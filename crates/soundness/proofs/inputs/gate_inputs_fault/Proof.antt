@@ -18,24 +18,6 @@ abbrev μ-loop : tie.MeasureT-loop
 loop-holds : tie.Need-loop-holds Inv-loop μ-loop
 loop-holds c = first-start
 
-array-read-g : tie.Need-array-read-g Inv-loop μ-loop
-array-read-g c = search needs
-
-ahead-fault-requires : tie.Need-ahead-fault-requires Inv-loop μ-loop
-ahead-fault-requires c κs = search needs
-
-cast-unused-fault : tie.Need-cast-unused-fault Inv-loop μ-loop
-cast-unused-fault c = search needs
-
-unused-fault-requires : tie.Need-unused-fault-requires Inv-loop μ-loop
-unused-fault-requires c κs = search needs
-
-in-use-requires : tie.Need-in-use-requires Inv-loop μ-loop
-in-use-requires c κs = search needs
-
-first-requires : tie.Need-first-requires Inv-loop μ-loop
-first-requires c κs = search needs
-
 add-j : tie.Need-add-j Inv-loop μ-loop
 add-j c = omega arith
 
@@ -59,12 +41,12 @@ gate-inputs-fault-spec =
     Inv-loop
     μ-loop
     loop-holds
-    array-read-g
-    ahead-fault-requires
-    cast-unused-fault
-    unused-fault-requires
-    in-use-requires
-    first-requires
+    (λ c. search needs)
+    (λ c κs. search needs)
+    (λ c. search needs)
+    (λ c κs. search needs)
+    (λ c κs. search needs)
+    (λ c κs. search needs)
     add-j
     loop-less
     loop-again

@@ -19,39 +19,6 @@ abbrev μ-loop : tie.MeasureT-loop
 loop-holds : tie.Need-loop-holds Inv-loop μ-loop
 loop-holds c = first-start
 
-array-read-c : tie.Need-array-read-c Inv-loop μ-loop
-array-read-c c = search needs
-
-array-read-m : tie.Need-array-read-m Inv-loop μ-loop
-array-read-m c = search needs
-
-no-component-fault-requires : tie.Need-no-component-fault-requires Inv-loop μ-loop
-no-component-fault-requires c κs = search needs
-
-states-of-requires : tie.Need-states-of-requires Inv-loop μ-loop
-states-of-requires c κs = search needs
-
-mask-fault-requires : tie.Need-mask-fault-requires Inv-loop μ-loop
-mask-fault-requires c κs = search needs
-
-first-requires : tie.Need-first-requires Inv-loop μ-loop
-first-requires c κs = search needs
-
-cast-unused-fault : tie.Need-cast-unused-fault Inv-loop μ-loop
-cast-unused-fault c = search needs
-
-cast-unused-fault-2 : tie.Need-cast-unused-fault-2 Inv-loop μ-loop
-cast-unused-fault-2 c = search needs
-
-unused-fault-requires : tie.Need-unused-fault-requires Inv-loop μ-loop
-unused-fault-requires c κs = search needs
-
-in-use-requires : tie.Need-in-use-requires Inv-loop μ-loop
-in-use-requires c κs = search needs
-
-first-requires-2 : tie.Need-first-requires-2 Inv-loop μ-loop
-first-requires-2 c κs = search needs
-
 add-j : tie.Need-add-j Inv-loop μ-loop
 add-j c = omega arith
 
@@ -76,17 +43,17 @@ tests-fault-spec =
     Inv-loop
     μ-loop
     loop-holds
-    array-read-c
-    array-read-m
-    no-component-fault-requires
-    states-of-requires
-    mask-fault-requires
-    first-requires
-    cast-unused-fault
-    cast-unused-fault-2
-    unused-fault-requires
-    in-use-requires
-    first-requires-2
+    (λ c. search needs)
+    (λ c. search needs)
+    (λ c κs. search needs)
+    (λ c κs. search needs)
+    (λ c κs. search needs)
+    (λ c κs. search needs)
+    (λ c. search needs)
+    (λ c. search needs)
+    (λ c κs. search needs)
+    (λ c κs. search needs)
+    (λ c κs. search needs)
     add-j
     loop-less
     loop-again

@@ -22,33 +22,6 @@ loop-holds c = first-start
 mul-l : tie.Need-mul-l Inv-loop μ-loop
 mul-l c = omega arith
 
-array-copy-out-l : tie.Need-array-copy-out-l Inv-loop μ-loop
-array-copy-out-l c = search needs
-
-loss-gate-fault-requires : tie.Need-loss-gate-fault-requires Inv-loop μ-loop
-loss-gate-fault-requires c κs = search needs
-
-size-fault-requires : tie.Need-size-fault-requires Inv-loop μ-loop
-size-fault-requires c κs = search needs
-
-size-fault-requires-2 : tie.Need-size-fault-requires-2 Inv-loop μ-loop
-size-fault-requires-2 c κs = search needs
-
-first-of-three-requires : tie.Need-first-of-three-requires Inv-loop μ-loop
-first-of-three-requires c κs = search needs
-
-cast-unused-fault : tie.Need-cast-unused-fault Inv-loop μ-loop
-cast-unused-fault c = search needs
-
-unused-fault-requires : tie.Need-unused-fault-requires Inv-loop μ-loop
-unused-fault-requires c κs = search needs
-
-in-use-requires : tie.Need-in-use-requires Inv-loop μ-loop
-in-use-requires c κs = search needs
-
-first-requires : tie.Need-first-requires Inv-loop μ-loop
-first-requires c κs = search needs
-
 add-j : tie.Need-add-j Inv-loop μ-loop
 add-j c = omega arith
 
@@ -74,15 +47,15 @@ loads-fault-spec =
     μ-loop
     loop-holds
     mul-l
-    array-copy-out-l
-    loss-gate-fault-requires
-    size-fault-requires
-    size-fault-requires-2
-    first-of-three-requires
-    cast-unused-fault
-    unused-fault-requires
-    in-use-requires
-    first-requires
+    (λ c. search needs)
+    (λ c κs. search needs)
+    (λ c κs. search needs)
+    (λ c κs. search needs)
+    (λ c κs. search needs)
+    (λ c. search needs)
+    (λ c κs. search needs)
+    (λ c κs. search needs)
+    (λ c κs. search needs)
     add-j
     loop-less
     loop-again

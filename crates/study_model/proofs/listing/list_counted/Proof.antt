@@ -16,12 +16,6 @@ joint-states-requires c κs =
     rw (c .before .before .pre .1)
     (omega (arith, counts-few _ sound, components-most _ sound), λ k h. count-most _ sound k (omega (arith, h, counts-few _ sound)))
 
-cast-joint : tie.Need-cast-joint
-cast-joint c = search needs
-
-class-table-requires : tie.Need-class-table-requires
-class-table-requires c κs = search needs
-
 array-share-prefix-table : tie.Need-array-share-prefix-table
 array-share-prefix-table c =
     let pre = c .before .before .before .before .pre in
@@ -40,9 +34,6 @@ list-lent-requires c κs =
     let pre = table .before .before .before .before .pre in
     block-listable (pre .0) (pre .1) (table .before .joint-states .ensures) (table .class-table .ensures)
 
-same-length : tie.Need-same-length
-same-length c = search needs
-
 returns : tie.Need-returns
 returns c =
     let table = c .before .before .before .before .before in
@@ -54,10 +45,10 @@ list-counted-spec =
     tie.close
     (tie.spec
     joint-states-requires
-    cast-joint
-    class-table-requires
+    (λ c. search needs)
+    (λ c κs. search needs)
     array-share-prefix-table
     slice-aggregate-list-lent
     list-lent-requires
-    same-length
+    (λ c. search needs)
     returns)

@@ -9,12 +9,6 @@ use borrow.Author.Needs.{needs}
 use Rattle.study_model.proofs.listing.list_lent.Statement.{statement}
 use Rattle.study_model.proofs.listing.list_lent.Tie as tie
 
-cast-n : tie.Need-cast-n
-cast-n c = search needs
-
-state-counts-requires : tie.Need-state-counts-requires
-state-counts-requires c κs = search needs
-
 array-share-prefix-all : tie.Need-array-share-prefix-all
 array-share-prefix-all c =
     let twelve : length (c .state-counts .result) ≡ mostComponents = search needs in
@@ -31,20 +25,14 @@ list-counted-requires c κs =
     let start = counts .before .before .before .before in
     (start .pre, ap (take (start .args .t .components)) (counts .state-counts .ensures))
 
-same-length : tie.Need-same-length
-same-length c = search needs
-
-returns : tie.Need-returns
-returns c = search needs
-
 pub list-lent-spec : {M : Type 1} → statement M
 list-lent-spec =
     tie.close
     (tie.spec
-    cast-n
-    state-counts-requires
+    (λ c. search needs)
+    (λ c κs. search needs)
     array-share-prefix-all
     slice-aggregate-list-counted
     list-counted-requires
-    same-length
-    returns)
+    (λ c. search needs)
+    (λ c. search needs))

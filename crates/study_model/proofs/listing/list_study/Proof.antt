@@ -6,26 +6,11 @@ use borrow.Author.Needs.{needs}
 use Rattle.study_model.proofs.listing.list_study.Statement.{statement}
 use Rattle.study_model.proofs.listing.list_study.Tie as tie
 
-list-lent-requires : tie.Need-list-lent-requires
-list-lent-requires c κs = search needs
-
-enum-known-listing : tie.Need-enum-known-listing
-enum-known-listing c = search needs
-
-enum-told : tie.Need-enum-told
-enum-told c = search needs
-
-same-length : tie.Need-same-length
-same-length c = search needs
-
 returns : tie.Need-returns
 returns c =
     let listing = c .before .before .before .before .before in
     let start = listing .before .before .before in
     list-held _ (sound-good _ (start .pre .0)) (now (start .args .list)) (start .pre .1) (listing .list-lent .ensures .0) (listing .list-lent .ensures .1) (c .before .listing .given .1)
-
-same-length-2 : tie.Need-same-length-2
-same-length-2 c = search needs
 
 returns-2 : tie.Need-returns-2
 returns-2 c =
@@ -37,10 +22,10 @@ pub list-study-spec : {M : Type 1} → statement M
 list-study-spec =
     tie.close
     (tie.spec
-    list-lent-requires
-    enum-known-listing
-    enum-told
-    same-length
+    (λ c κs. search needs)
+    (λ c. search needs)
+    (λ c. search needs)
+    (λ c. search needs)
     returns
-    same-length-2
+    (λ c. search needs)
     returns-2)

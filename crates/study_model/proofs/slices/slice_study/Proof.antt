@@ -12,12 +12,6 @@ use Rattle.study_model.proofs.slices.slice_study.Tie as tie
 probability-table-requires : tie.Need-probability-table-requires
 probability-table-requires c κs = probabilities-sum _ (c .before .before .pre .0)
 
-list-study-requires : tie.Need-list-study-requires
-list-study-requires c κs = search needs
-
-same-length : tie.Need-same-length
-same-length c = search needs
-
 returns : tie.Need-returns
 returns c =
     let table = c .before .before .before .before in
@@ -27,4 +21,4 @@ returns c =
 
 pub slice-study-spec : {M : Type 1} → statement M
 slice-study-spec =
-    tie.close (tie.spec probability-table-requires list-study-requires same-length returns)
+    tie.close (tie.spec probability-table-requires (λ c κs. search needs) (λ c. search needs) returns)
