@@ -39,7 +39,7 @@ fn main() {
         timing::BATCHES
     );
     println!(
-        "The lent buffer is not cleared between calls; each call clears the pages it works on."
+        "The lent buffer is not cleared between calls; each call clears the buffers it works on."
     );
     print_head("Studies");
     inputs::studies().iter().for_each(print_row);
