@@ -1,21 +1,25 @@
 -- The three edits of a study: the first breach refuses, and hands the study back as it was; otherwise one field is anew and nothing else.
 use Prim.Native.Nat.{ℕ}
-use mathlib.Core.Bool.{cond}
 use mathlib.Core.List.{[], _∷_}
-use lib.Dec.{eqb}
 use Rattle.rules.specs.Breach.{firstBreach}
 use Rattle.rules.specs.Limits.{mostCustomers, mostMinutes}
 use Rattle.rules.specs.Table.{unsoundFault, itemFault, sizeFault}
 use Rattle.study.specs.declared.Study.{Study}
+use Rattle.answers.specs.Answered.{answered}
 use Rattle.answers.specs.declared.outcome.Outcome.the-variants.{Done, Refused}
 use Rattle.answers.specs.declared.outcome.StudyAnswer.{StudyAnswer}
 use Rattle.study.specs.Edits.{withProbabilities, withCustomers, withMinutes, withComponent, withLoad}
 use Rattle.study.specs.Places.{componentAt, loadAt}
 use Rattle.soundness.specs.Check.{sound, probabilitiesFault}
 
+-- a refused edit hands the study back as it was
+abbrev pub refusedEdit : Study → ℕ → StudyAnswer
+refusedEdit old n = record { outcome = Refused n; study = old }
+
 -- done with the new study, or refused with the old one
 unfoldable pub edited : ℕ → Study → Study → StudyAnswer
-edited breach old new = cond (eqb breach 0) (record { outcome = Done; study = new }) (record { outcome = Refused breach; study = old })
+unfolding answered
+edited breach old new = answered (refusedEdit old) breach (record { outcome = Done; study = new })
 
 -- 16, then 17, then 5 for a probability above 0 of a state that the component lacks, then 6
 unfoldable pub componentEditFault : Study → ℕ → ℕ → ℕ → ℕ → ℕ

@@ -1,37 +1,18 @@
--- Laws of entries in a list: where each stands, how long it is, what class it bears, and that entries put at the front of a buffer stand there.
+-- Laws of entries in a list: where each stands, how long it is, that its class is one, and that entries put at the front of a buffer stand there.
 use Prim.Native.Nat.{ℕ, suc, _+_, _*_, _<_, _≤_}
 use mathlib.Core.Path.{_≡_, refl, sym, ap, _∙_}
-use mathlib.Core.List.{List, [], _∷_}
+use mathlib.Core.List.{List, []}
 use native.Mathlib.Nat.{mul-le-mul-right}
 use native.Mathlib.Omega.{arith}
-use lib.ListN.{length, getD, take, drop, length-drop, length-append}
-use lib.Seq.{length-take-le, take-append-le, drop-append-le, getD-at, getD-take, getD-drop}
+use lib.ListN.{length, getD, take, drop, length-drop}
+use lib.Seq.{length-take-le, take-append-le, drop-append-le, getD-take, getD-drop}
 use Rattle.lists.specs.Rows.{put, joined}
 use Rattle.lists.proofs.Elements.{Every}
 use Rattle.lists.proofs.Joined.{joined-long}
 use Rattle.lists.proofs.Rows.{row-at}
 use Rattle.lists.proofs.Tabulated.{length-tabulate, getD-tabulate, tabulated}
-use Rattle.entries.specs.Entries.{classPlaces, classCode, byteValues, entryBytes, entry, classBorne, entryAt, entriesOf}
+use Rattle.entries.specs.Entries.{classPlaces, byteValues, entryBytes, classBorne, entryAt, entriesOf}
 use Rattle.entries.specs.Lists.{EntryIn, PathList}
-
--- ---- one entry
-
-pub length-entry : (marks : List ℕ) (class : ℕ) → length (entry marks class) ≡ entryBytes (length marks)
-unfolding entry
-length-entry marks class = length-append marks (classCode class)
-
-pub entry-bears : (marks : List ℕ) (class : ℕ) → classBorne (length marks) (entry marks class) ≡ class
-unfolding entry classBorne
-entry-bears marks class = getD-at marks class [] 0 (length marks) refl
-
--- a mark in front of an entry is one component more
-pub bears-later : (n m : ℕ) (e : List ℕ) → classBorne (suc n) (m ∷ e) ≡ classBorne n e
-unfolding classBorne
-bears-later n m e = refl
-
-pub entry-later : (m : ℕ) (marks : List ℕ) (class : ℕ) → entry (m ∷ marks) class ≡ m ∷ entry marks class
-unfolding entry
-entry-later m marks class = refl
 
 -- ---- the entries of a list
 

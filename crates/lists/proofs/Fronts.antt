@@ -3,16 +3,11 @@ use Prim.Native.Nat.{ℕ, _+_, _-_, _<_, _≤_}
 use mathlib.Core.Path.{_≡_, ap, _∙_}
 use mathlib.Core.List.{List, _++_}
 use native.Mathlib.Omega.{arith}
-use lib.ListN.{length, getD, take, drop, List·getD-append}
-use lib.Seq.{take-at, drop-at, getD-append-add, getD-drop}
+use lib.ListN.{length, getD, drop, List·getD-append}
+use lib.Seq.{drop-at, getD-append-add, getD-drop}
 use Rattle.lists.specs.Rows.{put}
 
--- it stands there
-pub put-front : (d x : List ℕ) (n : ℕ) → length x ≡ n → take n (put d 0 x) ≡ x
-unfolding put
-put-front d x n long = take-at x (drop (0 + length x) d) n long
-
--- and what stands behind it is as it was
+-- what stands behind it is as it was
 pub put-behind : (d x : List ℕ) (k : ℕ) → length x ≤ k → getD (put d 0 x) k 0 ≡ getD d k 0
 unfolding put
 put-behind d x k h =

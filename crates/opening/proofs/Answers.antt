@@ -6,12 +6,13 @@ use borrow.Author.Tests.{eq-eqb, ne-eqb}
 use lib.ListN.{drop}
 use Rattle.reading.specs.Reader.{Read, Reader, Reads, andThen, asRead}
 use Rattle.study.specs.declared.Study.{Study}
+use Rattle.answers.specs.Answered.{answered}
 use Rattle.opening.specs.Opening.{answer, refusedOpening}
 
 -- a reading that is refused is the whole answer
 pub answer-refused : {A : Type 0} {s : List ℕ} {p n : ℕ} {v : A} {r : Read A} (f : A → Reader Study) → Reads s p n v r → (p ≡ 0 → ⊥)
     → refusedOpening p ≡ answer (andThen r f)
-unfolding asRead answer
+unfolding asRead answer answered
 answer-refused {p = p} f here some = ap (λ (r : Read _). answer (andThen r f)) (rw (ne-eqb p 0 some) at (here .same))
 
 -- a reading that is not refused goes on

@@ -20,6 +20,7 @@ use Rattle.reading.proofs.Local.{local-repeat, local-fields}
 use Rattle.component_record.specs.Component.{stateCount, probability, componentField, component}
 use Rattle.gate_record.specs.Gate.{threshold, inputsByte, test, tests, input, inputs, gateField, gate}
 use Rattle.load_record.specs.Load.{lossGate, size, customers, minutes, loadField, load}
+use Rattle.answers.specs.Answered.{answered}
 use Rattle.opening.specs.Opening.{count, componentAfter, componentRecord, gateRecord, loadRecord, placing, records, study, refusedOpening, answer, opened}
 use Rattle.study.specs.declared.Component.{Component}
 use Rattle.study.specs.declared.Gate.{Gate}
@@ -117,15 +118,15 @@ local-study =
 -- ---- what opening answers to a reading
 
 is-refused : (n : ℕ) → answer (refused n) .outcome ≡ Refused n
-unfolding answer refusedOpening
+unfolding answer refusedOpening answered
 is-refused n = refl
 
 ends : (t : Study) → answer (got t []) .outcome ≡ Done
-unfolding answer refuse
+unfolding answer refuse answered
 ends t = refl
 
 left : (t : Study) (b : ℕ) (rest : List ℕ) → answer (got t (b ∷ rest)) .outcome ≡ Refused 15
-unfolding answer refuse refusedOpening
+unfolding answer refuse refusedOpening answered
 left t b rest = rw (lt-ltb 0 (suc (length rest)) (zero-lt-suc (length rest)))
 
 not-both : (n : ℕ) → Done ≡ Refused n → ⊥

@@ -1,8 +1,6 @@
 -- Opening a study: the three counts, then the component, gate and load records, then the end of the bytes.
 use Prim.Native.Nat.{ℕ, _*_, _≤_}
-use mathlib.Core.Bool.{cond}
 use mathlib.Core.List.{List}
-use lib.Dec.{eqb}
 use lib.ListN.{length, take, set}
 use Rattle.lists.specs.Product.{product}
 use Rattle.rules.specs.Limits.{mostComponents, mostGates, mostLoads}
@@ -15,6 +13,7 @@ use Rattle.study.specs.declared.Component.{Component}
 use Rattle.study.specs.declared.Gate.{Gate}
 use Rattle.study.specs.declared.Load.{Load}
 use Rattle.study.specs.declared.Study.{Study}
+use Rattle.answers.specs.Answered.{answered}
 use Rattle.answers.specs.declared.outcome.Outcome.the-variants.{Done, Refused}
 use Rattle.answers.specs.declared.outcome.StudyAnswer.{StudyAnswer}
 use Rattle.study.specs.Joint.{states}
@@ -79,9 +78,9 @@ refusedOpening n = record { outcome = Refused n; study = zeroStudy }
 
 -- the answer to a reading; the end is judged last
 unfoldable pub answer : Read Study → StudyAnswer
+unfolding answered
 answer (refused n) = refusedOpening n
-answer (got t rest) =
-    cond (eqb (leftFault (length rest)) 0) (record { outcome = Done; study = t }) (refusedOpening (leftFault (length rest)))
+answer (got t rest) = answered refusedOpening (leftFault (length rest)) (record { outcome = Done; study = t })
 
 -- what opening answers
 unfoldable pub opened : List ℕ → StudyAnswer

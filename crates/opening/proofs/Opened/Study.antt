@@ -15,6 +15,7 @@ use Rattle.rules.specs.Table.{countFault, widthFault, leftFault}
 use Rattle.rules.proofs.Kept.{range-kept}
 use Rattle.reading.specs.Reader.{Read, Reader, refused, got, byte, repeat}
 use Rattle.reading.proofs.Held.{Held, Gives, gives-then, gives-judge, gives-judged, gives-return, gives-repeat}
+use Rattle.answers.specs.Answered.{answered}
 use Rattle.opening.specs.Opening.{count, componentAfter, componentRecord, gateRecord, loadRecord, placing, records, study, refusedOpening, answer, opened}
 use Rattle.opening.proofs.Places.{joint-placed}
 use Rattle.study.specs.declared.Component.{Component}
@@ -154,7 +155,7 @@ refused-done : (n : ℕ) → Refused n ≡ Done → ⊥
 refused-done n e = let z : _≡_ {A = ℕ} 0 1 = cc in omega arith
 
 answer-sound : (r : Read Study) → Held Sound r → answer r .outcome ≡ Done → Sound (answer r .study)
-unfolding answer refusedOpening
+unfolding answer refusedOpening answered
 answer-sound (refused n) h e = absurd (refused-done n e)
 answer-sound (got t rest) h e = go (eqb (leftFault (length rest)) 0) e
   where

@@ -4,18 +4,19 @@ use lib.ListN.{length-drop}
 use borrow.Author.Tests.{eq-eqb, ne-eqb}
 use Rattle.rules.specs.Table.{leftFault}
 use Rattle.reading.proofs.Calls.{asks-nothing}
+use Rattle.answers.specs.Answered.{answered}
 use Rattle.opening.specs.Opening.{answer}
 use Rattle.opening.proofs.ended.Statement.{statement}
 use Rattle.opening.proofs.ended.Tie as tie
 
 returns : tie.Need-returns
-unfolding answer
+unfolding answer answered
 returns c =
     let rule = c .before .before .left-fault .ensures ∙ ap leftFault (c .before .before .before .bytes-left .ensures) in
     rw (length-drop, ← rule, ne-eqb _ _ (c .before .if1 .taken)) (c .refused-opening .ensures)
 
 returns-2 : tie.Need-returns-2
-unfolding answer
+unfolding answer answered
 returns-2 c =
     let rule = c .before .left-fault .ensures ∙ ap leftFault (c .before .before .bytes-left .ensures) in
     rw (length-drop, ← rule, eq-eqb _ _ (c .if1 .left))
