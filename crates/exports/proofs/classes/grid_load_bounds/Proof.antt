@@ -17,16 +17,9 @@ start c = c .before .before .before
 bounded : (c : tie.After-load-bounds) → c .load-bounds .result ≡ loadBounded (studyIn (start c .args .study .now)) (start c .args .load)
 bounded c = rw (c .before .read-image .ensures) at (c .load-bounds .ensures)
 
--- the same answer is left in the two numbers
-module _ (c : tie.After-load-bounds) {a b : BoundsAnswer} (same : a ≡ b) where
-  abbrev low : BoundsAnswer → ℕ
-  low x = lowerOfLoss x (start c .args .lower .now)
-
-  abbrev high : BoundsAnswer → ℕ
-  high x = upperOfLoss x (start c .args .upper .now)
-
-  left-in : (low a ≡ low b) × (high a ≡ high b)
-  left-in = (ap low same, ap high same)
+-- the same answer leaves the same two numbers
+left-in : {a b : BoundsAnswer} (lower upper : ℕ) → a ≡ b → (lowerOfLoss a lower ≡ lowerOfLoss b lower) × (upperOfLoss a upper ≡ upperOfLoss b upper)
+left-in lower upper same = (ap (λ (a : BoundsAnswer). lowerOfLoss a lower) same, ap (λ (a : BoundsAnswer). upperOfLoss a upper) same)
 
 read-image-requires : tie.Need-read-image-requires
 read-image-requires c κs = search needs
@@ -47,13 +40,14 @@ returns : tie.Need-returns
 returns c =
     let asked = c .before .before .before in
     let answer = sym (c .before .answer .given .1) ∙ bounded asked in
-    (ap lossAnswered answer, left-in asked answer)
+    (ap lossAnswered answer, left-in (start asked .args .lower .now) (start asked .args .upper .now) answer)
 
 returns-2 : tie.Need-returns-2
 returns-2 c =
     let asked = c .before .before .before .before in
     let answer = sym (c .before .before .answer2 .given .1) ∙ bounded asked in
-    (handed _ _ (c .refused .ok) (c .refused .ensures ∙ ap lossAnswered answer), left-in asked answer)
+    let answered = handed _ _ (c .refused .ok) (c .refused .ensures ∙ ap lossAnswered answer) in
+    (answered, left-in (start asked .args .lower .now) (start asked .args .upper .now) answer)
 
 pub grid-load-bounds-spec : {M : Type 1} → statement M
 grid-load-bounds-spec =

@@ -5,7 +5,6 @@ use native.Mathlib.Omega.{arith}
 use Rattle.text.specs.Letters.{letters}
 use Rattle.text.specs.Lines.{boundsLine}
 use Rattle.text.proofs.Pieces.{Pieces, pieces-start, pieces-room, pieces-more, pieces-done}
-use Rattle.answers.specs.declared.bounds.Enclosure.{Enclosure}
 use Rattle.report_lines.specs.Figures.{caidiLine, allFigures}
 use borrow.Author.Needs.{needs}
 use Rattle.report_lines.proofs.figure_text.all_figures.Statement.{statement}
@@ -19,14 +18,13 @@ start c =
 abbrev first : tie.After-bounds-line2 → tie.After-bounds-line
 first c = c .before .before .before .before .before
 
-abbrev row : List ℕ → Enclosure → List ℕ
-row name pair = boundsLine name (pair .lower) (pair .upper)
-
 -- the lines below k are written
 abbrev Written : tie.Start → ℕ → List ℕ → ℕ → Type 0
 Written s k d p =
     let f = s .args .f in
-    Pieces (row (letters "SAIFI") (f .saifi) ∷ row (letters "SAIDI") (f .saidi) ∷ caidiLine (f .caidi) ∷ []) (s .args .out .now) (s .args .at) k d p
+    let saifi = boundsLine (letters "SAIFI") (f .saifi .lower) (f .saifi .upper) in
+    let saidi = boundsLine (letters "SAIDI") (f .saidi .lower) (f .saidi .upper) in
+    Pieces (saifi ∷ saidi ∷ caidiLine (f .caidi) ∷ []) (s .args .out .now) (s .args .at) k d p
 
 one : (c : tie.After-bounds-line) → Written (start c) 1 (c .bounds-line .last .0) (c .bounds-line .result)
 unfolding allFigures

@@ -41,8 +41,8 @@ returns c =
     let written = c .before .before in
     let classed = written .before .before in
     let bounded = classed .before in
-    let lower = bounded .before .path-bound .ensures .is in
-    rw (sym lower, sym (bounded .path-bound2 .ensures .is), sym (classed .class-of .ensures)) (written .entry-line .ensures)
+    rw (sym (bounded .before .path-bound .ensures .is), sym (bounded .path-bound2 .ensures .is), sym (classed .class-of .ensures))
+    (written .entry-line .ensures)
 
 pub path-line-spec : {M : Type 1} → statement M
 path-line-spec =
