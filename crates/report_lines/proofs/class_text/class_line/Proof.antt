@@ -6,7 +6,6 @@ use Rattle.report_lines.specs.Classes.{classLine}
 use borrow.Author.Needs.{needs}
 use Rattle.report_lines.proofs.class_text.class_line.Statement.{statement}
 use Rattle.report_lines.proofs.class_text.class_line.Tie as tie
-use Rattle.text.proofs.item_line.Reads as item-line-reads
 
 returns : tie.Need-returns
 unfolding classLine

@@ -9,7 +9,6 @@ use Rattle.report_lines.specs.Classes.{classLine, classLines}
 use borrow.Author.Needs.{needs}
 use Rattle.report_lines.proofs.class_text.class_lines.Statement.{statement}
 use Rattle.report_lines.proofs.class_text.class_lines.Tie as tie
-use Rattle.report_lines.proofs.class_text.class_line.Reads as class-line-reads
 
 -- the line of class c, from tables by class
 abbrev line : List ℕ → List ℕ → List ℕ → ℕ → List ℕ

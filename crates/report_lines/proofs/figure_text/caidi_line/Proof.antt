@@ -3,8 +3,6 @@ use Rattle.report_lines.specs.Figures.{caidiLine}
 use borrow.Author.Needs.{needs}
 use Rattle.report_lines.proofs.figure_text.caidi_line.Statement.{statement}
 use Rattle.report_lines.proofs.figure_text.caidi_line.Tie as tie
-use Rattle.text.proofs.copy.Reads as copy-reads
-use Rattle.text.proofs.bounds_line.Reads as bounds-line-reads
 
 bounds-line-requires : tie.Need-bounds-line-requires
 unfolding caidiLine

@@ -3,8 +3,6 @@ use Rattle.report_lines.specs.Figures.{figureLines}
 use borrow.Author.Needs.{needs}
 use Rattle.report_lines.proofs.figure_text.figure_lines.Statement.{statement}
 use Rattle.report_lines.proofs.figure_text.figure_lines.Tie as tie
-use Rattle.report_lines.proofs.figure_text.all_figures.Reads as all-figures-reads
-use Rattle.text.proofs.number_line.Reads as number-line-reads
 
 all-figures-requires : tie.Need-all-figures-requires
 unfolding figureLines

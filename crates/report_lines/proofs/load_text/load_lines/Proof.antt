@@ -6,7 +6,6 @@ use Rattle.report_lines.specs.Loads.{loadLine, loadLines}
 use borrow.Author.Needs.{needs}
 use Rattle.report_lines.proofs.load_text.load_lines.Statement.{statement}
 use Rattle.report_lines.proofs.load_text.load_lines.Tie as tie
-use Rattle.report_lines.proofs.load_text.load_line.Reads as load-line-reads
 
 abbrev Inv-loop : tie.InvT-loop
 Inv-loop out₀ at lower upper loads number place₀ j₀ out place j = Tabled (loadLine lower upper) loads out₀ at j out place

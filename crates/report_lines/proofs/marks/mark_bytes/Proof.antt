@@ -8,7 +8,6 @@ use Rattle.report_lines.proofs.Marked.{marks-long, mark-is}
 use borrow.Author.Needs.{needs}
 use Rattle.report_lines.proofs.marks.mark_bytes.Statement.{statement}
 use Rattle.report_lines.proofs.marks.mark_bytes.Tie as tie
-use Rattle.report_lines.proofs.marks.mark_byte.Reads as mark-byte-reads
 
 abbrev Inv-loop : tie.InvT-loop
 Inv-loop out₀ at n entry place₀ i₀ out place i = Writing (markBytes n entry) out₀ at i out place

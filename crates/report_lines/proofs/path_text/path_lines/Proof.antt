@@ -7,8 +7,6 @@ use Rattle.report_lines.proofs.Listed.{lineAt, lines-at}
 use borrow.Author.Needs.{needs}
 use Rattle.report_lines.proofs.path_text.path_lines.Statement.{statement}
 use Rattle.report_lines.proofs.path_text.path_lines.Tie as tie
-use Rattle.entries.proofs.entry_at.Reads as entry-at-reads
-use Rattle.report_lines.proofs.path_text.path_line.Reads as path-line-reads
 
 abbrev Inv-loop : tie.InvT-loop
 Inv-loop out₀ at probabilities n list paths place₀ k₀ out place k = Tabled (lineAt probabilities n list) paths out₀ at k out place
