@@ -16,6 +16,7 @@ use Rattle.reading.specs.Reader.{byte, word}
 use Rattle.component_record.specs.Component.{stateCount, probability, componentField, component}
 use Rattle.gate_record.specs.Gate.{threshold, inputsByte, test, tests, gateField, gate}
 use Rattle.load_record.specs.Load.{lossGate, size, customers, minutes, loadField, load}
+use Rattle.answers.specs.Answered.{answered}
 use Rattle.opening.specs.Opening.{count, componentAfter, componentRecord, records, study, refusedOpening, answer, opened}
 use Rattle.entries.specs.Entries.{classBorne}
 use Rattle.model.specs.Model.{pathsOf, probabilityTable}
@@ -34,7 +35,7 @@ unfolding each refuse outside byte word mapByte
     stateCount probability componentField component
     threshold inputsByte test tests gateField gate
     lossGate size customers minutes loadField load
-    count componentAfter componentRecord records study answer opened
+    count componentAfter componentRecord records study answered answer opened
     absentGate zeroStudy
     modelOf pathsOf probabilityTable total classBorne tabulate figuresBy quotientDown quotientUp
     sumOver joined field numberLine boundsEnd boundsLine itemLine decimalWithin decimal
@@ -45,6 +46,6 @@ case-a = refl
 pub over-one : OverOne
 unfolding each refuse outside byte word mapByte
     stateCount probability componentField component
-    count componentAfter componentRecord records study refusedOpening answer opened
+    count componentAfter componentRecord records study refusedOpening answered answer opened
     joined field decimalWithin decimal refusalWords refusalWord refusedText textBy reportText
 over-one = refl

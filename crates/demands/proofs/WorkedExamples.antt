@@ -15,6 +15,7 @@ use Rattle.reading.specs.Reader.{byte, word}
 use Rattle.component_record.specs.Component.{stateCount, probability, componentField, component}
 use Rattle.gate_record.specs.Gate.{threshold, inputsByte, test, tests, gateField, gate}
 use Rattle.load_record.specs.Load.{lossGate, size, customers, minutes, loadField, load}
+use Rattle.answers.specs.Answered.{answered}
 use Rattle.opening.specs.Opening.{count, componentAfter, componentRecord, records, study, answer, opened}
 use Rattle.study_model.specs.Model.{modelOf}
 use Rattle.evaluation.specs.Figures.{figuresBy}
@@ -25,7 +26,7 @@ unfolding each refuse outside byte word mapByte
     stateCount probability componentField component
     threshold inputsByte test tests gateField gate
     lossGate size customers minutes loadField load
-    count componentAfter componentRecord records study answer opened
+    count componentAfter componentRecord records study answered answer opened
     absentGate zeroStudy votes opens
     modelOf pathsOf probabilityTable pathBounds total classBorne tabulate figuresBy quotientDown quotientUp
 worked-examples =

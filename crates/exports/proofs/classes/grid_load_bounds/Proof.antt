@@ -21,21 +21,6 @@ bounded c = rw (c .before .read-image .ensures) at (c .load-bounds .ensures)
 left-in : {a b : BoundsAnswer} (lower upper : ℕ) → a ≡ b → (lowerOfLoss a lower ≡ lowerOfLoss b lower) × (upperOfLoss a upper ≡ upperOfLoss b upper)
 left-in lower upper same = (ap (λ (a : BoundsAnswer). lowerOfLoss a lower) same, ap (λ (a : BoundsAnswer). upperOfLoss a upper) same)
 
-read-image-requires : tie.Need-read-image-requires
-read-image-requires c κs = search needs
-
-load-bounds-requires : tie.Need-load-bounds-requires
-load-bounds-requires c κs = search needs
-
-enum-known-answer : tie.Need-enum-known-answer
-enum-known-answer c = search needs
-
-enum-known-answer-2 : tie.Need-enum-known-answer-2
-enum-known-answer-2 c = search needs
-
-refused-requires : tie.Need-refused-requires
-refused-requires c κs = search needs
-
 returns : tie.Need-returns
 returns c =
     let asked = c .before .before .before in
@@ -53,10 +38,10 @@ pub grid-load-bounds-spec : {M : Type 1} → statement M
 grid-load-bounds-spec =
     tie.close
     (tie.spec
-    read-image-requires
-    load-bounds-requires
-    enum-known-answer
-    enum-known-answer-2
-    refused-requires
+    (λ c κs. search needs)
+    (λ c κs. search needs)
+    (λ c. search needs)
+    (λ c. search needs)
+    (λ c κs. search needs)
     returns
     returns-2)

@@ -33,24 +33,15 @@ one c = pieces-more (pieces-start _ (start c .pre)) (omega arith) (c .bounds-lin
 two : (c : tie.After-bounds-line2) → Written (start (first c)) 2 (c .bounds-line2 .last .0) (c .bounds-line2 .result)
 two c = pieces-more (one (first c)) (omega arith) (c .bounds-line2 .ensures)
 
-slice-aggregate-bounds-line : tie.Need-slice-aggregate-bounds-line
-slice-aggregate-bounds-line c = search needs
-
 bounds-line-requires : tie.Need-bounds-line-requires
 unfolding allFigures
 bounds-line-requires c κs = pieces-room (pieces-start _ (c .before .before .before .before .before .pre)) (omega arith)
-
-slice-aggregate-bounds-line-2 : tie.Need-slice-aggregate-bounds-line-2
-slice-aggregate-bounds-line-2 c = search needs
 
 bounds-line-requires-2 : tie.Need-bounds-line-requires-2
 bounds-line-requires-2 c κs = pieces-room (one (c .before .before .before .before)) (omega arith)
 
 caidi-line-requires : tie.Need-caidi-line-requires
 caidi-line-requires c κs = pieces-room (two (c .before .before .before)) (omega arith)
-
-same-length : tie.Need-same-length
-same-length c = search needs
 
 returns : tie.Need-returns
 unfolding allFigures
@@ -63,10 +54,10 @@ pub all-figures-spec : {M : Type 1} → statement M
 all-figures-spec =
     tie.close
     (tie.spec
-    slice-aggregate-bounds-line
+    (λ c. search needs)
     bounds-line-requires
-    slice-aggregate-bounds-line-2
+    (λ c. search needs)
     bounds-line-requires-2
     caidi-line-requires
-    same-length
+    (λ c. search needs)
     returns)

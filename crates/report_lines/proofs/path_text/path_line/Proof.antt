@@ -16,12 +16,6 @@ path-bound-requires-2 c κs =
     let pre = c .before .before .before .before .pre in
     (omega arith, (pre .0, (pre .1 .0, omega (arith, pre .1 .1 .0))))
 
-class-of-requires : tie.Need-class-of-requires
-class-of-requires c κs = search needs
-
-cast-class : tie.Need-cast-class
-cast-class c = search needs
-
 entry-line-requires : tie.Need-entry-line-requires
 unfolding pathLine
 entry-line-requires c κs =
@@ -31,9 +25,6 @@ entry-line-requires c κs =
       omega (arith, pre .1 .1 .0),
       rw (bounded .before .path-bound .ensures .is, bounded .path-bound2 .ensures .is, classed .class-of .ensures) (pre .1 .1 .1),
     )
-
-same-length : tie.Need-same-length
-same-length c = search needs
 
 returns : tie.Need-returns
 unfolding pathLine
@@ -50,8 +41,8 @@ path-line-spec =
     (tie.spec
     path-bound-requires
     path-bound-requires-2
-    class-of-requires
-    cast-class
+    (λ c κs. search needs)
+    (λ c. search needs)
     entry-line-requires
-    same-length
+    (λ c. search needs)
     returns)
