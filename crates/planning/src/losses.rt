@@ -8,7 +8,7 @@ use study_model::slice_study;
 ghost use Rattle.soundness.specs.Sound.{Sound};
 ghost use Rattle.planning.specs.Losses.{StudyLosses};
 
-pub fn study_losses(t: Study) -> Losses
+pub(crate) fn study_losses(t: Study) -> Losses
     requires { ⌜ Sound t ⌝ }
     ensures { λ r. ⌜ StudyLosses t (r .lower) (r .upper) ⌝ }
 {
