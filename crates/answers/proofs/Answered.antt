@@ -1,6 +1,6 @@
--- Laws of answers and lent slices by a breach: without one the result, with one the refusal; and the number that an answer tells is the breach.
+-- Laws of answers and lent slices by a breach: without one the result, with one the refusal; and what an answer tells is the breach, or the values.
 use Prim.Native.Nat.{ℕ, _≤_}
-use mathlib.Core.Path.{_≡_, refl, sym, _∙_}
+use mathlib.Core.Path.{_≡_, refl, sym, ap, _∙_}
 use mathlib.Core.Bool.{Bool, true, false, cond}
 use mathlib.Core.List.{List}
 use lib.Dec.{eqb}
@@ -9,24 +9,44 @@ use borrow.Author.Tests.{eq-eqb, ne-eqb, eqb-true}
 use Rattle.lists.specs.Rows.{put}
 use Rattle.lists.proofs.Fronts.{put-behind}
 use Rattle.answers.specs.Answered.{answered, filled}
+use Rattle.answers.specs.Told.{Told, result, refusal, numberTold, tells}
 
-module _ {A : Type 0} (refusal : ℕ → A) (breach : ℕ) (result : A) where
-  pub answered-done : breach ≡ 0 → answered refusal breach result ≡ result
+module _ {A : Type 0} (refused : ℕ → A) (breach : ℕ) (done : A) where
+  pub answered-done : breach ≡ 0 → answered refused breach done ≡ done
   unfolding answered
   answered-done none = rw (eq-eqb breach 0 none) refl
 
-  pub answered-refused : (breach ≡ 0 → ⊥) → answered refusal breach result ≡ refusal breach
+  pub answered-refused : (breach ≡ 0 → ⊥) → answered refused breach done ≡ refused breach
   unfolding answered
   answered-refused some = rw (ne-eqb breach 0 some) refl
 
-  -- where a result tells 0 and a refusal its number, an answer tells the breach
-  pub answered-number : (number : A → ℕ) → ((n : ℕ) → number (refusal n) ≡ n) → number result ≡ 0 → number (answered refusal breach result) ≡ breach
-  unfolding answered
-  answered-number number refused done = go (eqb breach 0) refl
+  -- an answer tells what its breach and its values say
+  pub answered-tells : (told : A → Told) (values : List ℕ) → ((n : ℕ) → told (refused n) ≡ refusal n) → told done ≡ result values
+      → told (answered refused breach done) ≡ tells breach values
+  unfolding answered tells
+  answered-tells told values is-refused is-done = go (eqb breach 0)
     where
-      go : (b : Bool) → eqb breach 0 ≡ b → number (cond b result (refusal breach)) ≡ breach
-      go true none = done ∙ sym (eqb-true breach 0 none)
-      go false some = refused breach
+      go : (b : Bool) → told (cond b done (refused breach)) ≡ cond b (result values) (refusal breach)
+      go true = is-done
+      go false = is-refused breach
+
+module _ (breach : ℕ) (values : List ℕ) where
+  -- the number that it tells is the breach
+  pub tells-number : numberTold (tells breach values) ≡ breach
+  unfolding tells answered
+  tells-number = go (eqb breach 0) refl
+    where
+      go : (b : Bool) → eqb breach 0 ≡ b → numberTold (cond b (result values) (refusal breach)) ≡ breach
+      go true none = sym (eqb-true breach 0 none)
+      go false some = refl
+
+  -- a result is told only where there is no breach
+  pub tells-none : (others : List ℕ) → tells breach values ≡ result others → breach ≡ 0
+  tells-none others told = sym tells-number ∙ ap numberTold told
+
+  pub tells-values : (others : List ℕ) → tells breach values ≡ result others → values ≡ others
+  unfolding tells
+  tells-values others told = cc (answered-done refusal breach (result values) (tells-none others told))
 
 module _ (breach : ℕ) (values slice : List ℕ) where
   pub filled-done : breach ≡ 0 → filled breach values slice ≡ put slice 0 values
