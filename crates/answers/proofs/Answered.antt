@@ -1,13 +1,14 @@
 -- Laws of answers and lent slices by a breach: without one the result, with one the refusal; and what an answer tells is the breach, or the values.
-use Prim.Native.Nat.{ℕ, _≤_}
+use Prim.Native.Nat.{ℕ, _<_, _≤_}
 use mathlib.Core.Path.{_≡_, refl, sym, ap, _∙_}
 use mathlib.Core.Bool.{Bool, true, false, cond}
 use mathlib.Core.List.{List}
+use native.Mathlib.Omega.{arith}
 use lib.Dec.{eqb}
 use lib.ListN.{length, getD}
 use borrow.Author.Tests.{eq-eqb, ne-eqb, eqb-true}
 use Rattle.lists.specs.Rows.{put}
-use Rattle.lists.proofs.Fronts.{put-behind}
+use Rattle.lists.proofs.Fronts.{put-behind, getD-put}
 use Rattle.answers.specs.Answered.{answered, filled}
 use Rattle.answers.specs.Told.{Told, result, refusal, numberTold, tells}
 
@@ -31,6 +32,14 @@ module _ {A : Type 0} (refused : ℕ → A) (breach : ℕ) (done : A) where
       go false = is-refused breach
 
 module _ (breach : ℕ) (values : List ℕ) where
+  pub tells-result : breach ≡ 0 → tells breach values ≡ result values
+  unfolding tells
+  tells-result = answered-done refusal breach (result values)
+
+  pub tells-refusal : (breach ≡ 0 → ⊥) → tells breach values ≡ refusal breach
+  unfolding tells
+  tells-refusal = answered-refused refusal breach (result values)
+
   -- the number that it tells is the breach
   pub tells-number : numberTold (tells breach values) ≡ breach
   unfolding tells answered
@@ -40,13 +49,21 @@ module _ (breach : ℕ) (values : List ℕ) where
       go true none = sym (eqb-true breach 0 none)
       go false some = refl
 
-  -- a result is told only where there is no breach
-  pub tells-none : (others : List ℕ) → tells breach values ≡ result others → breach ≡ 0
-  tells-none others told = sym tells-number ∙ ap numberTold told
+  -- where a result is told there is no breach
+  pub no-breach : {told : Told} (others : List ℕ) → told ≡ tells breach values → told ≡ result others → breach ≡ 0
+  no-breach others is done = sym tells-number ∙ ap numberTold (sym is ∙ done)
 
-  pub tells-values : (others : List ℕ) → tells breach values ≡ result others → values ≡ others
-  unfolding tells
-  tells-values others told = cc (answered-done refusal breach (result values) (tells-none others told))
+  -- and the values told are its own
+  pub values-told : {told : Told} (others : List ℕ) → told ≡ tells breach values → told ≡ result others → values ≡ others
+  values-told others is done = cc (tells-result (no-breach others is done))
+
+  -- where a refusal is told there is one
+  pub some-breach : {told : Told} (n : ℕ) → told ≡ tells breach values → told ≡ refusal n → breach ≡ 0 → ⊥
+  some-breach n is refused none = let z : _≡_ {A = ℕ} 0 1 = cc (tells-result none) in omega arith
+
+  -- and it is the number told
+  pub breach-told : {told : Told} (n : ℕ) → told ≡ tells breach values → told ≡ refusal n → breach ≡ n
+  breach-told n is refused = sym tells-number ∙ ap numberTold (sym is ∙ refused)
 
 module _ (breach : ℕ) (values slice : List ℕ) where
   pub filled-done : breach ≡ 0 → filled breach values slice ≡ put slice 0 values
@@ -56,6 +73,9 @@ module _ (breach : ℕ) (values slice : List ℕ) where
   pub filled-refused : (breach ≡ 0 → ⊥) → filled breach values slice ≡ slice
   unfolding filled
   filled-refused = answered-refused (λ (n : ℕ). slice) breach (put slice 0 values)
+
+  pub filled-front : breach ≡ 0 → (k : ℕ) → k < length values → getD (filled breach values slice) k 0 ≡ getD values k 0
+  filled-front none k h = ap (λ (s : List ℕ). getD s k 0) (filled-done none) ∙ getD-put slice values k 0 h
 
   pub filled-behind : (k : ℕ) → length values ≤ k → getD (filled breach values slice) k 0 ≡ getD slice k 0
   unfolding filled answered

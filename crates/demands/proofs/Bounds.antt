@@ -1,11 +1,17 @@
--- The bounds of paths, classes and loads enclose the exact probabilities: those of any good model do, and a sound study gives one.
+-- The bounds of paths, classes and loads enclose the exact probabilities: those of any good model do, and so do those that a call answered, since it
+-- answers only of a sound study, whose model is good, and fills the places with that model's bounds.
 use Prim.Native.Nat.{ℕ}
-use mathlib.Core.List.{[]}
+use mathlib.Core.Path.{_≡_, sym, ap, _∙_}
+use mathlib.Core.List.{[], _∷_}
+use native.Mathlib.Omega.{arith}
 use lib.Dec.{eqb}
+use lib.ListN.{length, length-map}
 use Rattle.lists.specs.Bits.{bit}
 use Rattle.lists.proofs.Maps.{getD-map-inside}
-use Rattle.lists.proofs.Tabulated.{getD-tabulate}
+use Rattle.lists.proofs.Tabulated.{getD-tabulate, length-tabulate}
 use Rattle.units.specs.Rounding.{down, up}
+use Rattle.answers.specs.Told.{outcomeTold, countTold, boundsTold, pairValues}
+use Rattle.answers.proofs.Answered.{filled-front}
 use Rattle.entries.specs.Entries.{classPlaces}
 use Rattle.model.specs.Model.{Model, components, pathsOf, probabilityTable}
 use Rattle.probability.specs.Bounds.{pathBound}
@@ -14,14 +20,16 @@ use Rattle.accuracy.proofs.PathBounds.{path-within}
 use Rattle.accuracy.proofs.Totals.{total-within}
 use Rattle.study_model.specs.Model.{modelOf}
 use Rattle.study_model.proofs.Good.{sound-good}
-use Rattle.evaluation.specs.Bounds.{lowerOf, upperOf}
-use Rattle.demands.specs.Demand2.{EachModel, EachStudy, PathsWithin, ClassesWithin, LoadsWithin}
+use Rattle.evaluation.specs.Bounds.{lowerOf, upperOf, pathLowers, pathUppers, classLowers, classUppers}
+use Rattle.planning.specs.Bounds.{pairBreach, lossOf}
+use Rattle.demands.specs.Calls
+use Rattle.demands.specs.Demand2.{LossWithin, PathsWithin, ClassesWithin, LossesWithin}
+use Rattle.demands.specs.Demand2.{PathBoundsAnswered, ClassBoundsAnswered, LoadBoundsAnswered}
+use Rattle.demands.proofs.Finished.{finished}
 
--- what holds of every good model holds of every sound study
-pub of-studies : (Law : Model → Type 0) → EachModel Law → EachStudy Law
-of-studies Law law t s = law (modelOf t) (sound-good t s)
+-- ---- any good model
 
-pub paths-within : EachModel PathsWithin
+pub paths-within : PathsWithin
 unfolding pathBounds
 paths-within m good i h =
     rw (
@@ -30,7 +38,7 @@ paths-within m good i h =
     )
     (path-within m good i h)
 
-pub classes-within : EachModel ClassesWithin
+pub classes-within : ClassesWithin
 classes-within m good c h =
     rw (
       getD-tabulate (λ (c : ℕ). lowerOf m (λ (class : ℕ). eqb class c)) classPlaces c 0 h,
@@ -38,16 +46,46 @@ classes-within m good c h =
     )
     (total-within m good (λ (class : ℕ). eqb class c))
 
-pub loads-within : EachModel LoadsWithin
-loads-within m good j = total-within m good (λ (class : ℕ). bit class j)
+pub losses-within : LossesWithin
+losses-within m good j = total-within m good (λ (class : ℕ). bit class j)
 
--- ---- the study's own
+-- ---- what a call answered
 
-pub study-paths-within : EachStudy PathsWithin
-study-paths-within = of-studies PathsWithin paths-within
+lowers-long : (m : Model) → length (pathLowers m) ≡ length (pathsOf m)
+unfolding pathBounds
+lowers-long m = length-map (pathsOf m) (pathBound down (probabilityTable m) (components m))
 
-pub study-classes-within : EachStudy ClassesWithin
-study-classes-within = of-studies ClassesWithin classes-within
+uppers-long : (m : Model) → length (pathUppers m) ≡ length (pathsOf m)
+unfolding pathBounds
+uppers-long m = length-map (pathsOf m) (pathBound up (probabilityTable m) (components m))
 
-pub study-loads-within : EachStudy LoadsWithin
-study-loads-within = of-studies LoadsWithin loads-within
+pub path-bounds-answered : PathBoundsAnswered
+unfolding pairBreach
+path-bounds-answered t lower upper n answer i h =
+    let done = finished (Rattle.demands.specs.Calls.pathBounds lower upper) t (n ∷ []) (ap countTold answer) in
+    let m = modelOf t in
+    let count : length (pathsOf m) ≡ n = cc in
+    rw (
+      filled-front _ (pathLowers m) lower (done .none) i (omega (arith, lowers-long m, count)),
+      filled-front _ (pathUppers m) upper (done .none) i (omega (arith, uppers-long m, count)),
+    )
+    (paths-within m (sound-good t (done .is-sound)) i (omega (arith, count)))
+
+pub class-bounds-answered : ClassBoundsAnswered
+unfolding pairBreach
+class-bounds-answered t lower upper answer c h =
+    let done = finished (Rattle.demands.specs.Calls.classBounds lower upper) t [] (ap outcomeTold answer) in
+    let m = modelOf t in
+    rw (
+      filled-front _ (classLowers m) lower (done .none) c (omega (arith, length-tabulate (λ (c : ℕ). lowerOf m (λ (class : ℕ). eqb class c)) classPlaces)),
+      filled-front _ (classUppers m) upper (done .none) c (omega (arith, length-tabulate (λ (c : ℕ). upperOf m (λ (class : ℕ). eqb class c)) classPlaces)),
+    )
+    (classes-within m (sound-good t (done .is-sound)) c h)
+
+pub load-bounds-answered : LoadBoundsAnswered
+load-bounds-answered t j pair answer =
+    let done = finished (Rattle.demands.specs.Calls.loadBounds j) t (pairValues pair) (ap boundsTold answer) in
+    let m = modelOf t in
+    let lower : lossOf m j .lower ≡ pair .lower = cc in
+    let upper : lossOf m j .upper ≡ pair .upper = cc in
+    rw (← lower, ← upper) (losses-within m (sound-good t (done .is-sound)) j)

@@ -1,5 +1,6 @@
 -- The figures enclose the quotients of the published formulas. What carries it: the bounds of each load enclose its exact probability, and the
--- figures do so for any bounds that do.
+-- figures do so for any bounds that do; a call answers figures only of a sound study, whose model is good, and only where there are customers.
+use mathlib.Core.Path.{_≡_, sym, ap, subst, _∙_}
 use native.Mathlib.Nat.{one-le-pow}
 use native.Mathlib.Omega.{arith}
 use lib.ListN.{length}
@@ -9,26 +10,44 @@ use Rattle.model.specs.Model.{Model, components}
 use Rattle.accuracy.specs.Accuracy.{wholeOf}
 use Rattle.indices.specs.Enclosed.{LossesEnclosed}
 use Rattle.indices.proofs.Enclosed.{saifi-encloses, saidi-encloses, caidi-encloses}
+use Rattle.rules.proofs.Kept.{list-last}
+use Rattle.rules.proofs.Rows.{customers-kept}
+use Rattle.answers.specs.Told.{figureValues, figuresTold}
+use Rattle.answers.specs.declared.figures.FiguresAnswer.the-variants.{Figures as Given, Refused}
+use Rattle.answers.proofs.Answered.{answered-done}
+use Rattle.study_model.specs.Model.{modelOf}
+use Rattle.study_model.proofs.Good.{sound-good}
 use Rattle.evaluation.specs.Bounds.{loadLowers, loadUppers}
+use Rattle.evaluation.specs.Figures.{modelFigures}
 use Rattle.evaluation.proofs.LossOrder.{lower-at, upper-at}
-use Rattle.demands.specs.Demand2.{EachModel, EachStudy, exactLost, FiguresEnclose}
-use Rattle.demands.proofs.Bounds.{of-studies, loads-within}
+use Rattle.planning.specs.Figures.{customersOf, figuresFault, figuresGiven}
+use Rattle.demands.specs.Calls
+use Rattle.demands.specs.Demand2.{exactLost, FiguresEnclose, ModelFiguresEnclose, FiguresAnswered}
+use Rattle.demands.proofs.Bounds.{losses-within}
+use Rattle.demands.proofs.Finished.{finished}
 
 losses-enclosed : (m : Model) → Good m → LossesEnclosed (loadLowers m) (loadUppers m) (exactLost m) (wholeOf m) (length (m .loads))
 losses-enclosed m good =
     record {
       whole = one-le-pow (components m) one (omega arith);
-      below = λ j h. rw (lower-at m j (omega (arith, good .loads .few))) (loads-within m good j .below);
-      above = λ j h. rw (upper-at m j (omega (arith, good .loads .few))) (loads-within m good j .above);
+      below = λ j h. rw (lower-at m j (omega (arith, good .loads .few))) (losses-within m good j .below);
+      above = λ j h. rw (upper-at m j (omega (arith, good .loads .few))) (losses-within m good j .above);
     }
 
-pub figures-enclose : EachModel FiguresEnclose
-figures-enclose m good =
+pub model-figures-enclose : ModelFiguresEnclose
+model-figures-enclose m good customers =
     record {
-      saifi = saifi-encloses (m .loads) (losses-enclosed m good);
-      saidi = saidi-encloses (m .loads) (losses-enclosed m good);
+      saifi = saifi-encloses (m .loads) (losses-enclosed m good) customers;
+      saidi = saidi-encloses (m .loads) (losses-enclosed m good) customers;
       caidi = caidi-encloses (m .loads) (losses-enclosed m good);
     }
 
-pub study-figures-enclose : EachStudy FiguresEnclose
-study-figures-enclose = of-studies FiguresEnclose figures-enclose
+pub figures-answered : FiguresAnswered
+unfolding figuresGiven figuresFault
+figures-answered t figures answer =
+    let done = finished Rattle.demands.specs.Calls.figures t (figureValues figures) (ap figuresTold answer) in
+    let m = modelOf t in
+    let given = answered-done Refused (figuresFault t) (Given (modelFigures m)) (done .none) in
+    let same : modelFigures m ≡ figures = cc in
+    let customers = customers-kept (customersOf t) (sym (list-last _) ∙ done .none-behind) in
+    subst (FiguresEnclose m) same (model-figures-enclose m (sound-good t (done .is-sound)) customers)

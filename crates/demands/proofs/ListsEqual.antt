@@ -13,14 +13,12 @@ use Rattle.lists.proofs.Digits.{same-bits}
 use Rattle.lists.proofs.Elements.{Every}
 use Rattle.lists.proofs.Joined.{joined-tells}
 use Rattle.lists.proofs.Puts.{put-size}
-use Rattle.rules.specs.Table.{unsoundFault, roomFault}
-use Rattle.rules.proofs.Kept.{both-kept}
+use Rattle.rules.specs.Table.{roomFault}
+use Rattle.rules.proofs.Kept.{list-last}
 use Rattle.rules.proofs.Rows.{room-kept}
 use Rattle.study.specs.declared.Study.{Study}
-use Rattle.answers.specs.Numbers.{listRefusal}
-use Rattle.answers.specs.declared.counts.Listing.the-variants.{Listed, Refused}
-use Rattle.answers.specs.declared.counts.PathCount.{PathCount}
-use Rattle.answers.proofs.Answered.{answered-done, filled-done}
+use Rattle.answers.specs.Told.{listingTold}
+use Rattle.answers.proofs.Answered.{filled-done}
 use Rattle.entries.specs.Entries.{entryBytes, entryAt, entriesOf}
 use Rattle.entries.proofs.Entries.{entries-put}
 use Rattle.model.specs.Good.{Good}
@@ -28,13 +26,13 @@ use Rattle.model.specs.Held.{Listed as Holds}
 use Rattle.model.specs.Model.{Model, components, pathsOf}
 use Rattle.model.proofs.Listing.{entries-wide, list-need, paths-few}
 use Rattle.model.proofs.Paths.{paths-same-iff}
-use Rattle.soundness.specs.Check.{sound}
-use Rattle.soundness.proofs.Checked.{no-unsound}
 use Rattle.study_model.specs.Model.{modelOf}
 use Rattle.study_model.proofs.Good.{sound-good}
-use Rattle.planning.specs.Listing.{pathList, listFault, pathsListed, bufferListed}
+use Rattle.planning.specs.Listing.{pathList, listFault, bufferListed}
+use Rattle.demands.specs.Calls.{listPaths}
 use Rattle.demands.specs.Demand3.{LoseAlike, ListsEqual, ModelListsEqualIff, ListsEqualIff}
-use Rattle.demands.proofs.Refusals.{list-refused}
+use Rattle.demands.specs.Listed.{ListedBy}
+use Rattle.demands.proofs.Finished.{finished}
 
 -- ---- the bytes of a list
 
@@ -113,19 +111,17 @@ put-holds m good {p} d list number room e =
       entries = rw (e, number) (entries-put (components m) (pathsOf m) d (entries-wide m good));
     }
 
--- a call that was not refused
-call-holds : (t : Study) (p : ℕ) (d : List ℕ) → pathsListed t d ≡ Listed (record { paths = p }) → Holds (modelOf t) p (bufferListed t d)
-unfolding pathsListed bufferListed listFault
-call-holds t p d answer =
-    let fault = listFault t (length d) in
-    let none : fault ≡ 0 = sym (list-refused .number t d) ∙ ap listRefusal answer in
-    let kept = both-kept (unsoundFault (sound t)) (roomFault (length (joined (pathList t))) (length d)) none in
-    let done = answered-done Refused fault (Listed (record { paths = length (pathList t) })) none in
-    let count : _≡_ {A = PathCount} (record { paths = p }) (record { paths = length (pathList t) }) = cc in
-    put-holds (modelOf t) (sound-good t (no-unsound t (kept .left))) d (bufferListed t d) (ap (λ (c : PathCount). c .paths) count)
-    (room-kept (length (joined (pathList t))) (length d) (kept .right)) (filled-done fault (joined (pathList t)) d none)
+-- a call that was not refused leaves the list of its study's model in the buffer
+pub call-holds : (t : Study) (d : List ℕ) (p : ℕ) → ListedBy t d p → Holds (modelOf t) p (bufferListed t d)
+unfolding bufferListed listFault
+call-holds t d p answer =
+    let done = finished (listPaths d) t (p ∷ []) (ap listingTold answer) in
+    let count : length (pathList t) ≡ p = cc in
+    let need = length (joined (pathList t)) in
+    put-holds (modelOf t) (sound-good t (done .is-sound)) d (bufferListed t d) (sym count)
+    (room-kept need (length d) (sym (list-last (roomFault need (length d))) ∙ done .none-behind)) (filled-done _ (joined (pathList t)) d (done .none))
 
 pub lists-equal-iff : ListsEqualIff
 unfolding modelOf
-lists-equal-iff t u p q d e counts both =
-    model-lists-equal-iff (modelOf t) (modelOf u) p q _ _ counts (call-holds t p d (both .first)) (call-holds u q e (both .second))
+lists-equal-iff t u p q d e first second counts =
+    model-lists-equal-iff (modelOf t) (modelOf u) p q _ _ counts (call-holds t d p first) (call-holds u e q second)

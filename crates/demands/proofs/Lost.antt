@@ -1,14 +1,14 @@
 -- A load is lost in a joint state just when its fault tree says so. What carries it: the truth of a gate is set once, from those of lower
--- gates, which stay as they are; and bit j of a class is the truth that was set there.
+-- gates, which stay as they are; bit j of a class is the truth that was set there; and on a list a joint state fits the one path that bears its class.
 use Prim.Native.Nat.{ℕ, zero, suc, _+_, _<_, _≤_}
-use mathlib.Core.Path.{_≡_, refl, sym, ap, _∙_}
+use mathlib.Core.Path.{_≡_, refl, sym, ap, subst, _∙_}
 use mathlib.Core.Bool.{Bool, true, false, false≢true}
-use mathlib.Core.List.{List}
+use mathlib.Core.List.{List, []}
 use mathlib.Core.Logic.{⊎-elim}
 use native.Mathlib.Nat.{eq-or-lt-of-le, le-of-suc-le-suc}
 use native.Mathlib.Omega.{arith}
 use lib.Dec.{leb, eqb}
-use lib.ListN.{getD}
+use lib.ListN.{length, getD}
 use lib.Seq.{getD-set-same, getD-set-other}
 use borrow.Author.Tests.{eqb-false, ne-eqb}
 use Rattle.lists.specs.Bits.{bit}
@@ -17,12 +17,20 @@ use Rattle.lists.proofs.Sums.{count-alike}
 use Rattle.rules.specs.Limits.{mostGates, never}
 use Rattle.study.specs.declared.Gate.{Gate}
 use Rattle.study.specs.declared.Study.{Study}
+use Rattle.study.specs.Joint.{stateCounts}
 use Rattle.study.specs.Places.{noGate, gateAt, loadAt}
 use Rattle.soundness.proofs.Ranges.{gates-most, input-lower}
+use Rattle.entries.specs.Entries.{classBorne}
+use Rattle.entries.proofs.Entries.{entries-long}
+use Rattle.paths.specs.Words.{fits}
 use Rattle.fault_tree.specs.Truth.{trueTests, trueGates, gateTrue, withTruth, gateTruths}
 use Rattle.fault_tree.proofs.GateTruths.{truths-long}
 use Rattle.fault_tree.specs.Classes.{lost, classBy, classOf}
-use Rattle.demands.specs.Demand2.{isTrue, GatesAgree, LossGateTrue, LostIff}
+use Rattle.planning.specs.Listing.{bufferListed}
+use Rattle.demands.specs.Demand2.{isTrue, GatesAgree, LossGateTrue, TellsLosses, LostIff, ListedLosses}
+use Rattle.demands.specs.Listed.{pathsIn}
+use Rattle.demands.proofs.Paths.{one-path}
+use Rattle.demands.proofs.Those.{only-one}
 
 -- ---- the truths of gates
 
@@ -90,9 +98,18 @@ module _ (t : Study) (x : List ℕ) where
   gate-lost j g = rw (ne-eqb (loadAt t j .gate) never (g .has-gate)) (g .holds)
 
 pub lost-iff : LostIff
-lost-iff =
+lost-iff t x =
     record {
-      lost = λ t x j h stands. lost-gate t x j (sym (class-bit t x j h) ∙ stands);
-      stands = λ t x j h g. class-bit t x j h ∙ gate-lost t x j g;
-      lacks = λ t x j h. no-class-bit t x j h;
+      lost = λ j h stands. lost-gate t x j (sym (class-bit t x j h) ∙ stands);
+      stands = λ j h g. class-bit t x j h ∙ gate-lost t x j g;
+      lacks = λ j h. no-class-bit t x j h;
     }
+
+-- ---- the classes on a list
+
+pub listed-losses : ListedLosses
+listed-losses t d p answer i h x j fits-path =
+    let one = one-path t d p answer x j in
+    let inside : i < length (pathsIn t d p) = omega (arith, entries-long (length (stateCounts t)) p (bufferListed t d)) in
+    let is = only-one (fits x) [] (pathsIn t d p) (one .path) (one .only) i inside fits-path in
+    subst (TellsLosses t x) (sym (ap (classBorne (length (stateCounts t))) is ∙ one .bears)) (lost-iff t x)

@@ -1,25 +1,74 @@
--- A listing and a call for the figures are refused by the first breach of their lists: an answer tells its breach. A refused listing leaves the
--- buffer, and one that is not changes nothing behind the entries.
-use mathlib.Core.Path.{refl}
-use lib.ListN.{length}
-use Rattle.lists.specs.Rows.{joined}
-use Rattle.answers.specs.Numbers.{listRefusal, figuresRefusal}
+-- Every call is refused by the first breach of its list, and leaves what was lent as it was. What carries it: an answer tells its breach or its values
+-- (`answers`), a lent slice is filled or left by the same breach, and each call's definitions say so of its own list.
+use Prim.Native.Nat.{ℕ}
+use mathlib.Core.Path.{_≡_, refl, ap, _∙_}
+use mathlib.Core.List.{List, [], _∷_}
+use lib.ListN.{length, getD}
+use Rattle.rules.specs.Breach.{firstBreach}
+use Rattle.rules.specs.Table.{roomFault}
+use Rattle.rules.proofs.Kept.{list-last}
+use Rattle.study.specs.declared.Study.{Study}
+use Rattle.answers.specs.Answered.{filled}
+use Rattle.answers.specs.Told.{Told, refusal, tells, outcomeTold, listingTold, countTold, boundsTold, figuresTold}
+use Rattle.answers.specs.declared.bounds.BoundsAnswer.the-variants.{Refused as NoBounds}
+use Rattle.answers.specs.declared.counts.CountAnswer.the-variants.{Refused as NoCount}
 use Rattle.answers.specs.declared.counts.Listing.the-variants.{Refused as NotListed}
 use Rattle.answers.specs.declared.figures.FiguresAnswer.the-variants.{Refused as NoFigures}
-use Rattle.answers.proofs.Answered.{answered-number, filled-refused, filled-behind}
+use Rattle.answers.specs.declared.outcome.Outcome.the-variants.{Refused}
+use Rattle.answers.proofs.Answered.{answered-tells, some-breach, filled-refused, filled-behind}
+use Rattle.planning.specs.Bounds.{pairBreach, pathsBounded, classesBounded, lossFault, loadBounded}
 use Rattle.planning.specs.Figures.{figuresFault, figuresGiven}
-use Rattle.planning.specs.Listing.{pathList, listFault, pathsListed, bufferListed}
-use Rattle.demands.specs.Demand1.{ListRefused, FiguresRefused}
+use Rattle.planning.specs.Listing.{listFault, pathsListed, bufferListed}
+use Rattle.report_text.specs.Report.{reported, written}
+use Rattle.demands.specs.Calls.{Call, anEdit, listPaths, pathBounds, classBounds, loadBounds, figures}
+use Rattle.demands.specs.Calls.{callTold, callBreaches, callValues, studyAfter, Lent, callLent}
+use Rattle.demands.specs.Demand1.{OfEach, Kept, KeptBehind, Refuses, CallsRefuse, TextsRefuse}
+use Rattle.demands.proofs.Edited.{edit-tells, edit-kept}
 
-pub list-refused : ListRefused
-unfolding pathsListed bufferListed
-list-refused =
+-- ---- any call
+
+-- a lent slice that is filled, or left, by a breach
+abbrev FilledBy : ℕ → Lent → Type 0
+FilledBy breach l = l .after ≡ filled breach (l .result) (l .before)
+
+of-each : (P Q : Lent → Type 0) → ((l : Lent) → P l → Q l) → (ls : List Lent) → OfEach P ls → OfEach Q ls
+of-each P Q on [] h = tt
+of-each P Q on (l ∷ ls) h = (on l (h .0), of-each P Q on ls (h .1))
+
+refuses : {told : Told} (breaches values : List ℕ) (lent : List Lent) → told ≡ tells (firstBreach breaches) values
+    → OfEach (FilledBy (firstBreach breaches)) lent → Refuses told breaches values lent
+refuses breaches values lent is fills =
     record {
-      number = λ t buffer. answered-number NotListed (listFault t (length buffer)) _ listRefusal (λ n. refl) refl;
-      kept = λ t buffer. filled-refused (listFault t (length buffer)) (joined (pathList t)) buffer;
-      behind = λ t buffer. filled-behind (listFault t (length buffer)) (joined (pathList t)) buffer;
+      answer = is;
+      kept = λ n refused. of-each _ Kept (λ l fill. fill ∙ filled-refused _ (l .result) (l .before) (some-breach _ values n is refused)) lent fills;
+      behind = of-each _ KeptBehind (λ l fill k h. ap (λ (s : List ℕ). getD s k 0) fill ∙ filled-behind _ (l .result) (l .before) k h) lent fills;
     }
 
-pub figures-refused : FiguresRefused
-unfolding figuresGiven
-figures-refused t = answered-number NoFigures (figuresFault t) _ figuresRefusal (λ n. refl) refl
+-- ---- each call
+
+call-refuses : (c : Call) (t : Study) → Refuses (callTold c t) (callBreaches c t) (callValues c t) (callLent c t)
+unfolding listFault pathsListed bufferListed pairBreach pathsBounded classesBounded lossFault loadBounded figuresFault figuresGiven
+call-refuses (anEdit e) t = refuses _ _ [] (edit-tells e t) tt
+call-refuses (listPaths buffer) t = refuses _ _ _ (answered-tells NotListed _ _ listingTold _ (λ n. refl) refl) (refl, tt)
+call-refuses (pathBounds lower upper) t = refuses _ _ _ (answered-tells NoCount _ _ countTold _ (λ n. refl) refl) (refl, (refl, tt))
+call-refuses (classBounds lower upper) t = refuses _ _ _ (answered-tells Refused _ _ outcomeTold _ (λ n. refl) refl) (refl, (refl, tt))
+call-refuses (loadBounds j) t = refuses _ _ [] (answered-tells NoBounds _ _ boundsTold _ (λ n. refl) refl) tt
+call-refuses figures t = refuses _ _ [] (answered-tells NoFigures _ _ figuresTold _ (λ n. refl) refl) tt
+
+study-kept : (c : Call) (t : Study) (n : ℕ) → callTold c t ≡ refusal n → studyAfter c t ≡ t
+study-kept (anEdit e) t n refused = edit-kept e t (some-breach _ [] n (edit-tells e t) refused)
+study-kept (listPaths buffer) t n refused = refl
+study-kept (pathBounds lower upper) t n refused = refl
+study-kept (classBounds lower upper) t n refused = refl
+study-kept (loadBounds j) t n refused = refl
+study-kept figures t n refused = refl
+
+pub calls-refuse : CallsRefuse
+calls-refuse = record { refuses = call-refuses; study-kept = study-kept }
+
+-- a text in a lent buffer has one breach
+pub texts-refuse : TextsRefuse
+unfolding reported written
+texts-refuse text buffer =
+    let alone = list-last (roomFault (length text) (length buffer)) in
+    refuses _ _ _ (rw alone (answered-tells NoCount _ _ countTold _ (λ n. refl) refl)) (rw alone refl, tt)

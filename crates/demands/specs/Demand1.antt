@@ -1,20 +1,23 @@
--- Demand 1, refusals: what is refused and what is not, over the definitions that the contracts of opening, the check and the edits cite.
+-- Demand 1, refusals: what is refused and what is not, over the definitions that the contracts of the public calls cite.
 use Prim.Native.Nat.{ℕ, _≤_}
 use mathlib.Core.Path.{_≡_}
 use mathlib.Core.Bool.{true, false}
-use mathlib.Core.List.{List}
+use mathlib.Core.List.{List, [], _∷_}
+use mathlib.Core.Logic.{_⊎_}
 use lib.ListN.{length, getD}
-use Rattle.lists.specs.Rows.{joined}
-use Rattle.rules.specs.Limits.{mostComponents, mostLoads}
-use Rattle.answers.specs.declared.outcome.Outcome.the-variants.{Done}
+use Rattle.rules.specs.Breach.{firstBreach}
+use Rattle.rules.specs.Table.{roomFault}
+use Rattle.answers.specs.Told.{Told, refusal, tells, countTold}
+use Rattle.answers.specs.declared.outcome.Outcome.the-variants.{Done, Refused}
 use Rattle.study.specs.declared.Study.{Study}
 use Rattle.study.specs.Zero.{zeroStudy}
 use Rattle.soundness.specs.Sound.{Sound}
 use Rattle.soundness.specs.Check.{sound}
-use Rattle.answers.specs.Numbers.{refusalOf, listRefusal, figuresRefusal}
-use Rattle.planning.specs.Figures.{figuresFault, figuresGiven}
-use Rattle.planning.specs.Listing.{pathList, listFault, pathsListed, bufferListed}
-use Rattle.demands.specs.Edits.{Edit, edit, breach, after, tableOf, tableAfter, othersOf}
+use Rattle.report_text.specs.Report.{reported, written}
+use Rattle.demands.specs.Calls.{Call, callTold, callBreaches, callValues, numbersBehind, studyAfter, Lent, callLent}
+use Rattle.demands.specs.Edits.{Edit, edit, changed, HasItem, Reached, after, tableOf, tableAfter, othersOf}
+
+-- ---- opening
 
 -- The check for 16 says of any value of the struct whether it is sound.
 pub record CheckDecides : Type 0 where
@@ -33,31 +36,70 @@ OpenedSound = Rattle.opening.specs.Laws.OpenedSound
 abbrev pub FirstBreach : Type 0
 FirstBreach = Rattle.opening.specs.Laws.FirstBreach
 
+-- ---- every call
+
+-- P holds of everything that was lent
+abbrev pub OfEach : (Lent → Type 0) → List Lent → Type 0
+OfEach P [] = Unit {0}
+OfEach P (l ∷ ls) = P l × OfEach P ls
+
+abbrev pub Kept : Lent → Type 0
+Kept l = l .after ≡ l .before
+
+-- nothing changes behind what fills its front
+abbrev pub KeptBehind : Lent → Type 0
+KeptBehind l = (k : ℕ) → length (l .result) ≤ k → getD (l .after) k 0 ≡ getD (l .before) k 0
+
+-- A call with these breaches and these values tells the number of the first breach, exactly, or where there is none the values; refused, every lent
+-- place holds what it held; refused or not, nothing changes behind what it writes.
+pub record Refuses (told : Told) (breaches values : List ℕ) (lent : List Lent) : Type 0 where
+  pub answer : told ≡ tells (firstBreach breaches) values
+  pub kept : (n : ℕ) → told ≡ refusal n → OfEach Kept lent
+  pub behind : OfEach KeptBehind lent
+
+-- So it is of every later call; and refused, the caller has the study that was handed in.
+pub record CallsRefuse : Type 0 where
+  pub refuses : (c : Call) (t : Study) → Refuses (callTold c t) (callBreaches c t) (callValues c t) (callLent c t)
+  pub study-kept : (c : Call) (t : Study) (n : ℕ) → callTold c t ≡ refusal n → studyAfter c t ≡ t
+
+-- And of every text in a lent buffer, so of the report and of the word of a refusal: 18 alone.
+abbrev pub TextsRefuse : Type 0
+TextsRefuse =
+    (text buffer : List ℕ)
+    → Refuses (countTold (reported text buffer)) (roomFault (length text) (length buffer) ∷ []) (length text ∷ [])
+    (record { before = buffer; after = written text buffer; result = text } ∷ [])
+
+-- Every later call refuses a study that is not sound by 16, and by 16 no other.
+pub record UnsoundRefused : Type 0 where
+  pub sixteen : (c : Call) (t : Study) → (Sound t → ⊥) → callTold c t ≡ refusal 16
+  pub no-other : (c : Call) (t : Study) → callTold c t ≡ refusal 16 → Sound t → ⊥
+
+-- n is one of a list of numbers
+abbrev pub OneOf : List ℕ → ℕ → Type 0
+OneOf [] n = ⊥
+OneOf (k ∷ ks) n = (n ≡ k) ⊎ OneOf ks n
+
+-- A later call is refused by the numbers that document 01 lists for it, and by no other.
+abbrev pub NumbersListed : Type 0
+NumbersListed = (c : Call) (t : Study) (n : ℕ) → callTold c t ≡ refusal n → OneOf (16 ∷ numbersBehind c) n
+
+-- ---- edits
+
 -- An edit that is not refused returns a sound study.
 abbrev pub EditedSound : Type 0
 EditedSound = (e : Edit) (t : Study) → edit e t .outcome ≡ Done → Sound (edit e t .study)
 
--- An edit is refused by the first breach of its list, and hands the study back as it was.
-pub record EditRefused : Type 0 where
-  pub number : (e : Edit) (t : Study) → refusalOf (edit e t .outcome) ≡ breach e t
-  pub kept : (e : Edit) (t : Study) → (breach e t ≡ 0 → ⊥) → edit e t .study ≡ t
+-- So every study that the calls hand out is sound.
+abbrev pub ReachedSound : Type 0
+ReachedSound = (t : Study) → Reached t → Sound t
 
--- Every value of the struct has twelve component places and eight load places.
-pub record Shaped (t : Study) : Type 0 where
-  pub components : length (t .component) ≡ mostComponents
-  pub loads : length (t .load) ≡ mostLoads
+-- An edit is refused by 5, 6 or 14 only where the edited study would break a rule; where the item is there and the edited study would be
+-- sound, it is done.
+pub record EditsFinish : Type 0 where
+  pub would-break : (t : Study) → Reached t → (e : Edit) (n : ℕ) → edit e t .outcome ≡ Refused n → OneOf (5 ∷ 6 ∷ 14 ∷ []) n → Sound (changed e t) → ⊥
+  pub done : (t : Study) → Reached t → (e : Edit) → HasItem e t → Sound (changed e t) → edit e t .outcome ≡ Done
 
 -- A row of edits leaves what a plain table of fields would hold, and changes nothing else.
 pub record EditFields : Type 0 where
-  pub fields : (es : List Edit) (t : Study) → Shaped t → tableOf (after es t) ≡ tableAfter es t (tableOf t)
-  pub others : (es : List Edit) (t : Study) → othersOf (after es t) ≡ othersOf t
-
--- A listing is refused by the first breach of its list, and then leaves the lent buffer as it was; otherwise nothing behind the entries changes.
-pub record ListRefused : Type 0 where
-  pub number : (t : Study) (buffer : List ℕ) → listRefusal (pathsListed t buffer) ≡ listFault t (length buffer)
-  pub kept : (t : Study) (buffer : List ℕ) → (listFault t (length buffer) ≡ 0 → ⊥) → bufferListed t buffer ≡ buffer
-  pub behind : (t : Study) (buffer : List ℕ) (k : ℕ) → length (joined (pathList t)) ≤ k → getD (bufferListed t buffer) k 0 ≡ getD buffer k 0
-
--- A call for the figures is refused by the first breach of its list.
-abbrev pub FiguresRefused : Type 0
-FiguresRefused = (t : Study) → figuresRefusal (figuresGiven t) ≡ figuresFault t
+  pub fields : (t : Study) → Reached t → (es : List Edit) → tableOf (after es t) ≡ tableAfter es (tableOf t)
+  pub others : (t : Study) (es : List Edit) → othersOf (after es t) ≡ othersOf t

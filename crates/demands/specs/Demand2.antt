@@ -1,5 +1,5 @@
 -- Demand 2: a load is lost in a joint state just when its fault tree says so; the bounds enclose the exact probabilities, and the figures the
--- exact quotients, of any good model and so of the model of a sound study.
+-- exact quotients. Of every good model, and so of every answer that is not a refusal.
 use Prim.Native.Nat.{ℕ, _<_, _≤_}
 use mathlib.Core.Path.{_≡_}
 use mathlib.Core.Bool.{Bool, true, false}
@@ -10,8 +10,16 @@ use Rattle.lists.specs.Bits.{bit}
 use Rattle.units.specs.Within.{Within}
 use Rattle.rules.specs.Limits.{never}
 use Rattle.study.specs.declared.Study.{Study}
+use Rattle.study.specs.Joint.{stateCounts}
 use Rattle.study.specs.Places.{gateAt, loadAt}
-use Rattle.entries.specs.Entries.{classPlaces}
+use Rattle.answers.specs.declared.bounds.BoundsAnswer.the-variants.{Bounds}
+use Rattle.answers.specs.declared.bounds.Enclosure.{Enclosure}
+use Rattle.answers.specs.declared.counts.CountAnswer.the-variants.{Count}
+use Rattle.answers.specs.declared.figures.Figures.{Figures}
+use Rattle.answers.specs.declared.figures.FiguresAnswer.the-variants.{Figures as Given}
+use Rattle.answers.specs.declared.outcome.Outcome.the-variants.{Done}
+use Rattle.joint_states.specs.JointStates.{JointState}
+use Rattle.entries.specs.Entries.{classPlaces, classBorne}
 use Rattle.paths.specs.Words.{fits}
 use Rattle.model.specs.Good.{Good}
 use Rattle.model.specs.Model.{Model, components, pathsOf}
@@ -24,7 +32,9 @@ use Rattle.fault_tree.specs.Classes.{classOf}
 use Rattle.study_model.specs.Model.{modelOf}
 use Rattle.evaluation.specs.Bounds.{pathLowers, pathUppers, classLowers, classUppers}
 use Rattle.evaluation.specs.Figures.{modelFigures}
-use Rattle.planning.specs.Bounds.{lossOf}
+use Rattle.planning.specs.Bounds.{pathsBounded, lowerOfPaths, upperOfPaths, classesBounded, lowerOfClasses, upperOfClasses, lossOf, loadBounded}
+use Rattle.planning.specs.Figures.{figuresGiven}
+use Rattle.demands.specs.Listed.{ListedBy, pathIn}
 
 -- gate i is true in joint state x
 abbrev pub isTrue : Study → List ℕ → ℕ → Bool
@@ -39,53 +49,84 @@ pub record LossGateTrue (t : Study) (x : List ℕ) (j : ℕ) : Type 0 where
   pub has-gate : loadAt t j .gate ≡ never → ⊥
   pub holds : isTrue t x (loadAt t j .gate) ≡ true
 
--- Bit j of a joint state's class stands exactly when load j has a loss gate and it is true there; the bit of a load that the study lacks is clear.
-pub record LostIff : Type 0 where
-  pub lost : (t : Study) (x : List ℕ) (j : ℕ) → j < t .loads → bit (classOf t x) j ≡ true → LossGateTrue t x j
-  pub stands : (t : Study) (x : List ℕ) (j : ℕ) → j < t .loads → LossGateTrue t x j → bit (classOf t x) j ≡ true
-  pub lacks : (t : Study) (x : List ℕ) (j : ℕ) → t .loads ≤ j → bit (classOf t x) j ≡ false
+-- a class tells what joint state x loses: bit j stands exactly when load j has a loss gate and it is true there, and the bit of a load that the
+-- study lacks is clear
+pub record TellsLosses (t : Study) (x : List ℕ) (class : ℕ) : Type 0 where
+  pub lost : (j : ℕ) → j < t .loads → bit class j ≡ true → LossGateTrue t x j
+  pub stands : (j : ℕ) → j < t .loads → LossGateTrue t x j → bit class j ≡ true
+  pub lacks : (j : ℕ) → t .loads ≤ j → bit class j ≡ false
 
--- ---- laws of models
+-- The class of a joint state does.
+abbrev pub LostIff : Type 0
+LostIff = (t : Study) (x : List ℕ) → TellsLosses t x (classOf t x)
 
--- of every good model
-abbrev pub EachModel : (Model → Type 0) → Type 0
-EachModel Law = (m : Model) → Good m → Law m
+-- So does, on the list that a call answered, the class of a path, of every joint state that fits it.
+abbrev pub ListedLosses : Type 0
+ListedLosses =
+    (t : Study) (d : List ℕ) (p : ℕ) → ListedBy t d p
+    → (i : ℕ) → i < p → (x : List ℕ) → JointState (stateCounts t) x → fits x (pathIn t d p i) ≡ true
+    → TellsLosses t x (classBorne (length (stateCounts t)) (pathIn t d p i))
 
--- of every sound study, by its model
-abbrev pub EachStudy : (Model → Type 0) → Type 0
-EachStudy Law = (t : Study) → Sound t → Law (modelOf t)
+-- ---- bounds
 
--- ---- the bounds
+-- Two numbers are bounds of path i: they enclose the exact probability of the joint states that fit it, and neither is farther from it than one
+-- unit for each settled state beyond the first.
+abbrev pub PathWithin : Model → ℕ → ℕ → ℕ → Type 0
+PathWithin m i lower upper =
+    Within lower upper (pathDistance (components m) (getD (pathsOf m) i [])) (exactOf m (λ (x : List ℕ). fits x (getD (pathsOf m) i []))) (wholeOf m)
 
--- The two bounds of a path enclose the exact probability of the joint states that fit it, and neither is farther from it than one unit for each
--- settled state beyond the first.
-abbrev pub PathsWithin : Model → Type 0
-PathsWithin m =
-    (i : ℕ) → i < length (pathsOf m)
-    → Within (getD (pathLowers m) i 0) (getD (pathUppers m) i 0) (pathDistance (components m) (getD (pathsOf m) i []))
-    (exactOf m (λ (x : List ℕ). fits x (getD (pathsOf m) i []))) (wholeOf m)
-
--- Those of a class enclose the exact probability of its joint states, with that distance for each path added.
-abbrev pub ClassesWithin : Model → Type 0
-ClassesWithin m =
-    (c : ℕ) → c < classPlaces
-    → Within (getD (classLowers m) c 0) (getD (classUppers m) c 0) (totalDistance (components m) (λ (class : ℕ). eqb class c) (pathsOf m))
-    (exactOf m (λ (x : List ℕ). eqb (m .class x) c)) (wholeOf m)
+-- They are bounds of class c: they enclose the exact probability of its joint states, with that distance for each path added.
+abbrev pub ClassWithin : Model → ℕ → ℕ → ℕ → Type 0
+ClassWithin m c lower upper =
+    Within lower upper (totalDistance (components m) (λ (class : ℕ). eqb class c) (pathsOf m)) (exactOf m (λ (x : List ℕ). eqb (m .class x) c)) (wholeOf m)
 
 -- the exact probability that load j is lost
 abbrev pub exactLost : Model → ℕ → ℕ
 exactLost m j = exactOf m (λ (x : List ℕ). bit (m .class x) j)
 
--- Those of a load enclose the exact probability that it is lost, likewise.
-abbrev pub LoadsWithin : Model → Type 0
-LoadsWithin m =
-    (j : ℕ)
-    → Within (lossOf m j .lower) (lossOf m j .upper) (totalDistance (components m) (λ (class : ℕ). bit class j) (pathsOf m)) (exactLost m j) (wholeOf m)
+-- They are bounds for the loss of load j, likewise.
+abbrev pub LossWithin : Model → ℕ → ℕ → ℕ → Type 0
+LossWithin m j lower upper =
+    Within lower upper (totalDistance (components m) (λ (class : ℕ). bit class j) (pathsOf m)) (exactLost m j) (wholeOf m)
 
--- ---- the figures
+-- Figures enclose the quotients of the published formulas, over the exact probabilities; CAIDI does wherever it is stated.
+pub record FiguresEnclose (m : Model) (figures : Figures) : Type 0 where
+  pub saifi : SaifiEncloses figures (exactLost m) (wholeOf m) (m .loads)
+  pub saidi : SaidiEncloses figures (exactLost m) (wholeOf m) (m .loads)
+  pub caidi : CaidiEncloses figures (exactLost m) (m .loads)
 
--- The three figures enclose the quotients of the published formulas, over the exact probabilities; CAIDI does wherever it is stated.
-pub record FiguresEnclose (m : Model) : Type 0 where
-  pub saifi : 0 < customersSum (m .loads) → SaifiEncloses (modelFigures m) (exactLost m) (wholeOf m) (m .loads)
-  pub saidi : 0 < customersSum (m .loads) → SaidiEncloses (modelFigures m) (exactLost m) (wholeOf m) (m .loads)
-  pub caidi : CaidiEncloses (modelFigures m) (exactLost m) (m .loads)
+-- ---- of every good model
+
+abbrev pub PathsWithin : Type 0
+PathsWithin = (m : Model) → Good m → (i : ℕ) → i < length (pathsOf m) → PathWithin m i (getD (pathLowers m) i 0) (getD (pathUppers m) i 0)
+
+abbrev pub ClassesWithin : Type 0
+ClassesWithin = (m : Model) → Good m → (c : ℕ) → c < classPlaces → ClassWithin m c (getD (classLowers m) c 0) (getD (classUppers m) c 0)
+
+abbrev pub LossesWithin : Type 0
+LossesWithin = (m : Model) → Good m → (j : ℕ) → LossWithin m j (lossOf m j .lower) (lossOf m j .upper)
+
+abbrev pub ModelFiguresEnclose : Type 0
+ModelFiguresEnclose = (m : Model) → Good m → 0 < customersSum (m .loads) → FiguresEnclose m (modelFigures m)
+
+-- ---- of every answer
+
+-- The call for path bounds answers n: the two places written for each of the n paths are its bounds.
+abbrev pub PathBoundsAnswered : Type 0
+PathBoundsAnswered =
+    (t : Study) (lower upper : List ℕ) (n : ℕ) → pathsBounded t lower upper ≡ Count n
+    → (i : ℕ) → i < n → PathWithin (modelOf t) i (getD (lowerOfPaths t lower upper) i 0) (getD (upperOfPaths t lower upper) i 0)
+
+-- The call for class bounds answers that it is done: the two places of each class are its bounds.
+abbrev pub ClassBoundsAnswered : Type 0
+ClassBoundsAnswered =
+    (t : Study) (lower upper : List ℕ) → classesBounded t lower upper ≡ Done
+    → (c : ℕ) → c < classPlaces → ClassWithin (modelOf t) c (getD (lowerOfClasses t lower upper) c 0) (getD (upperOfClasses t lower upper) c 0)
+
+-- The call for a load answers a pair: these are the bounds for its loss.
+abbrev pub LoadBoundsAnswered : Type 0
+LoadBoundsAnswered = (t : Study) (j : ℕ) (pair : Enclosure) → loadBounded t j ≡ Bounds pair → LossWithin (modelOf t) j (pair .lower) (pair .upper)
+
+-- The call for the figures answers them: they enclose the quotients, CAIDI where it is stated.
+abbrev pub FiguresAnswered : Type 0
+FiguresAnswered = (t : Study) (figures : Figures) → figuresGiven t ≡ Given figures → FiguresEnclose (modelOf t) figures

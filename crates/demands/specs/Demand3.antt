@@ -2,21 +2,20 @@
 -- speaks of a list (fits, bears, ascends, settled, changes no loss) stand in crate `paths`, and what holds of the paths of any good model in `model`.
 use Prim.Native.Nat.{ℕ, _*_, _<_}
 use mathlib.Core.Path.{_≡_}
-use mathlib.Core.List.{List, []}
-use lib.ListN.{length, getD, take}
+use mathlib.Core.List.{List}
+use lib.ListN.{length, take}
 use Rattle.lists.specs.Bits.{bit}
 use Rattle.joint_states.specs.JointStates.{JointState}
 use Rattle.study.specs.declared.Study.{Study}
 use Rattle.study.specs.Joint.{stateCounts}
-use Rattle.answers.specs.declared.counts.Listing.the-variants.{Listed}
 use Rattle.entries.specs.Entries.{entryBytes}
 use Rattle.paths.specs.Words.{OnePath, Ascending, BlankIff}
 use Rattle.model.specs.Held.{Listed as Holds}
 use Rattle.model.specs.Model.{Model, components}
-use Rattle.soundness.specs.Sound.{Sound}
 use Rattle.fault_tree.specs.Classes.{classOf}
 use Rattle.study_model.specs.Model.{modelOf}
-use Rattle.planning.specs.Listing.{pathList, pathsListed, bufferListed}
+use Rattle.planning.specs.Listing.{bufferListed}
+use Rattle.demands.specs.Listed.{ListedBy, pathsIn, pathIn}
 
 -- ---- equal lists
 
@@ -38,30 +37,27 @@ pub record EqualIffAlike (m n : Model) (p q : ℕ) (d e : List ℕ) : Type 0 whe
 abbrev pub ModelListsEqualIff : Type 0
 ModelListsEqualIff = (m n : Model) (p q : ℕ) (d e : List ℕ) → m .counts ≡ n .counts → Holds m p d → Holds n q e → EqualIffAlike m n p q d e
 
--- two calls that were not refused, one for t with buffer d and one for u with buffer e, answered p and q paths
-pub record BothListed (t u : Study) (p q : ℕ) (d e : List ℕ) : Type 0 where
-  pub first : pathsListed t d ≡ Listed (record { paths = p })
-  pub second : pathsListed u e ≡ Listed (record { paths = q })
-
--- For any two studies whose components have the same state counts in the same order, whatever the lent buffers held: their lists are equal
--- exactly when they lose the same loads in every joint state.
+-- For any two studies whose components have the same state counts in the same order, whatever the lent buffers held, and calls that were not
+-- refused: their lists are equal exactly when they lose the same loads in every joint state.
 abbrev pub ListsEqualIff : Type 0
 ListsEqualIff =
-    (t u : Study) (p q : ℕ) (d e : List ℕ) → stateCounts t ≡ stateCounts u → BothListed t u p q d e
+    (t u : Study) (p q : ℕ) (d e : List ℕ) → ListedBy t d p → ListedBy u e q → stateCounts t ≡ stateCounts u
     → EqualIffAlike (modelOf t) (modelOf u) p q (bufferListed t d) (bufferListed u e)
 
--- ---- the paths of a sound study
+-- ---- each list that was answered
 
 -- Every joint state fits one path and only one, and that path bears the joint state's class.
 abbrev pub OnePathEach : Type 0
-OnePathEach = (t : Study) → Sound t → (x : List ℕ) → JointState (stateCounts t) x → OnePath (length (stateCounts t)) (classOf t x) x (pathList t)
+OnePathEach =
+    (t : Study) (d : List ℕ) (p : ℕ) → ListedBy t d p
+    → (x : List ℕ) → JointState (stateCounts t) x → OnePath (length (stateCounts t)) (classOf t x) x (pathsIn t d p)
 
 -- Paths ascend by state.
 abbrev pub PathsAscend : Type 0
-PathsAscend = (t : Study) → Sound t → Ascending (length (stateCounts t)) (pathList t)
+PathsAscend = (t : Study) (d : List ℕ) (p : ℕ) → ListedBy t d p → Ascending (length (stateCounts t)) (pathsIn t d p)
 
 -- A component is blank on a path exactly when, with the states settled before it, its own state changes no loss whatever the states of the others.
 abbrev pub BlankExactly : Type 0
 BlankExactly =
-    (t : Study) → Sound t → (i k : ℕ) → i < length (pathList t) → k < length (stateCounts t)
-    → BlankIff (stateCounts t) (classOf t) k (getD (pathList t) i [])
+    (t : Study) (d : List ℕ) (p : ℕ) → ListedBy t d p
+    → (i k : ℕ) → i < p → k < length (stateCounts t) → BlankIff (stateCounts t) (classOf t) k (pathIn t d p i)

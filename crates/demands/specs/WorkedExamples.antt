@@ -1,12 +1,11 @@
--- The worked examples of document 01 that are marked with a star, as rows of data, and the one claim about them: each row is true of the
--- definitions that the contracts cite.
-use Prim.Native.Nat.{ℕ, _-_}
+-- The worked examples of document 01 that are marked with a star, as rows of data, and the one claim about them: each row is what the calls answer and
+-- write, by the definitions that their contracts cite.
+use Prim.Native.Nat.{ℕ, _-_, _<_, _≤_}
 use mathlib.Core.Path.{_≡_}
 use mathlib.Core.Option.{Option, none, some}
 use mathlib.Core.List.{List, [], _∷_, _++_, map}
-use lib.Dec.{eqb}
-use lib.ListN.{length, replicate}
-use Rattle.lists.specs.Tabulate.{tabulate}
+use lib.ListN.{length, getD, replicate}
+use Rattle.lists.specs.Rows.{put, joined}
 use Rattle.units.specs.One.{one}
 use Rattle.rules.specs.Limits.{mostComponents, mostGates, mostLoads, mostTests, mostGateInputs, never}
 use Rattle.study.specs.declared.Component.{Component}
@@ -14,20 +13,21 @@ use Rattle.study.specs.declared.Gate.{Gate}
 use Rattle.study.specs.declared.Load.{Load}
 use Rattle.study.specs.declared.Study.{Study}
 use Rattle.study.specs.Zero.{zeroComponent, zeroGate, zeroLoad}
+use Rattle.answers.specs.declared.bounds.BoundsAnswer.the-variants.{Bounds as Bounded}
 use Rattle.answers.specs.declared.bounds.Enclosure.{Enclosure}
+use Rattle.answers.specs.declared.counts.CountAnswer.the-variants.{Count}
+use Rattle.answers.specs.declared.counts.Listing.the-variants.{Listed}
 use Rattle.answers.specs.declared.figures.Caidi.{Caidi}
 use Rattle.answers.specs.declared.figures.Caidi.the-variants.{Bounds, NotStated}
 use Rattle.answers.specs.declared.figures.FiguresAnswer.{FiguresAnswer}
 use Rattle.answers.specs.declared.figures.FiguresAnswer.the-variants.{Figures, Refused}
 use Rattle.answers.specs.declared.outcome.Outcome.the-variants.{Done}
 use Rattle.answers.specs.declared.outcome.StudyAnswer.{StudyAnswer}
-use Rattle.entries.specs.Entries.{blankMark, entry}
-use Rattle.model.specs.Model.{Model, pathsOf}
+use Rattle.entries.specs.Entries.{blankMark, classPlaces, entry}
 use Rattle.opening.specs.Opening.{opened, refusedOpening}
-use Rattle.study_model.specs.Model.{modelOf}
-use Rattle.evaluation.specs.Bounds.{pathLowers, pathUppers, lowerOf, upperOf, loadLowers, loadUppers}
-use Rattle.evaluation.specs.Figures.{figuresBy}
-use Rattle.planning.specs.Bounds.{lossOf}
+use Rattle.planning.specs.Bounds.{pathsBounded, lowerOfPaths, upperOfPaths, classesBounded, lowerOfClasses, upperOfClasses, loadBounded}
+use Rattle.planning.specs.Figures.{figuresGiven}
+use Rattle.planning.specs.Listing.{pathsListed, bufferListed}
 
 -- ---- studies in few words
 
@@ -92,12 +92,13 @@ between lower upper = record { lower = lower; upper = upper }
 abbrev at : ℕ → Enclosure
 at n = between n n
 
--- what the paper gives of a study that opens: its paths, the bounds of each, bounds for the classes from 0 on and for each load, and the figures
+-- what the paper gives of a study that opens: its paths, the bounds of each, the bounds of each class at its place and of each load, and the figures
 pub record Results : Type 0 where
   pub paths : List (List ℕ)
   pub lower : List ℕ
   pub upper : List ℕ
-  pub classes : List Enclosure
+  pub classLower : List ℕ
+  pub classUpper : List ℕ
   pub loads : List Enclosure
   pub figures : FiguresAnswer
 
@@ -111,12 +112,26 @@ pub record Example : Type 0 where
 abbrev example : List ℕ → StudyAnswer → Example
 example bytes opening = record { bytes = bytes; opening = opening; results = none }
 
--- an example with the paths of its study, the bounds of paths, classes and loads, and the figures
-abbrev listing : List ℕ → StudyAnswer → List (List ℕ) → List Enclosure → List Enclosure → List Enclosure → FiguresAnswer → Example
+abbrev lowers : List Enclosure → List ℕ
+lowers bounds = map (λ (b : Enclosure). b .lower) bounds
+
+abbrev uppers : List Enclosure → List ℕ
+uppers bounds = map (λ (b : Enclosure). b .upper) bounds
+
+-- an example with the paths of its study, the bounds of paths, of classes from 0 on and of loads, and the figures; every other class has no path
+unfoldable pub listing : List ℕ → StudyAnswer → List (List ℕ) → List Enclosure → List Enclosure → List Enclosure → FiguresAnswer → Example
+unfolding padded
 listing bytes opening paths bounds classes loads figures =
-    let lower = map (λ (b : Enclosure). b .lower) bounds in
-    let upper = map (λ (b : Enclosure). b .upper) bounds in
-    let results : Results = record { paths = paths; lower = lower; upper = upper; classes = classes; loads = loads; figures = figures } in
+    let results : Results =
+    record {
+      paths = paths;
+      lower = lowers bounds;
+      upper = uppers bounds;
+      classLower = padded classPlaces 0 (lowers classes);
+      classUpper = padded classPlaces 0 (uppers classes);
+      loads = loads;
+      figures = figures;
+    } in
     record { bytes = bytes; opening = opening; results = some results }
 
 -- the figures, and their refusal where there are no customers
@@ -238,35 +253,39 @@ examples =
 
 -- ---- the claim
 
--- the bounds of a class
-abbrev classBounds : Model → ℕ → Enclosure
-classBounds m c = between (lowerOf m (λ (class : ℕ). eqb class c)) (upperOf m (λ (class : ℕ). eqb class c))
+-- the call for the list, with any buffer that has the room, answers the number of these paths and writes them
+pub record ListIs (t : Study) (paths : List (List ℕ)) : Type 0 where
+  pub answer : (buffer : List ℕ) → length (joined paths) ≤ length buffer → pathsListed t buffer ≡ Listed (record { paths = length paths })
+  pub written : (buffer : List ℕ) → length (joined paths) ≤ length buffer → bufferListed t buffer ≡ put buffer 0 (joined paths)
 
--- what the definitions give of a model, for so many classes; the figures are what the call answers once the study is found sound
-abbrev resultsOf : Model → ℕ → Results
-resultsOf m classes =
-    record {
-      paths = pathsOf m;
-      lower = pathLowers m;
-      upper = pathUppers m;
-      classes = tabulate (classBounds m) classes;
-      loads = tabulate (lossOf m) (length (m .loads));
-      figures = figuresBy (loadLowers m) (loadUppers m) (m .loads);
-    }
+-- a call for bounds, with any two slices that have the room, answers so and writes these
+pub record PairIs {A : Type 0} (answers : List ℕ → List ℕ → A) (left right : List ℕ → List ℕ → List ℕ) (answer : A) (need : ℕ) (lows highs : List ℕ) : Type 0 where
+  pub answered : (lower upper : List ℕ) → need ≤ length lower → need ≤ length upper → answers lower upper ≡ answer
+  pub lower-written : (lower upper : List ℕ) → need ≤ length lower → need ≤ length upper → left lower upper ≡ put lower 0 lows
+  pub upper-written : (lower upper : List ℕ) → need ≤ length lower → need ≤ length upper → right lower upper ≡ put upper 0 highs
 
--- and of what an example gives results for
-abbrev resultsFor : Study → Option Results → Option Results
-resultsFor t none = none
-resultsFor t (some r) = some (resultsOf (modelOf t) (length (r .classes)))
+-- the calls on a study give the results
+pub record Gives (t : Study) (r : Results) : Type 0 where
+  pub list : ListIs t (r .paths)
+  pub paths : PairIs (pathsBounded t) (lowerOfPaths t) (upperOfPaths t) (Count (length (r .paths))) (length (r .paths)) (r .lower) (r .upper)
+  pub classes : PairIs (classesBounded t) (lowerOfClasses t) (upperOfClasses t) Done classPlaces (r .classLower) (r .classUpper)
+  pub loads : (j : ℕ) → j < t .loads → loadBounded t j ≡ Bounded (getD (r .loads) j (at 0))
+  pub each-load : length (r .loads) ≡ t .loads
+  pub figures : figuresGiven t ≡ r .figures
 
--- a row as the definitions give it: what opening its bytes answers, and the results of the study that it says they hold
-abbrev pub worked : Example → Example
-worked e = record { bytes = e .bytes; opening = opened (e .bytes); results = resultsFor (e .opening .study) (e .results) }
+abbrev pub ResultsHold : Study → Option Results → Type 0
+ResultsHold t none = Unit {0}
+ResultsHold t (some r) = Gives t r
 
--- Each row is as the definitions give it.
-abbrev pub Each : List Example → Type 0
-Each [] = Unit {0}
-Each (e ∷ es) = (worked e ≡ e) × Each es
+-- a row holds: opening its bytes answers so, and the calls on the study that was opened give its results
+pub record RowHolds (e : Example) : Type 0 where
+  pub opening : opened (e .bytes) ≡ e .opening
+  pub results : ResultsHold (e .opening .study) (e .results)
 
+abbrev pub EachHolds : List Example → Type 0
+EachHolds [] = Unit {0}
+EachHolds (e ∷ es) = RowHolds e × EachHolds es
+
+-- Each row holds.
 abbrev pub WorkedExamples : Type 0
-WorkedExamples = Each examples
+WorkedExamples = EachHolds examples

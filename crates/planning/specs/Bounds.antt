@@ -6,7 +6,7 @@ use Rattle.lists.specs.Bits.{bit}
 use Rattle.rules.specs.Breach.{firstBreach}
 use Rattle.rules.specs.Table.{unsoundFault, itemFault, roomFault}
 use Rattle.study.specs.declared.Study.{Study}
-use Rattle.answers.specs.Answered.{answered}
+use Rattle.answers.specs.Answered.{answered, filled}
 use Rattle.answers.specs.declared.bounds.BoundsAnswer.{BoundsAnswer}
 use Rattle.answers.specs.declared.bounds.BoundsAnswer.the-variants.{Bounds, Refused as NoBounds}
 use Rattle.answers.specs.declared.bounds.Enclosure.{Enclosure}
@@ -18,7 +18,7 @@ use Rattle.entries.specs.Entries.{classPlaces}
 use Rattle.model.specs.Model.{Model, pathsOf}
 use Rattle.soundness.specs.Check.{sound}
 use Rattle.study_model.specs.Model.{modelOf}
-use Rattle.evaluation.specs.Bounds.{lowerOf, upperOf}
+use Rattle.evaluation.specs.Bounds.{pathLowers, pathUppers, classLowers, classUppers, lowerOf, upperOf}
 
 -- ---- two slices of which each needs so many places
 
@@ -30,14 +30,24 @@ abbrev pub pairRoom : ℕ → List ℕ → List ℕ → ℕ
 pairRoom need lower upper = pairFault need (length lower) (length upper)
 
 -- 16, then 18
+abbrev pub pairBreaches : Study → ℕ → ℕ → ℕ → List ℕ
+pairBreaches t need lower upper = unsoundFault (sound t) ∷ pairFault need lower upper ∷ []
+
 unfoldable pub pairBreach : Study → ℕ → ℕ → ℕ → ℕ
 unfolding pairFault
-pairBreach t need lower upper = firstBreach (unsoundFault (sound t) ∷ pairFault need lower upper ∷ [])
+pairBreach t need lower upper = firstBreach (pairBreaches t need lower upper)
 
 -- ---- the call for paths
 
 abbrev pub pathsFault : Study → List ℕ → List ℕ → ℕ
 pathsFault t lower upper = pairBreach t (length (pathsOf (modelOf t))) (length lower) (length upper)
+
+-- what the two slices then hold
+abbrev pub lowerOfPaths : Study → List ℕ → List ℕ → List ℕ
+lowerOfPaths t lower upper = filled (pathsFault t lower upper) (pathLowers (modelOf t)) lower
+
+abbrev pub upperOfPaths : Study → List ℕ → List ℕ → List ℕ
+upperOfPaths t lower upper = filled (pathsFault t lower upper) (pathUppers (modelOf t)) upper
 
 -- the answer: the number of paths
 unfoldable pub pathsBounded : Study → List ℕ → List ℕ → CountAnswer
@@ -49,6 +59,13 @@ pathsBounded t lower upper = answered NoCount (pathsFault t lower upper) (Count 
 abbrev pub classesFault : Study → List ℕ → List ℕ → ℕ
 classesFault t lower upper = pairBreach t classPlaces (length lower) (length upper)
 
+-- what the two slices then hold
+abbrev pub lowerOfClasses : Study → List ℕ → List ℕ → List ℕ
+lowerOfClasses t lower upper = filled (classesFault t lower upper) (classLowers (modelOf t)) lower
+
+abbrev pub upperOfClasses : Study → List ℕ → List ℕ → List ℕ
+upperOfClasses t lower upper = filled (classesFault t lower upper) (classUppers (modelOf t)) upper
+
 -- the answer: only that it is done
 unfoldable pub classesBounded : Study → List ℕ → List ℕ → Outcome
 unfolding answered pairBreach
@@ -57,8 +74,11 @@ classesBounded t lower upper = answered Refused (classesFault t lower upper) Don
 -- ---- the call for a load
 
 -- 16, then 17
+abbrev pub lossBreaches : Study → ℕ → List ℕ
+lossBreaches t j = unsoundFault (sound t) ∷ itemFault (t .loads) j ∷ []
+
 unfoldable pub lossFault : Study → ℕ → ℕ
-lossFault t j = firstBreach (unsoundFault (sound t) ∷ itemFault (t .loads) j ∷ [])
+lossFault t j = firstBreach (lossBreaches t j)
 
 -- the bounds for the loss of load j
 abbrev pub lossOf : Model → ℕ → Enclosure

@@ -1,6 +1,6 @@
 -- What the call for the figures of a study answers.
 use Prim.Native.Nat.{ℕ}
-use mathlib.Core.List.{[], _∷_}
+use mathlib.Core.List.{List, [], _∷_}
 use Rattle.rules.specs.Breach.{firstBreach}
 use Rattle.rules.specs.Table.{unsoundFault, customersFault}
 use Rattle.study.specs.declared.Study.{Study}
@@ -17,8 +17,11 @@ abbrev pub customersOf : Study → ℕ
 customersOf t = customersSum (modelOf t .loads)
 
 -- 16, then 19
+abbrev pub figuresBreaches : Study → List ℕ
+figuresBreaches t = unsoundFault (sound t) ∷ customersFault (customersOf t) ∷ []
+
 unfoldable pub figuresFault : Study → ℕ
-figuresFault t = firstBreach (unsoundFault (sound t) ∷ customersFault (customersOf t) ∷ [])
+figuresFault t = firstBreach (figuresBreaches t)
 
 unfoldable pub figuresGiven : Study → FiguresAnswer
 unfolding answered

@@ -18,8 +18,11 @@ abbrev pub pathList : Study → List (List ℕ)
 pathList t = pathsOf (modelOf t)
 
 -- 16, then 18 where the entries need more than the room that is lent
+abbrev pub listBreaches : Study → ℕ → List ℕ
+listBreaches t room = unsoundFault (sound t) ∷ roomFault (length (joined (pathList t))) room ∷ []
+
 unfoldable pub listFault : Study → ℕ → ℕ
-listFault t room = firstBreach (unsoundFault (sound t) ∷ roomFault (length (joined (pathList t))) room ∷ [])
+listFault t room = firstBreach (listBreaches t room)
 
 -- the number of paths
 unfoldable pub pathsListed : Study → List ℕ → Listing

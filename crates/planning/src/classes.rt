@@ -14,12 +14,11 @@ ghost use Prim.Native.Nat.{_≤_};
 ghost use mathlib.Core.Path.{_≡_};
 ghost use lib.ListN.{length};
 ghost use Rattle.lists.specs.Rows.{put};
-ghost use Rattle.answers.specs.Answered.{filled};
 ghost use Rattle.entries.specs.Entries.{classPlaces};
 ghost use Rattle.soundness.specs.Sound.{Sound};
 ghost use Rattle.study_model.specs.Model.{modelOf};
 ghost use Rattle.evaluation.specs.Bounds.{classLowers, classUppers};
-ghost use Rattle.planning.specs.Bounds.{pairBreach, classesFault, classesBounded};
+ghost use Rattle.planning.specs.Bounds.{pairBreach, classesBounded, lowerOfClasses, upperOfClasses};
 
 // The breach of the call, for slices of so many places.
 fn classes_breach(study: Study, lower: usize, upper: usize) -> u8
@@ -49,8 +48,8 @@ fn bound_classes(t: Study, lower: &mut [u64], upper: &mut [u64])
 // Bounds for the classes of a study, at the front of two slices, a place for each class. Refused by 16, 18, in this order.
 pub fn class_bounds(study: Study, lower: &mut [u64], upper: &mut [u64]) -> Outcome
     ensures answer { λ r. ⌜ r ≡ classesBounded study (now (lower .entry)) (now (upper .entry)) ⌝ }
-    ensures lower { λ r. ⌜ now (lower .exit) ≡ filled (classesFault study (now (lower .entry)) (now (upper .entry))) (classLowers (modelOf study)) (now (lower .entry)) ⌝ }
-    ensures upper { λ r. ⌜ now (upper .exit) ≡ filled (classesFault study (now (lower .entry)) (now (upper .entry))) (classUppers (modelOf study)) (now (upper .entry)) ⌝ }
+    ensures lower { λ r. ⌜ now (lower .exit) ≡ lowerOfClasses study (now (lower .entry)) (now (upper .entry)) ⌝ }
+    ensures upper { λ r. ⌜ now (upper .exit) ≡ upperOfClasses study (now (lower .entry)) (now (upper .entry)) ⌝ }
 {
     let breach = classes_breach(study, lower.len(), upper.len());
     if breach != 0 {

@@ -16,7 +16,7 @@ ghost use Rattle.model.specs.Model.{pathsOf};
 ghost use Rattle.soundness.specs.Sound.{Sound};
 ghost use Rattle.study_model.specs.Model.{modelOf};
 ghost use Rattle.evaluation.specs.Bounds.{pathLowers, pathUppers};
-ghost use Rattle.planning.specs.Bounds.{pairRoom, pathsBounded, pathsFault};
+ghost use Rattle.planning.specs.Bounds.{pairRoom, pathsBounded, lowerOfPaths, upperOfPaths};
 
 // Bounds for the paths of a sound study. Refused by 18.
 fn bound_paths(t: Study, lower: &mut [u64], upper: &mut [u64]) -> CountAnswer
@@ -41,8 +41,8 @@ fn bound_paths(t: Study, lower: &mut [u64], upper: &mut [u64]) -> CountAnswer
 // Bounds for the paths of a study, in the order of its list, at the front of two slices. Refused by 16, 18, in this order.
 pub fn path_bounds(study: Study, lower: &mut [u64], upper: &mut [u64]) -> CountAnswer
     ensures answer { λ r. ⌜ r ≡ pathsBounded study (now (lower .entry)) (now (upper .entry)) ⌝ }
-    ensures lower { λ r. ⌜ now (lower .exit) ≡ filled (pathsFault study (now (lower .entry)) (now (upper .entry))) (pathLowers (modelOf study)) (now (lower .entry)) ⌝ }
-    ensures upper { λ r. ⌜ now (upper .exit) ≡ filled (pathsFault study (now (lower .entry)) (now (upper .entry))) (pathUppers (modelOf study)) (now (upper .entry)) ⌝ }
+    ensures lower { λ r. ⌜ now (lower .exit) ≡ lowerOfPaths study (now (lower .entry)) (now (upper .entry)) ⌝ }
+    ensures upper { λ r. ⌜ now (upper .exit) ≡ upperOfPaths study (now (lower .entry)) (now (upper .entry)) ⌝ }
 {
     let unsound = unsound_fault(is_sound(study));
     if unsound != 0 {

@@ -6,7 +6,7 @@ use mathlib.Core.Logic.{⊎-elim}
 use native.Mathlib.Nat.{pos-of-ne-zero}
 use native.Mathlib.Omega.{arith}
 use lib.Dec.{leb, ltb, eqb}
-use borrow.Author.Tests.{leb-false, ltb-false, le-ltb, eqb-false, not-false}
+use borrow.Author.Tests.{leb-false, ltb-false, le-leb, lt-leb, le-ltb, eqb-false, not-false}
 use Rattle.units.specs.One.{one}
 use Rattle.rules.specs.Breach.{refuse}
 use Rattle.rules.specs.Limits.{fewestStates, mostStates, mostJointStates}
@@ -72,6 +72,14 @@ unused-none a b c d e1 e2 e3 e4 = rw (e1, e2, e3, e4)
 
 pub item-kept : (count item : ℕ) → itemFault count item ≡ 0 → item < count
 item-kept = above-kept 16
+
+pub item-none : (count item : ℕ) → item < count → itemFault count item ≡ 0
+unfolding refuse
+item-none count item h = rw (lt-leb count item h)
+
+pub item-missing : (count item : ℕ) → count ≤ item → itemFault count item ≡ 17
+unfolding refuse
+item-missing count item h = rw (le-leb count item h)
 
 pub size-kept : (most n : ℕ) → sizeFault most n ≡ 0 → n ≤ most
 size-kept = below-kept 13

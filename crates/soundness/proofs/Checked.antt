@@ -7,7 +7,7 @@ use mathlib.Core.List.{List}
 use native.Mathlib.Omega.{arith}
 use lib.ListN.{length, getD}
 use borrow.Author.Tests.{eqb-true, eq-eqb}
-use Rattle.rules.specs.Breach.{first, firstBreach}
+use Rattle.rules.specs.Breach.{refuse, first, firstBreach}
 use Rattle.rules.specs.Limits.{mostComponents, mostGates, mostLoads, mostTests, mostGateInputs}
 use Rattle.rules.specs.Table.{statesFault, noComponentFault, maskFault, aheadFault, unusedFault, unsoundFault}
 use Rattle.rules.proofs.Kept.{first-kept, first-none, list-kept, list-none, none-none, both-kept}
@@ -223,3 +223,7 @@ check-accepts t s =
 -- no breach of 16
 pub no-unsound : (t : Study) → unsoundFault (sound t) ≡ 0 → Sound t
 no-unsound t none = check-refuses t (sound-kept (sound t) none)
+
+pub none-unsound : (t : Study) → Sound t → unsoundFault (sound t) ≡ 0
+unfolding refuse
+none-unsound t s = rw (check-accepts t s)
