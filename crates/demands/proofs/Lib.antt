@@ -12,8 +12,8 @@ pub mod OneOf
 pub mod Opening
 pub mod Paths
 pub mod Reached
+pub mod RefusedOpening
 pub mod Refusals
 pub mod Those
 pub mod Unsound
 pub mod WorkedExamples
-pub mod Zero

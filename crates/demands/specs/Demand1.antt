@@ -1,7 +1,7 @@
 -- Demand 1, refusals: what is refused and what is not, over the definitions that the contracts of the public calls cite.
 use Prim.Native.Nat.{ℕ, _≤_}
 use mathlib.Core.Path.{_≡_}
-use mathlib.Core.Bool.{true, false}
+use mathlib.Core.Bool.{true}
 use mathlib.Core.List.{List, [], _∷_}
 use mathlib.Core.Logic.{_⊎_}
 use lib.ListN.{length, getD}
@@ -13,6 +13,7 @@ use Rattle.study.specs.declared.Study.{Study}
 use Rattle.study.specs.Zero.{zeroStudy}
 use Rattle.soundness.specs.Sound.{Sound}
 use Rattle.soundness.specs.Check.{sound}
+use Rattle.opening.specs.Opening.{opened}
 use Rattle.report_text.specs.Report.{reported, written}
 use Rattle.demands.specs.Calls.{Call, callTold, callBreaches, callValues, numbersBehind, studyAfter, Lent, callLent}
 use Rattle.demands.specs.Edits.{Edit, edit, changed, HasItem, Reached, after, tableOf, tableAfter, othersOf}
@@ -24,9 +25,10 @@ pub record CheckDecides : Type 0 where
   pub accepts : (t : Study) → Sound t → sound t ≡ true
   pub refuses : (t : Study) → sound t ≡ true → Sound t
 
--- What a refused opening returns is itself unsound.
-abbrev pub ZeroUnsound : Type 0
-ZeroUnsound = sound zeroStudy ≡ false
+-- A refused opening returns a study of zeros, which is itself unsound.
+pub record RefusedOpening : Type 0 where
+  pub zeros : (bytes : List ℕ) (n : ℕ) → opened bytes .outcome ≡ Refused n → opened bytes .study ≡ zeroStudy
+  pub unsound : Sound zeroStudy → ⊥
 
 -- An opening that is not refused returns a sound study.
 abbrev pub OpenedSound : Type 0
