@@ -1,7 +1,7 @@
 -- The bounds of paths, classes and loads enclose the exact probabilities: those of any good model do, and so do those that a call answered, since it
 -- answers only of a sound study, whose model is good, and fills the places with that model's bounds.
 use Prim.Native.Nat.{ℕ}
-use mathlib.Core.Path.{_≡_, sym, ap, _∙_}
+use mathlib.Core.Path.{_≡_, ap}
 use mathlib.Core.List.{[], _∷_}
 use native.Mathlib.Omega.{arith}
 use lib.Dec.{eqb}
@@ -22,8 +22,8 @@ use Rattle.study_model.specs.Model.{modelOf}
 use Rattle.study_model.proofs.Good.{sound-good}
 use Rattle.evaluation.specs.Bounds.{lowerOf, upperOf, pathLowers, pathUppers, classLowers, classUppers}
 use Rattle.planning.specs.Bounds.{pairBreach, lossOf}
-use Rattle.demands.specs.Calls
-use Rattle.demands.specs.Demand2.{LossWithin, PathsWithin, ClassesWithin, LossesWithin}
+use Rattle.demands.specs.Calls.{pathBounds as forPaths, classBounds as forClasses, loadBounds as forLoad}
+use Rattle.demands.specs.Demand2.{PathsWithin, ClassesWithin, LossesWithin}
 use Rattle.demands.specs.Demand2.{PathBoundsAnswered, ClassBoundsAnswered, LoadBoundsAnswered}
 use Rattle.demands.proofs.Finished.{finished}
 
@@ -62,7 +62,7 @@ uppers-long m = length-map (pathsOf m) (pathBound up (probabilityTable m) (compo
 pub path-bounds-answered : PathBoundsAnswered
 unfolding pairBreach
 path-bounds-answered t lower upper n answer i h =
-    let done = finished (Rattle.demands.specs.Calls.pathBounds lower upper) t (n ∷ []) (ap countTold answer) in
+    let done = finished (forPaths lower upper) t (n ∷ []) (ap countTold answer) in
     let m = modelOf t in
     let count : length (pathsOf m) ≡ n = cc in
     rw (
@@ -74,7 +74,7 @@ path-bounds-answered t lower upper n answer i h =
 pub class-bounds-answered : ClassBoundsAnswered
 unfolding pairBreach
 class-bounds-answered t lower upper answer c h =
-    let done = finished (Rattle.demands.specs.Calls.classBounds lower upper) t [] (ap outcomeTold answer) in
+    let done = finished (forClasses lower upper) t [] (ap outcomeTold answer) in
     let m = modelOf t in
     rw (
       filled-front _ (classLowers m) lower (done .none) c (omega (arith, length-tabulate (λ (c : ℕ). lowerOf m (λ (class : ℕ). eqb class c)) classPlaces)),
@@ -84,7 +84,7 @@ class-bounds-answered t lower upper answer c h =
 
 pub load-bounds-answered : LoadBoundsAnswered
 load-bounds-answered t j pair answer =
-    let done = finished (Rattle.demands.specs.Calls.loadBounds j) t (pairValues pair) (ap boundsTold answer) in
+    let done = finished (forLoad j) t (pairValues pair) (ap boundsTold answer) in
     let m = modelOf t in
     let lower : lossOf m j .lower ≡ pair .lower = cc in
     let upper : lossOf m j .upper ≡ pair .upper = cc in

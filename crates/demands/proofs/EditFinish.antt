@@ -3,14 +3,13 @@
 use Prim.Native.Nat.{ℕ, _<_}
 use mathlib.Core.Path.{_≡_, refl, sym, ap, subst, _∙_}
 use mathlib.Core.Bool.{false≢true}
-use mathlib.Core.List.{List, [], _∷_}
+use mathlib.Core.List.{[], _∷_}
 use native.Mathlib.Decide.{decLt}
 use native.Mathlib.Omega.{arith}
-use lib.ListN.{length, getD, set}
+use lib.ListN.{getD, set}
 use lib.Seq.{getD-set-same}
 use Rattle.rules.specs.Breach.{firstBreach}
-use Rattle.rules.specs.Limits.{mostCustomers, mostMinutes}
-use Rattle.rules.specs.Table.{unsoundFault, itemFault, sizeFault}
+use Rattle.rules.specs.Table.{unsoundFault, itemFault}
 use Rattle.rules.proofs.Kept.{list-none, none-none, front-kept, front-broken}
 use Rattle.rules.proofs.Rows.{item-none, item-missing}
 use Rattle.study.specs.declared.Component.{Component}

@@ -21,7 +21,7 @@ use Rattle.evaluation.specs.Bounds.{loadLowers, loadUppers}
 use Rattle.evaluation.specs.Figures.{modelFigures}
 use Rattle.evaluation.proofs.LossOrder.{lower-at, upper-at}
 use Rattle.planning.specs.Figures.{customersOf, figuresFault, figuresGiven}
-use Rattle.demands.specs.Calls
+use Rattle.demands.specs.Calls.{figures as forFigures}
 use Rattle.demands.specs.Demand2.{exactLost, FiguresEnclose, ModelFiguresEnclose, FiguresAnswered}
 use Rattle.demands.proofs.Bounds.{losses-within}
 use Rattle.demands.proofs.Finished.{finished}
@@ -45,7 +45,7 @@ model-figures-enclose m good customers =
 pub figures-answered : FiguresAnswered
 unfolding figuresGiven figuresFault
 figures-answered t figures answer =
-    let done = finished Rattle.demands.specs.Calls.figures t (figureValues figures) (ap figuresTold answer) in
+    let done = finished forFigures t (figureValues figures) (ap figuresTold answer) in
     let m = modelOf t in
     let given = answered-done Refused (figuresFault t) (Given (modelFigures m)) (done .none) in
     let same : modelFigures m ≡ figures = cc in

@@ -1,7 +1,7 @@
 -- Each list that a call answered: every joint state fits one path, paths ascend, and a component is blank exactly where its state changes no loss.
 -- What carries it: the buffer holds the paths of the study's model, which is good, and the paths of any good model do so.
-use Prim.Native.Nat.{ℕ, _<_}
-use mathlib.Core.Path.{_≡_, sym, ap, subst, _∙_}
+use Prim.Native.Nat.{ℕ}
+use mathlib.Core.Path.{_≡_, sym, subst}
 use mathlib.Core.List.{List, []}
 use native.Mathlib.Omega.{arith}
 use lib.ListN.{length, getD}

@@ -1,7 +1,5 @@
 -- The studies that the calls hand out are sound and have all their places: an opened one, and an edited one where the one before did.
 use Prim.Native.Nat.{ℕ, _<_}
-use mathlib.Core.Path.{_≡_}
-use mathlib.Core.Bool.{Bool, true}
 use native.Mathlib.Omega.{arith}
 use lib.ListN.{length, length-set}
 use Rattle.study.specs.declared.Study.{Study}
@@ -9,7 +7,7 @@ use Rattle.soundness.specs.Sound.{Sound}
 use Rattle.soundness.proofs.Ranges.{components-most, loads-most}
 use Rattle.opening.proofs.Opened.Study.{opened-sound}
 use Rattle.demands.specs.Demand1.{ReachedSound}
-use Rattle.demands.specs.Edits.{Edit, probabilities, customers, minutes, edit, changed, Shaped, Reached, opened, edited}
+use Rattle.demands.specs.Edits.{Edit, probabilities, customers, minutes, changed, Shaped, Reached, opened, edited}
 use Rattle.demands.proofs.Edited.{either, changed-sound}
 
 pub reached-sound : ReachedSound

@@ -2,7 +2,7 @@
 -- study, and an opened one is sound.
 use Prim.Native.Nat.{ℕ, _<_, _≤_}
 use mathlib.Core.Path.{_≡_, refl, sym, ap, subst, _∙_}
-use mathlib.Core.List.{List, [], _∷_, map}
+use mathlib.Core.List.{List, [], _∷_}
 use mathlib.Core.Option.{none, some}
 use lib.ListN.{length}
 use Rattle.lists.specs.Rows.{joined}
@@ -11,7 +11,7 @@ use Rattle.lists.specs.Tabulate.{tabulate}
 use Rattle.lists.proofs.Tabulated.{getD-tabulate, length-tabulate}
 use Rattle.units.specs.Rounding.{quotientDown, quotientUp}
 use Rattle.rules.specs.Breach.{refuse, outside, firstBreach}
-use Rattle.rules.specs.Table.{unsoundFault, roomFault, itemFault, customersFault}
+use Rattle.rules.specs.Table.{unsoundFault}
 use Rattle.rules.proofs.Kept.{list-none, none-none, front-kept, list-last}
 use Rattle.rules.proofs.Rows.{room-none, item-none}
 use Rattle.study.specs.declared.Study.{Study}
@@ -29,8 +29,7 @@ use Rattle.load_record.specs.Load.{lossGate, size, customers, minutes, loadFiel
 use Rattle.answers.specs.Answered.{answered}
 use Rattle.answers.specs.declared.bounds.BoundsAnswer.the-variants.{Bounds as Bounded, Refused as NoBounds}
 use Rattle.answers.specs.declared.counts.CountAnswer.the-variants.{Count, Refused as NoCount}
-use Rattle.answers.specs.declared.counts.Listing.the-variants.{Listed, Refused as NotListed}
-use Rattle.answers.specs.declared.figures.FiguresAnswer.the-variants.{Figures, Refused as NoFigures}
+use Rattle.answers.specs.declared.counts.Listing.the-variants.{Refused as NotListed}
 use Rattle.answers.specs.declared.outcome.Outcome.the-variants.{Done, Refused}
 use Rattle.answers.specs.declared.outcome.StudyAnswer.{StudyAnswer}
 use Rattle.answers.proofs.Answered.{answered-done, filled-done}
@@ -41,10 +40,10 @@ use Rattle.opening.specs.Opening.{count, componentAfter, componentRecord, recor
 use Rattle.opening.proofs.Opened.Study.{opened-sound}
 use Rattle.study_model.specs.Model.{modelOf}
 use Rattle.evaluation.specs.Bounds.{pathLowers, pathUppers, classLowers, classUppers, loadLowers, loadUppers}
-use Rattle.evaluation.specs.Figures.{figuresBy, modelFigures}
+use Rattle.evaluation.specs.Figures.{figuresBy}
 use Rattle.planning.specs.Bounds.{pairFault, pairBreach, pathsBounded, lowerOfPaths, upperOfPaths, classesBounded, lowerOfClasses, upperOfClasses}
 use Rattle.planning.specs.Bounds.{lossOf, lossFault, loadBounded}
-use Rattle.planning.specs.Figures.{customersOf, figuresFault, figuresGiven}
+use Rattle.planning.specs.Figures.{figuresFault, figuresGiven}
 use Rattle.planning.specs.Listing.{pathList, listFault, pathsListed, bufferListed}
 use Rattle.demands.specs.WorkedExamples.{Results, Example, votes, opens, listing, ListIs, PairIs, Gives, RowHolds, WorkedExamples}
 
