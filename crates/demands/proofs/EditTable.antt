@@ -32,7 +32,8 @@ table-breach (customers j n) t s = front-kept _ _ (none-unsound t s)
 table-breach (minutes j n) t s = front-kept _ _ (none-unsound t s)
 
 -- two tables of the same items whose columns agree
-same-table : (f g : Table) → f .components ≡ g .components → f .loads ≡ g .loads → ((i : ℕ) → f .states i ≡ g .states i) → ((i : ℕ) → f .p1 i ≡ g .p1 i) → ((i : ℕ) → f .p2 i ≡ g .p2 i) → ((i : ℕ) → f .p3 i ≡ g .p3 i)
+same-table : (f g : Table) → f .components ≡ g .components → f .loads ≡ g .loads → ((i : ℕ) → f .states i ≡ g .states i)
+    → ((i : ℕ) → f .p1 i ≡ g .p1 i) → ((i : ℕ) → f .p2 i ≡ g .p2 i) → ((i : ℕ) → f .p3 i ≡ g .p3 i)
     → ((j : ℕ) → f .customers j ≡ g .customers j) → ((j : ℕ) → f .minutes j ≡ g .minutes j) → f ≡ g
 same-table f g components loads states p1 p2 p3 c m =
     λ x.

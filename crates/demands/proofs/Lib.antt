@@ -14,6 +14,5 @@ pub mod Paths
 pub mod Reached
 pub mod RefusedOpening
 pub mod Refusals
-pub mod Those
 pub mod Unsound
 pub mod WorkedExamples

@@ -30,7 +30,7 @@ use Rattle.planning.specs.Listing.{bufferListed}
 use Rattle.demands.specs.Demand2.{isTrue, GatesAgree, LossGateTrue, TellsLosses, LostIff, ListedLosses}
 use Rattle.demands.specs.Listed.{pathsIn}
 use Rattle.demands.proofs.Paths.{one-path}
-use Rattle.demands.proofs.Those.{only-one}
+use Rattle.lists.proofs.Those.{only-one}
 
 -- ---- the truths of gates
 

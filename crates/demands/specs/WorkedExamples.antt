@@ -259,7 +259,8 @@ pub record ListIs (t : Study) (paths : List (List ℕ)) : Type 0 where
   pub written : (buffer : List ℕ) → length (joined paths) ≤ length buffer → bufferListed t buffer ≡ put buffer 0 (joined paths)
 
 -- a call for bounds, with any two slices that have the room, answers so and writes these
-pub record PairIs {A : Type 0} (answers : List ℕ → List ℕ → A) (left right : List ℕ → List ℕ → List ℕ) (answer : A) (need : ℕ) (lows highs : List ℕ) : Type 0 where
+pub record PairIs {A : Type 0} (answers : List ℕ → List ℕ → A) (left right : List ℕ → List ℕ → List ℕ) (answer : A) (need : ℕ) (lows highs : List ℕ)
+    : Type 0 where
   pub answered : (lower upper : List ℕ) → need ≤ length lower → need ≤ length upper → answers lower upper ≡ answer
   pub lower-written : (lower upper : List ℕ) → need ≤ length lower → need ≤ length upper → left lower upper ≡ put lower 0 lows
   pub upper-written : (lower upper : List ℕ) → need ≤ length lower → need ≤ length upper → right lower upper ≡ put upper 0 highs

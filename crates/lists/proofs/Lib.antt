@@ -17,5 +17,6 @@ pub mod SumOver
 pub mod Sums
 pub mod Tabulated
 pub mod Tests
+pub mod Those
 pub mod Turns
 pub mod Writing
