@@ -41,11 +41,10 @@ fn component_edit_fault(t: Study, i: usize, p1: u32, p2: u32, p3: u32) -> u8
     ensures { λ r. ⌜ r ≡ componentEditFault t i p1 p2 p3 ⌝ }
 {
     let c = component_at(t, i);
-    first_of_three(
-        unsound_fault(is_sound(t)),
-        item_fault(t.components, i),
-        probabilities_fault(c.states, p1, p2, p3),
-    )
+    let unsound = unsound_fault(is_sound(t));
+    let item = item_fault(t.components, i);
+    let probabilities = probabilities_fault(c.states, p1, p2, p3);
+    first_of_three(unsound, item, probabilities)
 }
 
 // Sets the probabilities of states 1 to 3 of a component. Refused by 16, 17, 5, 6, in this order.
@@ -62,11 +61,10 @@ pub fn set_probabilities(study: Study, component: usize, p1: u32, p2: u32, p3: u
 fn load_edit_fault(t: Study, j: usize, most: u32, n: u32) -> u8
     ensures { λ r. ⌜ r ≡ loadEditFault t j most n ⌝ }
 {
-    first_of_three(
-        unsound_fault(is_sound(t)),
-        item_fault(t.loads, j),
-        size_fault(most, n),
-    )
+    let unsound = unsound_fault(is_sound(t));
+    let item = item_fault(t.loads, j);
+    let size = size_fault(most, n);
+    first_of_three(unsound, item, size)
 }
 
 // Sets the customers of a load. Refused by 16, 17, 14, in this order.
