@@ -12,7 +12,8 @@ pub mod OneOf
 pub mod Opening
 pub mod Paths
 pub mod Reached
-pub mod RefusedOpening
 pub mod Refusals
+pub mod RefusedOpening
+pub mod SharedComponent
 pub mod Unsound
 pub mod WorkedExamples

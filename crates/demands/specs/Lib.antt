@@ -5,4 +5,5 @@ pub mod Demand2
 pub mod Demand3
 pub mod Edits
 pub mod Listed
+pub mod SharedComponent
 pub mod WorkedExamples
