@@ -1,10 +1,10 @@
--- `probability::totals::path_bounds` meets its contract. The bounds of the paths below k are written (`Bounding`); the paths left fall.
+-- `probability::path::path_bounds` meets its contract. The bounds of the paths below k are written (`Bounding`); the paths left fall.
 use native.Mathlib.Omega.{arith}
 use Rattle.probability.proofs.Boundable.{boundable-at}
 use Prim.Native.Nat.{_-_}
 use Rattle.probability.proofs.Bounded.{Bounding, bounding-start, bounding-room, bounding-more, bounding-done}
-use Rattle.probability.proofs.totals.path_bounds.Statement.{statement}
-use Rattle.probability.proofs.totals.path_bounds.Tie as tie
+use Rattle.probability.proofs.path.path_bounds.Statement.{statement}
+use Rattle.probability.proofs.path.path_bounds.Tie as tie
 
 abbrev Inv-loop : tie.InvT-loop
 Inv-loop rounding probabilities n list paths out₀ k₀ out k = Bounding rounding probabilities n list paths out₀ k out

@@ -1,11 +1,11 @@
--- `probability::totals::load_totals` meets its contract. The paths below k are added (`Loaded`); the paths left fall.
+-- `probability::loads::load_totals` meets its contract. The paths below k are added (`Loaded`); the paths left fall.
 use native.Mathlib.Omega.{arith}
 use Rattle.entries.proofs.Entries.{entry-in}
 use Rattle.probability.proofs.Boundable.{boundable-at}
 use Prim.Native.Nat.{_-_}
 use Rattle.probability.proofs.Loaded.{Loaded, loaded-start, loaded-most, loaded-more, loaded-done}
-use Rattle.probability.proofs.totals.load_totals.Statement.{statement}
-use Rattle.probability.proofs.totals.load_totals.Tie as tie
+use Rattle.probability.proofs.loads.load_totals.Statement.{statement}
+use Rattle.probability.proofs.loads.load_totals.Tie as tie
 
 abbrev Inv-loop : tie.InvT-loop
 Inv-loop rounding most probabilities n list paths totals₀ k₀ totals k = Loaded rounding most probabilities n list paths k totals

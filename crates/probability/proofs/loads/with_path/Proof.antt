@@ -1,4 +1,4 @@
--- `probability::totals::with_path` meets its contract. The totals of the loads below j are filled in (`Filling`).
+-- `probability::loads::with_path` meets its contract. The totals of the loads below j are filled in (`Filling`).
 use Prim.Native.Nat.{ℕ, _+_, _-_, min}
 use mathlib.Core.Path.{_≡_, sym, ap, subst, _∙_}
 use native.Mathlib.Omega.{arith}
@@ -10,8 +10,8 @@ use Rattle.lists.proofs.SumOver.{counted-most}
 use Rattle.rules.specs.Limits.{mostLoads}
 use Rattle.probability.specs.Totals.{withPath}
 use Rattle.probability.proofs.Loaded.{with-long, with-is}
-use Rattle.probability.proofs.totals.with_path.Statement.{statement}
-use Rattle.probability.proofs.totals.with_path.Tie as tie
+use Rattle.probability.proofs.loads.with_path.Statement.{statement}
+use Rattle.probability.proofs.loads.with_path.Tie as tie
 
 abbrev Inv-loop : tie.InvT-loop
 Inv-loop most class bound totals more₀ j₀ more j =

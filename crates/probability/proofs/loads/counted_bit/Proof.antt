@@ -1,11 +1,11 @@
--- `probability::totals::counted_bit` meets its contract: the lowest bit is the remainder by two.
+-- `probability::loads::counted_bit` meets its contract: the lowest bit is the remainder by two.
 use Prim.Native.Nat.{_/_, _^_}
 use mathlib.Core.Path.{_∙_}
 use lib.Bits.{and-mask}
 use Rattle.probability.proofs.Loaded.{bit-counted, bit-clear}
 use borrow.Author.Needs.{needs}
-use Rattle.probability.proofs.totals.counted_bit.Statement.{statement}
-use Rattle.probability.proofs.totals.counted_bit.Tie as tie
+use Rattle.probability.proofs.loads.counted_bit.Statement.{statement}
+use Rattle.probability.proofs.loads.counted_bit.Tie as tie
 
 returns : tie.Need-returns
 returns c =
