@@ -1,3 +1,4 @@
+pub mod BySums
 pub mod Enclosed
 pub mod Front
 pub mod Ordering

@@ -2,8 +2,9 @@
 use mathlib.Core.Path.{sym, _∙_}
 use native.Mathlib.Nat.{pos-of-ne-zero}
 use native.Mathlib.Omega.{arith}
+use Rattle.indices.proofs.BySums.{caidi-by-sums}
 use Rattle.indices.proofs.Ordering.{lower-most, loss-ordered}
-use Rattle.indices.proofs.Stated.{caidi-not-stated, caidi-stated}
+use Rattle.indices.proofs.Stated.{caidi-not-stated}
 use borrow.Author.Needs.{needs}
 use Rattle.indices.proofs.figures.caidi_of.Statement.{statement}
 use Rattle.indices.proofs.figures.caidi_of.Tie as tie
@@ -32,10 +33,8 @@ quotients-requires c κs =
 returns-2 : tie.Need-returns-2
 returns-2 c =
     let sums = c .before .before .before in
-    let low = sums .before .before .loss-sum .ensures .is in
-    let high = sums .loss-sum2 .ensures .is in
-    rw (caidi-stated _ _ _ (λ none. sums .before .if1 .left (low ∙ none)))
-    (cc (c .quotients .ensures, low, high, c .before .before .minutes-sum .ensures .is, c .before .minutes-sum2 .ensures .is))
+    caidi-by-sums _ _ _ (sums .before .before .loss-sum .ensures .is) (sums .loss-sum2 .ensures .is) (c .before .before .minutes-sum .ensures .is)
+    (c .before .minutes-sum2 .ensures .is) (sums .before .if1 .left) (c .quotients .ensures)
 
 pub caidi-of-spec : {M : Type 1} → statement M
 caidi-of-spec =

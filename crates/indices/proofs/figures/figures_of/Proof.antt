@@ -1,5 +1,5 @@
 -- `indices::figures::figures_of` meets its contract: the sums and the quotients are the callees'.
-use Rattle.indices.specs.Figures.{figuresOf}
+use Rattle.indices.proofs.BySums.{figures-by-sums}
 use Rattle.indices.proofs.Ordering.{lower-most}
 use borrow.Author.Needs.{needs}
 use Rattle.indices.proofs.figures.figures_of.Statement.{statement}
@@ -16,19 +16,12 @@ minutes-sum-requires c κs =
     (pre .0, (pre .1 .0, lower-most (pre .1 .1 .0)))
 
 returns : tie.Need-returns
-unfolding figuresOf
 returns c =
-    let sums = c .before .before .before .before .before in
-    cc (
-      c .caidi-of .ensures,
-      c .before .quotients2 .ensures,
-      c .before .before .minutes-sum2 .ensures .is,
-      c .before .before .before .minutes-sum .ensures .is,
-      c .before .before .before .before .quotients .ensures,
-      sums .loss-sum2 .ensures .is,
-      sums .before .loss-sum .ensures .is,
-      sums .before .before .customers-sum .ensures .is,
-    )
+    let minutes = c .before .before in
+    let sums = minutes .before .before .before in
+    figures-by-sums _ _ _ (sums .before .loss-sum .ensures .is) (sums .loss-sum2 .ensures .is) (minutes .before .minutes-sum .ensures .is)
+    (minutes .minutes-sum2 .ensures .is) (sums .before .before .customers-sum .ensures .is) (minutes .before .before .quotients .ensures)
+    (c .before .quotients2 .ensures) (c .caidi-of .ensures)
 
 pub figures-of-spec : {M : Type 1} → statement M
 figures-of-spec =
