@@ -17,9 +17,7 @@ use Rattle.units.specs.Within.{Within}
 use Rattle.units.proofs.Rounding.{up-most, down-exact, up-exact}
 use Rattle.units.proofs.Within.{within-one, within-first, within-expanded, within-product}
 use Rattle.entries.specs.Entries.{blankMark}
-use Rattle.paths.specs.Paths.{paths}
 use Rattle.lists.specs.Rows.{joined}
-use Rattle.rules.specs.Limits.{mostStates}
 use Rattle.model.specs.Good.{Counted, StateProbabilities}
 use Rattle.model.specs.Model.{classesOf, pathsOf, probabilityTable}
 use Rattle.model.proofs.Classes.{good-block}

@@ -1,13 +1,13 @@
 -- Sums over those paths whose class is kept enclose the exact probability of the joint states whose class is: each joint state fits one path only,
 -- which bears its class, so the exact probability is the sum of those of the paths that are kept, and each of them is enclosed.
-use Prim.Native.Nat.{ℕ, suc, _+_, _^_}
-use mathlib.Core.Path.{_≡_, refl, sym, ap, subst, _∙_}
+use Prim.Native.Nat.{ℕ, suc, _^_}
+use mathlib.Core.Path.{_≡_, sym, ap, subst, _∙_}
 use mathlib.Core.Bool.{Bool, true, false}
 use mathlib.Core.List.{List, [], _∷_}
 use native.Mathlib.Nat.{add-zero}
 use native.Mathlib.Omega.{arith}
-use lib.ListN.{length, getD}
-use Rattle.lists.specs.Counting.{counted, those, sumOver}
+use lib.ListN.{getD}
+use Rattle.lists.specs.Counting.{counted, sumOver}
 use Rattle.lists.proofs.Elements.{Every}
 use Rattle.lists.proofs.SumOver.{sum-over-alike, sum-over-counted, sum-over-swapped, sum-over-those}
 use Rattle.units.specs.One.{one}
@@ -17,12 +17,12 @@ use Rattle.units.proofs.Within.{within-none, within-sum, within-cap}
 use Rattle.joint_states.specs.JointStates.{JointState, jointStates}
 use Rattle.joint_states.proofs.Numbered.{with-number, length-jointStates, numbered}
 use Rattle.entries.specs.Entries.{classBorne}
-use Rattle.paths.specs.Words.{fits, fitting}
+use Rattle.paths.specs.Words.{fits}
 use Rattle.model.specs.Good.{Good}
 use Rattle.model.specs.Model.{Model, components, pathsOf, probabilityTable}
 use Rattle.model.proofs.Paths.{one-path}
-use Rattle.probability.specs.Bounds.{total, pathBound}
-use Rattle.probability.specs.Exact.{weight, exact}
+use Rattle.probability.specs.Bounds.{pathBound}
+use Rattle.probability.specs.Exact.{weight}
 use Rattle.probability.proofs.TotalTerms.{total-terms}
 use Rattle.accuracy.specs.Accuracy.{exactOf, pathDistance, totalDistance, TotalWithin}
 use Rattle.accuracy.proofs.Exact.{exact-terms}

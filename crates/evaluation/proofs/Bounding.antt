@@ -1,8 +1,7 @@
 -- Slices that hold what a good model is worked out of can be bounded, and their entries are the model's paths.
 use Prim.Native.Nat.{ℕ, _≤_}
-use mathlib.Core.Path.{_≡_, refl, sym, ap, subst, _∙_}
+use mathlib.Core.Path.{_≡_, sym, ap, subst, _∙_}
 use mathlib.Core.List.{List}
-use native.Mathlib.Omega.{arith}
 use lib.ListN.{length}
 use Rattle.rules.specs.Limits.{mostJointStates}
 use Rattle.entries.specs.Entries.{entriesOf}

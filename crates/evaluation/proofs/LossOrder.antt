@@ -1,7 +1,7 @@
 -- The upper bounds for the losses of a good model's loads are at most one, and no lower bound is above its upper one. What carries the second: both
 -- enclose one exact probability.
 use Prim.Native.Nat.{ℕ, _<_, _≤_}
-use mathlib.Core.Path.{_≡_, refl, ap, subst, sym, _∙_}
+use mathlib.Core.Path.{_≡_, _∙_}
 use mathlib.Core.List.{List}
 use native.Mathlib.Nat.{one-le-pow, min-le-left, le-trans, le-of-mul-le-mul-right}
 use native.Mathlib.Omega.{arith}
@@ -18,7 +18,7 @@ use Rattle.model.specs.Model.{Model, components, pathsOf, probabilityTable}
 use Rattle.probability.specs.Bounds.{total}
 use Rattle.probability.specs.Totals.{lowerLoads, upperLoads}
 use Rattle.accuracy.proofs.Totals.{total-within}
-use Rattle.indices.specs.Losses.{AtMostOne, LossBounds}
+use Rattle.indices.specs.Losses.{LossBounds}
 use Rattle.evaluation.specs.Bounds.{lowerOf, upperOf, loadLowers, loadUppers}
 use Rattle.evaluation.specs.Losses.{LossesOf}
 use Rattle.evaluation.proofs.Bounding.{held-values}

@@ -1,9 +1,9 @@
 -- The classes of a good model are a block, which has the class of each joint state at its number.
 use Prim.Native.Nat.{ℕ, _<_}
-use mathlib.Core.Path.{_≡_, refl, ap, _∙_}
+use mathlib.Core.Path.{_≡_, ap, _∙_}
 use mathlib.Core.List.{List, []}
 use native.Mathlib.Omega.{arith}
-use lib.ListN.{length, getD, length-map}
+use lib.ListN.{length, length-map}
 use Rattle.lists.specs.Product.{product}
 use Rattle.lists.proofs.Maps.{getD-map-inside}
 use Rattle.joint_states.specs.JointStates.{JointState, jointStates, numberOf}

@@ -1,6 +1,6 @@
 -- The list of a good model: what it needs, that the longest list has room for it, and that it stands in a buffer entry by entry.
 use Prim.Native.Nat.{ℕ, _*_, _≤_}
-use mathlib.Core.Path.{_≡_, refl, _∙_}
+use mathlib.Core.Path.{_≡_}
 use mathlib.Core.List.{List, []}
 use native.Mathlib.Omega.{arith}
 use lib.ListN.{length}

@@ -1,11 +1,11 @@
 -- What holds of the paths of any good model. What carries it: its classes are a block, and the paths of any block do so.
-use Prim.Native.Nat.{ℕ, _<_}
-use mathlib.Core.Path.{_≡_, refl, sym, ap, subst, _∙_}
+use Prim.Native.Nat.{ℕ}
+use mathlib.Core.Path.{_≡_, sym, ap, subst, _∙_}
 use mathlib.Core.List.{List, []}
-use lib.ListN.{length, getD}
+use lib.ListN.{getD}
 use lib.Seq.{ext-getD}
 use Rattle.lists.specs.Product.{product}
-use Rattle.joint_states.specs.JointStates.{JointState, numberOf}
+use Rattle.joint_states.specs.JointStates.{JointState}
 use Rattle.joint_states.proofs.Numbered.{with-number}
 use Rattle.paths.specs.Blocks.{Block, classAt}
 use Rattle.paths.specs.Paths.{paths}

@@ -6,7 +6,6 @@ use mathlib.Core.List.{List, _∷_, map, append-nil}
 use native.Mathlib.Omega.{arith}
 use Rattle.lists.specs.Product.{product}
 use Rattle.joint_states.specs.JointStates.{divided}
-use Rattle.entries.specs.Entries.{blankMark}
 use Rattle.paths.specs.Paths.{part, isBlank, rowsAt, paths}
 use Rattle.paths.specs.Ways.{mark, ways, branches}
 

@@ -1,17 +1,17 @@
 -- The check for 16 decides soundness: no breach is found exactly when every rule of `Sound` is kept. What carries it: the first breach of a
 -- list is none exactly when each is none, and so it is for the places of a kind (`PlacesKept`).
-use Prim.Native.Nat.{ℕ, _+_, _<_, _≤_}
+use Prim.Native.Nat.{ℕ, _<_, _≤_}
 use mathlib.Core.Path.{_≡_, refl, sym, subst}
 use mathlib.Core.Bool.{true}
 use mathlib.Core.List.{List}
 use native.Mathlib.Omega.{arith}
 use lib.ListN.{length, getD}
 use borrow.Author.Tests.{eqb-true, eq-eqb}
-use Rattle.rules.specs.Breach.{refuse, first, firstBreach}
+use Rattle.rules.specs.Breach.{refuse}
 use Rattle.rules.specs.Limits.{mostComponents, mostGates, mostLoads, mostTests, mostGateInputs}
-use Rattle.rules.specs.Table.{statesFault, noComponentFault, maskFault, aheadFault, unusedFault, unsoundFault}
+use Rattle.rules.specs.Table.{statesFault, noComponentFault, maskFault, aheadFault, unsoundFault}
 use Rattle.rules.proofs.Kept.{first-kept, first-none, list-kept, list-none, none-none, both-kept}
-use Rattle.rules.proofs.Firsts.{PlacesKept, places-kept, places-none}
+use Rattle.rules.proofs.Firsts.{places-kept, places-none}
 use Rattle.rules.proofs.Rows.{count-kept, input-count-kept, sound-kept, unused-fields, unused-none}
 use Rattle.study.specs.declared.Component.{Component}
 use Rattle.study.specs.declared.Gate.{Gate}

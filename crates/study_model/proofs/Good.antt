@@ -5,17 +5,14 @@ use mathlib.Core.Path.{_≡_, refl, sym, ap, subst, _∙_}
 use mathlib.Core.List.{List, []}
 use native.Mathlib.Nat.{min-le-left}
 use native.Mathlib.Omega.{arith}
-use lib.Dec.{ltb}
 use lib.ListN.{length, getD, take, length-take, length-map}
 use lib.Seq.{getD-take}
-use borrow.Author.Tests.{ltb-false}
 use Rattle.lists.specs.Counting.{sum}
 use Rattle.lists.proofs.Maps.{getD-map-inside}
 use Rattle.units.specs.One.{one}
 use Rattle.rules.specs.Limits.{fewestStates, mostStates, mostCustomers, mostMinutes}
 use Rattle.rules.proofs.Rows.{lacked-kept, size-kept}
 use Rattle.study.specs.declared.Component.{Component}
-use Rattle.study.specs.declared.Load.{Load}
 use Rattle.study.specs.declared.Study.{Study}
 use Rattle.study.specs.Joint.{states, stateCounts}
 use Rattle.study.specs.Places.{componentAt, loadAt}

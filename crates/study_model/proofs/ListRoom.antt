@@ -1,10 +1,10 @@
 -- The list of a sound study: its classes are listable, and a buffer with room for any list takes it.
 use Prim.Native.Nat.{ℕ, _≤_}
-use mathlib.Core.Path.{_≡_, refl, sym, ap, subst, _∙_}
+use mathlib.Core.Path.{_≡_, refl, ap, _∙_}
 use mathlib.Core.List.{List}
 use native.Mathlib.Omega.{arith}
 use lib.ListN.{length, take}
-use Rattle.lists.specs.Rows.{put, joined}
+use Rattle.lists.specs.Rows.{joined}
 use Rattle.lists.specs.Product.{product}
 use Rattle.rules.specs.Limits.{mostJointStates}
 use Rattle.rules.specs.Table.{roomFault}

@@ -1,9 +1,7 @@
 -- `planning::classes::bound_classes` meets its contract: the slices hold what the study's model is worked out of.
-use mathlib.Core.Path.{_≡_, ap, _∙_}
-use lib.ListN.{length}
+use mathlib.Core.Path.{ap, _∙_}
 use denote.Ref.{now}
 use Rattle.lists.specs.Rows.{put}
-use Rattle.rules.specs.Limits.{mostComponents, mostStates}
 use Rattle.model.specs.Held.{HeldOf}
 use Rattle.probability.specs.Totals.{lowerClasses, upperClasses}
 use Rattle.study_model.specs.Model.{modelOf}

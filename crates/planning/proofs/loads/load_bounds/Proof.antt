@@ -4,7 +4,7 @@ use mathlib.Core.Path.{sym, _∙_}
 use native.Mathlib.Omega.{arith}
 use Rattle.rules.specs.Limits.{mostLoads}
 use Rattle.soundness.proofs.Ranges.{loads-most}
-use Rattle.answers.specs.declared.bounds.BoundsAnswer.the-variants.{Bounds, Refused}
+use Rattle.answers.specs.declared.bounds.BoundsAnswer.the-variants.{Refused}
 use Rattle.answers.proofs.Answered.{answered-done, answered-refused}
 use Rattle.planning.specs.Bounds.{loadBounded}
 use Rattle.planning.specs.Losses.{HasLoad}

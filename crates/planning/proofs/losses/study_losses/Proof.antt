@@ -1,5 +1,4 @@
 -- `planning::losses::study_losses` meets its contract: the slices hold what the study's model is worked out of.
-use mathlib.Core.Path.{_≡_}
 use denote.Ref.{now}
 use Rattle.model.specs.Held.{HeldOf}
 use Rattle.study_model.specs.Model.{modelOf}

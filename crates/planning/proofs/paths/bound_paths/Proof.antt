@@ -4,7 +4,6 @@ use mathlib.Core.Path.{_≡_, sym, ap, _∙_}
 use lib.ListN.{length}
 use denote.Ref.{now}
 use Rattle.lists.specs.Rows.{put}
-use Rattle.rules.specs.Limits.{mostComponents, mostStates}
 use Rattle.answers.specs.declared.counts.CountAnswer.the-variants.{Count, Refused}
 use Rattle.answers.proofs.Answered.{answered-done, answered-refused, filled-done, filled-refused}
 use Rattle.model.specs.Held.{HeldOf}

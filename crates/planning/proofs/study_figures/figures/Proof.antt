@@ -1,5 +1,5 @@
 -- `planning::study_figures::figures` meets its contract: 16 decides where it stands, and otherwise whether there are customers.
-use mathlib.Core.Path.{sym, _∙_}
+use mathlib.Core.Path.{sym}
 use Rattle.soundness.specs.Sound.{Sound}
 use Rattle.soundness.proofs.Ranges.{loads-most}
 use Rattle.answers.specs.declared.figures.FiguresAnswer.the-variants.{Refused}
