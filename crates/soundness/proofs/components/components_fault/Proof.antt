@@ -1,12 +1,16 @@
 -- `soundness::components::components_fault` meets its contract. Each turn judges one place, after the first breach so far (`FirstLeft`); the places left fall.
 use Prim.Native.Nat.{ℕ, _-_}
+use mathlib.Core.Path.{_≡_}
 use native.Mathlib.Omega.{arith}
 use lib.ListN.{getD}
 use borrow.Author.Needs.{needs}
+use Rattle.rules.specs.Breach.{first, inUse}
 use Rattle.rules.specs.Limits.{mostComponents}
+use Rattle.rules.specs.Table.{statesFault, unusedFault}
 use Rattle.rules.proofs.Firsts.{FirstLeft, first-start, first-more, first-done}
+use Rattle.study.specs.declared.Component.{Component}
 use Rattle.study.specs.Zero.{zeroComponent}
-use Rattle.soundness.specs.Check.{componentPlaceFault, componentFault, unusedComponentFault, componentsFault}
+use Rattle.soundness.specs.Check.{probabilitiesFault, componentPlaceFault, componentFault, unusedComponentFault, componentsFault}
 use Rattle.soundness.proofs.components.components_fault.Statement.{statement}
 use Rattle.soundness.proofs.components.components_fault.Tie as tie
 
@@ -28,12 +32,23 @@ add-i c = omega arith
 loop-less : tie.Need-loop-less Inv-loop μ-loop
 loop-less c = omega arith
 
-loop-again : tie.Need-loop-again Inv-loop μ-loop
+-- the breach of a place by the steps of a turn
+place-judged : {fault used unused states own : ℕ} (n i : ℕ) (c : Component) → fault ≡ inUse n i used unused → used ≡ first states own
+    → states ≡ statesFault (c .states) → own ≡ probabilitiesFault (c .states) (c .p1) (c .p2) (c .p3)
+    → unused ≡ unusedFault (c .states) (c .p1) (c .p2) (c .p3) → fault ≡ componentPlaceFault n i c
 unfolding componentPlaceFault componentFault unusedComponentFault
+place-judged n i c e is-used is-states is-own is-unused = rw (← is-states, ← is-own, ← is-used, ← is-unused) e
+
+loop-again : tie.Need-loop-again Inv-loop μ-loop
 loop-again c =
-    let used = c .before .before .before .before in
-    let turn = used .before .before .before .before in
-    first-more (turn .before .loop .inv) (turn .loop-test .taken) (cc) (c .first2 .ensures)
+    let unused = c .before .before in
+    let used = unused .before .before in
+    let states = used .before .before in
+    let turn = states .before .before in
+    let judged =
+    place-judged _ _ _ (c .before .in-use .ensures) (used .first .ensures) (states .states-fault .ensures) (used .before .probabilities-fault .ensures)
+    (unused .unused-fault .ensures) in
+    first-more (turn .before .loop .inv) (turn .loop-test .taken) judged (c .first2 .ensures)
 
 returns : tie.Need-returns Inv-loop μ-loop
 unfolding componentsFault
