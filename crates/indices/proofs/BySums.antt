@@ -15,13 +15,16 @@ use Rattle.indices.proofs.Stated.{caidi-stated}
 abbrev quotients : ℕ → ℕ → ℕ → ℕ → Enclosure
 quotients low lowDivisor high highDivisor = record { lower = quotientDown low lowDivisor; upper = quotientUp high highDivisor }
 
+-- lower and upper sums of P × C and of P × C × M
 module _ {lossLow lossHigh minutesLow minutesHigh : ℕ} (lower upper : List ℕ) (loads : List Load)
     (is-loss-low : lossLow ≡ lossSum lower loads) (is-loss-high : lossHigh ≡ lossSum upper loads)
     (is-minutes-low : minutesLow ≡ minutesSum lower loads) (is-minutes-high : minutesHigh ≡ minutesSum upper loads) where
+  -- CAIDI, where it is stated
   pub caidi-by-sums : {bounds : Enclosure} → (lossLow ≡ 0 → ⊥) → bounds ≡ quotients minutesLow lossHigh minutesHigh lossLow
       → Bounds bounds ≡ caidi lower upper loads
   caidi-by-sums some is = rw (caidi-stated lower upper loads (λ none. some (is-loss-low ∙ none))) (cc)
 
+  -- all three
   pub figures-by-sums : {customers : ℕ} {saifi saidi : Enclosure} {c : Caidi} → customers ≡ customersSum loads
       → saifi ≡ quotients lossLow customers lossHigh customers → saidi ≡ quotients minutesLow customers minutesHigh customers → c ≡ caidi lower upper loads
       → _≡_ {A = Figures} (record { saifi = saifi; saidi = saidi; caidi = c }) (figuresOf lower upper loads)
