@@ -1,0 +1,31 @@
+-- The calls for classes and losses: bounds for the classes and for a load of the study that an image holds, and the loads that a class loses.
+use Prim.Native.Nat.{ℕ}
+use mathlib.Core.Path.{_≡_}
+use mathlib.Core.List.{List}
+use lib.IntN.{ℤ, pos}
+use Rattle.answers.specs.Told.{Told, outcomeTold, boundsTold}
+use Rattle.fault_tree.specs.Classes.{loadsLost}
+use Rattle.study_model.specs.Model.{modelOf}
+use Rattle.evaluation.specs.Bounds.{classLowers, classUppers}
+use Rattle.planning.specs.Bounds.{classesFault, classesBounded, loadBounded}
+use Rattle.study_image.specs.Image.{studyIn}
+use Rattle.export_answers.specs.Answers.{answeredBy, done, takenBy, FillsPair}
+
+-- the call for the classes
+abbrev pub BoundsClasses : List ℕ → List ℕ → List ℕ → List ℕ → List ℕ → ℤ → Type 0
+BoundsClasses study lower upper =
+    FillsPair (answeredBy done (outcomeTold (classesBounded (studyIn study) lower upper))) (classesFault (studyIn study) lower upper)
+    (classLowers (modelOf (studyIn study))) (classUppers (modelOf (studyIn study))) lower upper
+
+-- the call for a load: what its answer tells, in two numbers
+pub record TakesPair (told : Told) (lower-was upper-was lower upper : ℕ) (answer : ℤ) : Type 0 where
+  pub answered : answer ≡ answeredBy done told
+  pub lower-left : lower ≡ takenBy told 0 lower-was
+  pub upper-left : upper ≡ takenBy told 1 upper-was
+
+abbrev pub BoundsLoad : List ℕ → ℕ → ℕ → ℕ → ℕ → ℕ → ℤ → Type 0
+BoundsLoad study load = TakesPair (boundsTold (loadBounded (studyIn study) load))
+
+-- the call for the loads of a class
+abbrev pub CountsLost : ℕ → ℤ → Type 0
+CountsLost class answer = answer ≡ pos (loadsLost class)

@@ -1,0 +1,23 @@
+-- The calls for the paths of the study that an image holds: their list, and bounds for each.
+use mathlib.Core.Path.{_≡_}
+use mathlib.Core.List.{List}
+use Prim.Native.Nat.{ℕ}
+use lib.IntN.{ℤ}
+use Rattle.answers.specs.Told.{listingTold, countTold}
+use Rattle.study_model.specs.Model.{modelOf}
+use Rattle.evaluation.specs.Bounds.{pathLowers, pathUppers}
+use Rattle.planning.specs.Bounds.{pathsFault, pathsBounded}
+use Rattle.planning.specs.Listing.{pathsListed, bufferListed}
+use Rattle.study_image.specs.Image.{studyIn}
+use Rattle.export_answers.specs.Answers.{answeredBy, count, FillsPair}
+
+-- the call for the list: what it answers, and what it leaves of the buffer
+pub record ListsPaths (study was buffer : List ℕ) (answer : ℤ) : Type 0 where
+  pub answered : answer ≡ answeredBy count (listingTold (pathsListed (studyIn study) was))
+  pub listed : buffer ≡ bufferListed (studyIn study) was
+
+-- the call for bounds
+abbrev pub BoundsPaths : List ℕ → List ℕ → List ℕ → List ℕ → List ℕ → ℤ → Type 0
+BoundsPaths study lower upper =
+    FillsPair (answeredBy count (countTold (pathsBounded (studyIn study) lower upper))) (pathsFault (studyIn study) lower upper)
+    (pathLowers (modelOf (studyIn study))) (pathUppers (modelOf (studyIn study))) lower upper

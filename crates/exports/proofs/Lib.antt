@@ -1,3 +1,0 @@
-pub mod Figured
-pub mod Kept
-pub mod Signed

@@ -1,0 +1,31 @@
+// The classes of an opened study, and the losses of its loads.
+ghost use Rattle.export_losses.specs.Losses.{BoundsClasses, BoundsLoad, CountsLost};
+
+// Bounds for the classes of a study, at places 0 to 255 of two slices. Refused by 16, 18, in this order.
+#[no_mangle]
+pub extern "C" fn grid_class_bounds(study: &[u8], lower: &mut [u64], upper: &mut [u64]) -> i64
+    ensures { λ r. ⌜ BoundsClasses (now (study .entry)) (now (lower .entry)) (now (upper .entry)) (now (lower .exit)) (now (upper .exit)) r ⌝ }
+{
+    export_losses::class_bounds(study, lower, upper)
+}
+
+// Bounds for the loss of a load, in two numbers. Refused by 16, 17, in this order.
+#[no_mangle]
+pub extern "C" fn grid_load_bounds(
+    study: &[u8],
+    load: usize,
+    lower: &mut u64,
+    upper: &mut u64,
+) -> i64
+    ensures { λ r. ⌜ BoundsLoad (now (study .entry)) load (now (lower .entry)) (now (upper .entry)) (now (lower .exit)) (now (upper .exit)) r ⌝ }
+{
+    export_losses::load_bounds(study, load, lower, upper)
+}
+
+// How many loads are lost in a class.
+#[no_mangle]
+pub extern "C" fn grid_loads_lost(class: u8) -> i64
+    ensures { λ r. ⌜ CountsLost class r ⌝ }
+{
+    export_losses::loads_lost(class)
+}

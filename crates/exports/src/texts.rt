@@ -1,0 +1,10 @@
+// Texts.
+ghost use Rattle.export_texts.specs.Texts.{Reports};
+
+// Writes the report of a study's bytes at the front of a buffer; answers how many bytes it has. Refused by 18.
+#[no_mangle]
+pub extern "C" fn grid_report(bytes: &[u8], text: &mut [u8]) -> i64
+    ensures { λ r. ⌜ Reports (now (bytes .entry)) (now (text .entry)) (now (text .exit)) r ⌝ }
+{
+    export_texts::report(bytes, text)
+}
