@@ -18,6 +18,9 @@
 /* Room for any report. */
 #define GRID_REPORT_BYTES 180224
 
+/* Room for the word of any refusal. */
+#define GRID_WORD_BYTES 12
+
 /* The places that class bounds need in each slice. */
 #define GRID_CLASS_PLACES 256
 
@@ -63,6 +66,9 @@ int64_t grid_loads_lost(uint8_t class_);
 /* Writes the report of the bytes of a study; a study that does not open has a report of one line. Answers its number of bytes.
  * Refused by 18 alone. */
 int64_t grid_report(const uint8_t *bytes, size_t bytes_len, uint8_t *text, size_t text_len);
+
+/* Writes the word of a refusal, with no 0 behind it. Answers its number of bytes: 0 for a number that the table lacks. Refused by 18 alone. */
+int64_t grid_refusal_word(uint8_t number, uint8_t *text, size_t text_len);
 
 #ifdef __cplusplus
 }

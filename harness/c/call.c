@@ -1,4 +1,4 @@
-/* Calls the library from C: opens a study of two components, prints its SAIFI, and what a study that ends too early is refused by. */
+/* Calls the library from C: opens a study of two components, prints its SAIFI, and what an edit and a study are refused by. */
 #include "grid.h"
 
 #include <inttypes.h>
@@ -13,6 +13,15 @@ static const uint8_t bytes[] = {
     7, 0, 100, 0, 0, 0, 60, 0, 0, 0,             /* load 0 */
 };
 
+/* Prints what an answer below 0 means, as "REFUSED 6 over one". */
+static void print_refusal(int64_t answer)
+{
+    uint8_t word[GRID_WORD_BYTES];
+    int64_t size = grid_refusal_word((uint8_t)-answer, word, sizeof word);
+
+    printf("REFUSED %" PRId64 " %.*s\n", -answer, (int)size, (const char *)word);
+}
+
 int main(void)
 {
     uint8_t study[GRID_STUDY_BYTES];
@@ -23,6 +32,7 @@ int main(void)
     if (grid_figures(study, sizeof study, figures, GRID_FIGURE_PLACES) != 3)
         return 1;
     printf("SAIFI %" PRIu64 " %" PRIu64 "\n", figures[0], figures[1]);
-    printf("REFUSED %" PRId64 "\n", -grid_open(bytes, sizeof bytes - 1, study, sizeof study));
+    print_refusal(grid_set_probabilities(study, sizeof study, 0, 1000000001, 0, 0));
+    print_refusal(grid_open(bytes, sizeof bytes - 1, study, sizeof study));
     return 0;
 }

@@ -45,6 +45,7 @@ extern "C" {
     fn grid_figures(study: *const u8, size: usize, figures: *mut u64, room: usize) -> i64;
     fn grid_loads_lost(class: u8) -> i64;
     fn grid_report(bytes: *const u8, size: usize, text: *mut u8, room: usize) -> i64;
+    fn grid_refusal_word(number: u8, text: *mut u8, room: usize) -> i64;
 }
 
 /// The library answers a count or 0, and a refusal as its number below 0.
@@ -143,4 +144,9 @@ pub fn loads_lost(class: u8) -> Answer<usize> {
 /// Writes the report of a study's bytes, and answers its length. Refused by 18.
 pub fn report(bytes: &[u8], text: &mut [u8]) -> Answer<usize> {
     answer(unsafe { grid_report(bytes.as_ptr(), bytes.len(), text.as_mut_ptr(), text.len()) })
+}
+
+/// Writes the word of a refusal, and answers its length, 0 for a number that the table lacks. Refused by 18.
+pub fn refusal_word(number: u8, text: &mut [u8]) -> Answer<usize> {
+    answer(unsafe { grid_refusal_word(number, text.as_mut_ptr(), text.len()) })
 }

@@ -109,7 +109,7 @@ fn held(bytes: &[u8], value: u8) -> u64
 }
 
 // Shows how many of the bytes hold a value, and how many do not, on a line.
-fn show_held(bytes: &[u8], value: u8) {
+pub fn show_held(bytes: &[u8], value: u8) {
     let kept = held(bytes, value);
     numbers::two(kept, bytes.len() as u64 - kept);
 }

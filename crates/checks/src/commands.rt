@@ -24,11 +24,15 @@
 //     i                           the figures of the current study. One line: the refusal, 0 for none. Unless refused, a line each for SAIFI,
 //                                 SAIDI and CAIDI: the lower and the upper bound, and an empty line where CAIDI is not stated
 //     n CLASS                     the number of loads lost in a class
+//     w NUMBER SIZE FILL          asks for the word of a refusal in so many bytes that all hold FILL. One line: the refusal, 0 for none, and the
+//                                 number of bytes. One line: the word. One line: how many of the bytes behind the word hold FILL, and how many
+//                                 do not
 //
 // P1, P2, P3, N and VALUE have four bytes, lowest byte first, SIZE, LOWER and UPPER have two, and the others one. A byte that is missing counts as 0. Any
 // other letter does nothing.
 use crate::filled::bound;
 use crate::filled::list;
+use crate::filled::word;
 use crate::told::bound_load;
 use crate::told::figures;
 use check_tools::alter::altered;
@@ -116,6 +120,15 @@ fn bound_sized(bytes: &[u8], study: Study, classes: bool) {
     bound(study, sizes % 65536, sizes / 65536, classes);
 }
 
+// Asks for the word of a refusal in a buffer of the size that the command asks for.
+fn word_sized(bytes: &[u8]) {
+    word(
+        byte_at(bytes, 0),
+        number_at(bytes, 1) as usize % 65536,
+        byte_at(bytes, 3),
+    );
+}
+
 // Obeys a command that leaves the current study as it is.
 fn look(letter: u8, bytes: &[u8], study: Study) {
     match letter {
@@ -128,6 +141,7 @@ fn look(letter: u8, bytes: &[u8], study: Study) {
         b'v' => bound_load(study, byte_at(bytes, 0) as usize),
         b'i' => figures(study),
         b'n' => numbers::number(planning::loads_lost(byte_at(bytes, 0)) as u64, true),
+        b'w' => word_sized(bytes),
         _ => {}
     }
 }

@@ -5,6 +5,7 @@ use check_tools::listing::show_listing;
 use check_tools::places::front_count;
 use check_tools::places::show_filled;
 use check_tools::places::untouched_places;
+use check_tools::texts::show_text;
 use planning::CountAnswer;
 use planning::Listing;
 use planning::Outcome;
@@ -12,18 +13,18 @@ use study::Study;
 ghost use Prim.Native.Nat.{_≤_};
 ghost use lib.ListN.{length};
 
-// The refusal, 0 for none, and how many paths or classes were written, 0 where refused.
+// The refusal, 0 for none, and how many paths, classes or bytes were written, 0 where refused.
 struct Filled {
     refusal: u8,
     count: u32,
 }
 
-// What a call for the bounds of paths answers.
-fn paths_bounded(answer: CountAnswer) -> Filled {
+// What a call that counts answers.
+fn counted(answer: CountAnswer) -> Filled {
     match answer {
-        CountAnswer::Count(paths) => Filled {
+        CountAnswer::Count(number) => Filled {
             refusal: 0,
-            count: paths,
+            count: number,
         },
         CountAnswer::Refused(number) => Filled {
             refusal: number,
@@ -66,7 +67,7 @@ fn ask_bounds(study: Study, lower: &mut [u64], upper: &mut [u64], classes: bool)
     if classes {
         return classes_bounded(planning::class_bounds(study, lower, upper));
     }
-    paths_bounded(planning::path_bounds(study, lower, upper))
+    counted(planning::path_bounds(study, lower, upper))
 }
 
 // Lists the paths of a study into a buffer whose bytes hold a value, and shows it all.
@@ -112,4 +113,17 @@ pub fn bound(study: Study, lower_count: usize, upper_count: usize, classes: bool
         &mut upper[..upper_end],
         classes,
     );
+}
+
+// Asks for the word of a refusal in bytes that hold a value, and shows it all.
+fn word_into(number: u8, lent: &mut [u8], fill: u8) {
+    let filled = counted(planning::refusal_word(number, lent));
+    show_text(filled.refusal, filled.count, lent, fill);
+}
+
+// Asks for the word of a refusal in so many bytes that hold a value, and shows it all.
+pub fn word(number: u8, size: usize, fill: u8) {
+    let mut room = filled_list(fill);
+    let end = front_size(&room, size);
+    word_into(number, &mut room[..end], fill);
 }

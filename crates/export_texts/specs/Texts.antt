@@ -4,7 +4,9 @@ use mathlib.Core.Path.{_≡_}
 use mathlib.Core.List.{List}
 use lib.IntN.{ℤ}
 use Rattle.answers.specs.Told.{countTold}
-use Rattle.report_text.specs.Report.{reportText, reported, written}
+use Rattle.lent_text.specs.Lent.{reported, written}
+use Rattle.words.specs.Words.{refusalWord}
+use Rattle.report_text.specs.Report.{reportText}
 use Rattle.export_answers.specs.Answers.{answeredBy, count}
 
 -- a call for a text: what it answers, and what it leaves of the buffer
@@ -15,3 +17,7 @@ pub record WritesText (text was buffer : List ℕ) (answer : ℤ) : Type 0 where
 -- the call for the report of a study's bytes
 abbrev pub Reports : List ℕ → List ℕ → List ℕ → ℤ → Type 0
 Reports bytes = WritesText (reportText bytes)
+
+-- the call for the word of a refusal
+abbrev pub Words : ℕ → List ℕ → List ℕ → ℤ → Type 0
+Words number = WritesText (refusalWord number)

@@ -1,10 +1,17 @@
-// Texts for C: the report of a study's bytes.
+// Texts for C: the report of a study's bytes, and the word of a refusal.
 use export_answers::answer_count;
-ghost use Rattle.export_texts.specs.Texts.{Reports};
+ghost use Rattle.export_texts.specs.Texts.{Reports, Words};
 
 // Writes the report of a study's bytes at the front of a buffer; answers how many bytes it has. Refused by 18.
 pub fn report(bytes: &[u8], text: &mut [u8]) -> i64
     ensures { λ r. ⌜ Reports (now (bytes .entry)) (now (text .entry)) (now (text .exit)) r ⌝ }
 {
     answer_count(planning::report(bytes, text))
+}
+
+// Writes the word of a refusal at the front of a buffer; answers how many bytes it has, 0 for a number that the table lacks. Refused by 18.
+pub fn refusal_word(number: u8, text: &mut [u8]) -> i64
+    ensures { λ r. ⌜ Words number (now (text .entry)) (now (text .exit)) r ⌝ }
+{
+    answer_count(planning::refusal_word(number, text))
 }

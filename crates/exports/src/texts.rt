@@ -1,5 +1,5 @@
-// Texts.
-ghost use Rattle.export_texts.specs.Texts.{Reports};
+// The report of a study's bytes, and the word of a refusal.
+ghost use Rattle.export_texts.specs.Texts.{Reports, Words};
 
 // Writes the report of a study's bytes at the front of a buffer; answers how many bytes it has. Refused by 18.
 #[no_mangle]
@@ -7,4 +7,12 @@ pub extern "C" fn grid_report(bytes: &[u8], text: &mut [u8]) -> i64
     ensures { λ r. ⌜ Reports (now (bytes .entry)) (now (text .entry)) (now (text .exit)) r ⌝ }
 {
     export_texts::report(bytes, text)
+}
+
+// Writes the word of a refusal at the front of a buffer; answers how many bytes it has, 0 for a number that the table lacks. Refused by 18.
+#[no_mangle]
+pub extern "C" fn grid_refusal_word(number: u8, text: &mut [u8]) -> i64
+    ensures { λ r. ⌜ Words number (now (text .entry)) (now (text .exit)) r ⌝ }
+{
+    export_texts::refusal_word(number, text)
 }

@@ -30,3 +30,4 @@ pub use paths::path_bounds;
 pub use report_text::empty_report;
 pub use report_text::report;
 pub use study_figures::figures;
+pub use words::refusal_word;

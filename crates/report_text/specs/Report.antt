@@ -6,12 +6,8 @@ use Rattle.lists.specs.Rows.{joined}
 use Rattle.text.specs.Letters.{letters}
 use Rattle.text.specs.Lines.{field, numberLine}
 use Rattle.words.specs.Words.{refusalWord}
-use Rattle.rules.specs.Table.{roomFault}
 use Rattle.study.specs.declared.Load.{Load}
 use Rattle.study.specs.declared.Study.{Study}
-use Rattle.answers.specs.Answered.{answered, filled}
-use Rattle.answers.specs.declared.counts.CountAnswer.{CountAnswer}
-use Rattle.answers.specs.declared.counts.CountAnswer.the-variants.{Count, Refused as NotWritten}
 use Rattle.answers.specs.declared.outcome.Outcome.{Outcome}
 use Rattle.answers.specs.declared.outcome.Outcome.the-variants.{Done, Refused}
 use Rattle.model.specs.Model.{Model, components, pathsOf, probabilityTable}
@@ -75,15 +71,3 @@ textBy (Refused n) t = refusedText n
 unfoldable pub reportText : List ℕ → List ℕ
 unfolding textBy opened
 reportText bytes = textBy (opened bytes .outcome) (opened bytes .study)
-
--- ---- in a lent buffer
-
--- the answer: the number of bytes, or 18 where the buffer is too short for them
-unfoldable pub reported : List ℕ → List ℕ → CountAnswer
-unfolding answered
-reported text buffer = answered NotWritten (roomFault (length text) (length buffer)) (Count (length text))
-
--- the text fills the buffer's front, and nothing behind it changes; a buffer that is too short stays as it was
-unfoldable pub written : List ℕ → List ℕ → List ℕ
-unfolding filled
-written text buffer = filled (roomFault (length text) (length buffer)) text buffer

@@ -4,20 +4,21 @@ use crate::list_text::list_text;
 use answers::CountAnswer;
 use answers::Outcome;
 use entries::empty_list;
+use lent_text::hand_over;
 use probability::first_components;
-use rules::room_fault;
 use study::Study;
 use study_model::slice_study;
 use text::copy;
 use text::field;
-use words::refusal_word;
+use words::write_word;
 ghost use Prim.Native.Nat.{_≤_};
 ghost use mathlib.Core.Path.{_≡_};
 ghost use lib.ListN.{length};
 ghost use Rattle.text.specs.Writing.{Room, Wrote};
+ghost use Rattle.lent_text.specs.Lent.{reported, written};
 ghost use Rattle.soundness.specs.Sound.{Sound};
 ghost use Rattle.study_model.specs.Model.{modelOf};
-ghost use Rattle.report_text.specs.Report.{reportBytes, modelText, refusedText, reportText, reported, written};
+ghost use Rattle.report_text.specs.Report.{reportBytes, modelText, refusedText, reportText};
 
 // Writes the text of a sound study.
 fn sound_text(t: Study, out: &mut [u8]) -> usize
@@ -49,7 +50,7 @@ fn refused_text(refusal: u8, out: &mut [u8]) -> usize
     let first = copy(out, 0, b"REFUSED");
     let second = field(out, first, refusal as u64);
     let third = copy(out, second, b" ");
-    let last = refusal_word(out, third, refusal);
+    let last = write_word(out, third, refusal);
     copy(out, last, b"\n")
 }
 
@@ -73,10 +74,5 @@ pub fn report(bytes: &[u8], out: &mut [u8]) -> CountAnswer
 {
     let mut whole = empty_report();
     let size = report_text(bytes, &mut whole);
-    let fault = room_fault(size, out.len());
-    if fault != 0 {
-        return CountAnswer::Refused(fault);
-    }
-    copy(out, 0, &whole[..size]);
-    CountAnswer::Count(size as u32)
+    hand_over(&whole[..size], out)
 }

@@ -1,12 +1,11 @@
--- The word of a number that is known, that a number which the table lacks has none, and that no word is longer than all of them together.
-use Prim.Native.Nat.{ℕ, zero, suc, _≤_, _<_}
+-- The word of a number that is known, that a number which the table lacks has none, and that no word is longer than the longest.
+use Prim.Native.Nat.{ℕ, zero, suc, max, _≤_, _<_}
 use mathlib.Core.Path.{_≡_, refl, sym}
 use mathlib.Core.List.{List, [], _∷_}
 use native.Mathlib.Omega.{arith}
 use lib.ListN.{length, getD, List·getD-eq-default}
-use Rattle.lists.specs.Counting.{sumOver}
 use Rattle.text.specs.Writing.{Room, Wrote}
-use Rattle.words.specs.Words.{refusalWords, refusalWord}
+use Rattle.words.specs.Words.{refusalWords, refusalWord, wordBytes}
 
 -- where the number is k, whose word is known
 module _ {d word : List ℕ} {at n k : ℕ} (number : n ≡ k) (spelt : refusalWord k ≡ word) where
@@ -31,12 +30,17 @@ unfolding refusalWord refusalWords
 no-word zero none = refl
 no-word (suc n) none = sym (List·getD-eq-default refusalWords [] {n = suc n} (beyond (suc n) 19 none (omega arith)))
 
-one-of : (rows : List (List ℕ)) (n : ℕ) → length (getD rows n []) ≤ sumOver length rows
-unfolding sumOver
+-- the length of the longest row
+unfoldable longest : List (List ℕ) → ℕ
+longest [] = 0
+longest (row ∷ rows) = max (length row) (longest rows)
+
+one-of : (rows : List (List ℕ)) (n : ℕ) → length (getD rows n []) ≤ longest rows
+unfolding longest
 one-of [] n = omega arith
 one-of (row ∷ rows) zero = omega arith
 one-of (row ∷ rows) (suc n) = omega (arith, one-of rows n)
 
-pub word-short : (n : ℕ) → length (refusalWord n) ≤ 160
-unfolding refusalWord refusalWords sumOver
+pub word-short : (n : ℕ) → length (refusalWord n) ≤ wordBytes
+unfolding refusalWord refusalWords longest
 word-short n = omega (arith, one-of refusalWords n)

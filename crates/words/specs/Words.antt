@@ -32,3 +32,7 @@ refusalWords =
 -- the word of a refusal
 unfoldable pub refusalWord : ℕ → List ℕ
 refusalWord n = getD refusalWords n []
+
+-- room for any of them
+abbrev pub wordBytes : ℕ
+wordBytes = 12

@@ -115,9 +115,17 @@ pub fn loads_lost(class: u8) -> Answer {
     Ok((0..8).filter(|load| class & (1 << load) != 0).count())
 }
 
+/// A text at the front of a buffer, whole or not at all.
+fn hand_over(whole: &str, text: &mut [u8]) -> Answer {
+    unless(text.len() >= whole.len(), NO_ROOM)?;
+    text[..whole.len()].copy_from_slice(whole.as_bytes());
+    Ok(whole.len())
+}
+
 pub fn report(bytes: &[u8], text: &mut [u8]) -> Answer {
-    let report = report_of(bytes);
-    unless(text.len() >= report.len(), NO_ROOM)?;
-    text[..report.len()].copy_from_slice(report.as_bytes());
-    Ok(report.len())
+    hand_over(&report_of(bytes), text)
+}
+
+pub fn refusal_word(number: u8, text: &mut [u8]) -> Answer {
+    hand_over(word(number), text)
 }

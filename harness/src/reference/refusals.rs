@@ -43,8 +43,10 @@ const WORDS: [&str; 19] = [
     "no customers",
 ];
 
+/// The word of a refusal; none for a number that the table lacks.
 pub fn word(number: u8) -> &'static str {
-    WORDS[usize::from(number) - 1]
+    let place = usize::from(number).checked_sub(1);
+    place.and_then(|place| WORDS.get(place)).unwrap_or(&"")
 }
 
 /// A refusal where a rule is broken.

@@ -12,6 +12,9 @@ use tally::Tally;
 const INPUTS: u64 = 20_000;
 const FIRST_SEED: u64 = 0;
 
+/// More room than the longest word needs.
+const MOST_ROOM: usize = 16;
+
 /// Each refusal must be met this often, or the inputs say too little about it.
 const EACH_REFUSAL: usize = 50;
 
@@ -79,6 +82,7 @@ fn compare_input(tally: &mut Tally, seed: u64) {
     let mut random = Random::new(seed);
     let random = &mut random;
     let bytes = generate::input(random);
+    tally.inputs += 1;
     let mut pair = Pair::new(seed, &bytes, tally);
     let (opened, image) = pair.open(random);
     pair.report(random);
@@ -92,6 +96,17 @@ fn compare_input(tally: &mut Tally, seed: u64) {
             let altered = generate::altered(random, &edited);
             compare_questions(&mut pair, random, &altered);
             compare_edits(&mut pair, random, &altered);
+        }
+    }
+}
+
+/// The word of every number, into too little room, just enough and more.
+fn compare_words(tally: &mut Tally, seed: u64) {
+    let mut random = Random::new(seed);
+    let mut pair = Pair::new(seed, &[], tally);
+    for number in 0..=255 {
+        for room in 0..=MOST_ROOM {
+            pair.refusal_word(&mut random, number, room);
         }
     }
 }
@@ -110,6 +125,7 @@ fn main() {
     let inputs = numbers.next().unwrap_or(INPUTS);
     let first_seed = numbers.next().unwrap_or(FIRST_SEED);
     let mut tally = Tally::default();
+    compare_words(&mut tally, first_seed);
     for seed in first_seed..first_seed + inputs {
         compare_input(&mut tally, seed);
     }

@@ -54,7 +54,6 @@ pub struct Pair<'a> {
 
 impl<'a> Pair<'a> {
     pub fn new(seed: u64, bytes: &'a [u8], tally: &'a mut Tally) -> Pair<'a> {
-        tally.inputs += 1;
         Pair { seed, bytes, tally }
     }
 
@@ -263,6 +262,15 @@ impl<'a> Pair<'a> {
             (),
             |()| library::loads_lost(class),
             |()| reference::loads_lost(class),
+        );
+    }
+
+    pub fn refusal_word(&mut self, random: &mut Random, number: u8, room: usize) {
+        self.compare(
+            &format!("word of {number} into {room} bytes"),
+            Lent::bytes(random, room),
+            |lent| library::refusal_word(number, lent.room()),
+            |lent| reference::refusal_word(number, lent.room()),
         );
     }
 }

@@ -1,6 +1,5 @@
 -- `export_losses::class_bounds` meets its contract: the call's own, for the study that the image holds.
-use Rattle.export_answers.specs.Answers.{FillsPair}
-use Rattle.export_answers.proofs.Signed.{handed-on}
+use Rattle.export_answers.proofs.Pairs.{pair-filled}
 use borrow.Author.Needs.{needs}
 use Rattle.export_losses.proofs.class_bounds.Statement.{statement}
 use Rattle.export_losses.proofs.class_bounds.Tie as tie
@@ -9,12 +8,7 @@ returns : tie.Need-returns
 returns c =
     let asked = c .before .before .before .before .before in
     let bounded = rw (asked .before .before .before .read-image .ensures) at (asked .class-bounds .ensures) in
-    handed-on (FillsPair _ _ _ _ _ _ _ _) (c .answer-outcome .ok)
-    (record {
-      answered = rw (bounded .0) at (c .answer-outcome .ensures);
-      lower-left = bounded .1 .0;
-      upper-left = bounded .1 .1;
-    })
+    pair-filled (c .answer-outcome .ok) (rw (bounded .0) at (c .answer-outcome .ensures)) (bounded .1)
 
 pub class-bounds-spec : {M : Type 1} → statement M
 class-bounds-spec =

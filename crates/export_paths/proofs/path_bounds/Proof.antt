@@ -1,6 +1,5 @@
 -- `export_paths::path_bounds` meets its contract: the call's own, for the study that the image holds.
-use Rattle.export_answers.specs.Answers.{FillsPair}
-use Rattle.export_answers.proofs.Signed.{handed-on}
+use Rattle.export_answers.proofs.Pairs.{pair-filled}
 use borrow.Author.Needs.{needs}
 use Rattle.export_paths.proofs.path_bounds.Statement.{statement}
 use Rattle.export_paths.proofs.path_bounds.Tie as tie
@@ -9,12 +8,7 @@ returns : tie.Need-returns
 returns c =
     let asked = c .before .before .before .before .before in
     let bounded = rw (asked .before .before .before .read-image .ensures) at (asked .path-bounds .ensures) in
-    handed-on (FillsPair _ _ _ _ _ _ _ _) (c .answer-count .ok)
-    (record {
-      answered = rw (bounded .0) at (c .answer-count .ensures);
-      lower-left = bounded .1 .0;
-      upper-left = bounded .1 .1;
-    })
+    pair-filled (c .answer-count .ok) (rw (bounded .0) at (c .answer-count .ensures)) (bounded .1)
 
 pub path-bounds-spec : {M : Type 1} → statement M
 path-bounds-spec =

@@ -4,8 +4,8 @@ use mathlib.Core.Path.{_≡_, sym}
 use native.Mathlib.Omega.{arith}
 use lib.ListN.{length}
 use lib.Seq.{length-take-le}
+use Rattle.lent_text.proofs.Handed.{told-inside}
 use Rattle.report_text.specs.Report.{reportBytes}
-use Rattle.report_text.proofs.Reported.{told-inside}
 use borrow.Author.Needs.{needs}
 use Rattle.report.proofs.main.Statement.{statement}
 use Rattle.report.proofs.main.Tie as tie

@@ -26,10 +26,10 @@ copied c = c .before .before .before .before
 abbrev numbered : tie.After-copy2 → tie.After-field
 numbered c = c .before .before .before .before .before
 
-abbrev parted : tie.After-refusal-word → tie.After-copy2
+abbrev parted : tie.After-write-word → tie.After-copy2
 parted c = c .before .before .before .before
 
-abbrev worded : tie.After-copy3 → tie.After-refusal-word
+abbrev worded : tie.After-copy3 → tie.After-write-word
 worded c = c .before .before .before .before .before
 
 -- ---- so many pieces are written
@@ -45,10 +45,10 @@ three : (c : tie.After-copy2)
     → Pieces (parts (start (copied (numbered c)))) (now (start (copied (numbered c)) .args .out)) 0 3 (c .copy2 .last .0) (c .copy2 .result)
 three c = pieces-more (two (numbered c)) (omega arith) (c .copy2 .ensures)
 
-four : (c : tie.After-refusal-word)
+four : (c : tie.After-write-word)
     → Pieces (parts (start (copied (numbered (parted c))))) (now (start (copied (numbered (parted c))) .args .out)) 0 4
-    (c .refusal-word .last .0) (c .refusal-word .result)
-four c = pieces-more (three (parted c)) (omega arith) (c .refusal-word .ensures)
+    (c .write-word .last .0) (c .write-word .result)
+four c = pieces-more (three (parted c)) (omega arith) (c .write-word .ensures)
 
 copy-requires : tie.Need-copy-requires
 unfolding refusedText
@@ -60,8 +60,8 @@ field-requires c κs = pieces-room (one (c .before .before .before)) (omega arit
 copy-requires-2 : tie.Need-copy-requires-2
 copy-requires-2 c κs = pieces-room (two (c .before .before .before .before)) (omega arith)
 
-refusal-word-requires : tie.Need-refusal-word-requires
-refusal-word-requires c κs = pieces-room (three (c .before .before .before)) (omega arith)
+write-word-requires : tie.Need-write-word-requires
+write-word-requires c κs = pieces-room (three (c .before .before .before)) (omega arith)
 
 copy-requires-3 : tie.Need-copy-requires-3
 copy-requires-3 c κs = pieces-room (four (c .before .before .before .before)) (omega arith)
@@ -81,7 +81,7 @@ refused-text-spec =
     field-requires
     (λ c. search needs)
     copy-requires-2
-    refusal-word-requires
+    write-word-requires
     (λ c. search needs)
     copy-requires-3
     (λ c. search needs)
