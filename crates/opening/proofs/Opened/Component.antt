@@ -77,8 +77,8 @@ probability-sound : (k : ℕ) (c : Component) → SoFar k c → Gives (probabili
 unfolding probability
 probability-sound k c s =
     let was = s .rules in
-    gives-then (gives-judge (noStateFault (c .states) k))
-    (λ u judged.
+    gives-judge (noStateFault (c .states) k)
+    (λ judged.
     gives-then (gives-any word)
     (λ p u.
     gives-return
@@ -101,6 +101,6 @@ component-sound =
     gives-then (gives-fields SoFar componentMaps componentField absentComponent start field-sound (λ k c s. behind k (s .rules)))
     (λ c s.
     let kept = s .rules in
-    gives-then (gives-judge (sumFault (c .p1) (c .p2) (c .p3)))
-    (λ u sum.
+    gives-judge (sumFault (c .p1) (c .p2) (c .p3))
+    (λ sum.
     gives-return (record { states = kept .states; state1 = kept .state1; state2 = kept .state2; state3 = kept .state3; sum = sum })))

@@ -3,11 +3,9 @@
 use Prim.Native.Nat.{ℕ, _+_, _^_, _<_, _≤_}
 use mathlib.Core.Path.{_≡_, refl, sym, subst}
 use mathlib.Core.List.{List}
-use native.Mathlib.Nat.{lt-of-not-le, not-le-of-lt}
 use native.Mathlib.Omega.{arith}
 use lib.Dec.{eqb}
 use lib.ListN.{length, getD, set, replicate, getD-replicate}
-use lib.Pow.{pow-mono}
 use lib.Seq.{getD-set-same, getD-set-other}
 use borrow.Author.Count.{below-more}
 use borrow.Author.Tests.{eqb-true, eqb-false}
@@ -17,6 +15,7 @@ use Rattle.rules.specs.Limits.{gateMaps, mostTests, mostGateInputs}
 use Rattle.rules.specs.Table.{inputsFault, noComponentFault, maskFault, aheadFault, thresholdFault}
 use Rattle.rules.proofs.Kept.{absent-none, unless-none, range-kept}
 use Rattle.reading.specs.Reader.{byte}
+use Rattle.reading.proofs.Ends.{bit-meant}
 use Rattle.reading.proofs.Held.{Gives, gives-any, gives-then, gives-judge, gives-judged, gives-return, gives-cond, gives-repeat, gives-fields, gives-weaker}
 use Rattle.gate_record.specs.Gate.{threshold, inputsByte, test, tests, input, inputs, gateField, gate, withTests, withGates, withTest, withInput}
 use Rattle.study.specs.declared.Gate.{Gate}
@@ -121,8 +120,8 @@ module _ (counts : List ℕ) (number : ℕ) where
   test-sound n j g room h l =
       gives-then (gives-any byte)
       (λ c u.
-      gives-then (gives-judge (noComponentFault (length counts) c))
-      (λ u known.
+      gives-judge (noComponentFault (length counts) c)
+      (λ known.
       gives-judged byte (maskFault (getD counts c 0)) (λ m. withTest j c m g)
       (λ m fits.
       record {
@@ -199,10 +198,6 @@ module _ (counts : List ℕ) (number : ℕ) where
         tests-kept = s .tests-kept;
       })))
 
-  -- only bits 0, 1 and 2 have a meaning
-  meant-below : (k : ℕ) → 2 ^ k < gateMaps → k < 3
-  meant-below k h = lt-of-not-le (λ far. not-le-of-lt h (pow-mono far))
-
   field-sound : (k : ℕ) (g : Gate) → 2 ^ k < gateMaps → SoFar k g → Gives (gateField counts number k g) (SoFar (k + 1))
   unfolding gateField
   field-sound k g meant s =
@@ -210,7 +205,7 @@ module _ (counts : List ℕ) (number : ℕ) where
       (λ not0.
       gives-cond (eqb k 1) (λ e. rw (eqb-true k 1 e) (tests-sound g (rw (eqb-true k 1 e) at s)))
       (λ not1.
-      let two : k ≡ 2 = omega (arith, meant-below k meant, eqb-false k 0 not0, eqb-false k 1 not1) in
+      let two : k ≡ 2 = omega (arith, bit-meant 3 k meant, eqb-false k 0 not0, eqb-false k 1 not1) in
       rw two (inputs-sound g (rw two at s))))
 
   pub gate-sound : Gives (gate counts number) (SoundGate counts number)
@@ -220,8 +215,8 @@ module _ (counts : List ℕ) (number : ℕ) where
       (λ g s.
       let tests = s .tests-kept in
       let inputs = s .inputs-kept in
-      gives-then (gives-judge (thresholdFault (inputCount g) (g .threshold)))
-      (λ u kept.
+      gives-judge (thresholdFault (inputCount g) (g .threshold))
+      (λ kept.
       gives-return
       (record {
         tests = tests .count;

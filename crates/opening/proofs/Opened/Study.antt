@@ -14,7 +14,7 @@ use Rattle.rules.specs.Limits.{mostComponents, mostGates, mostLoads, mostTests,
 use Rattle.rules.specs.Table.{countFault, widthFault, leftFault}
 use Rattle.rules.proofs.Kept.{range-kept}
 use Rattle.reading.specs.Reader.{Read, Reader, refused, got, byte, repeat}
-use Rattle.reading.proofs.Held.{Held, Gives, gives-then, gives-judge, gives-judged, gives-return, gives-repeat}
+use Rattle.reading.proofs.Held.{Held, Gives, held, gives-then, gives-judge, gives-judged, gives-return, gives-repeat}
 use Rattle.answers.specs.Answered.{answered}
 use Rattle.opening.specs.Opening.{count, componentAfter, componentRecord, gateRecord, loadRecord, placing, records, study, refusedOpening, answer, opened}
 use Rattle.opening.proofs.Places.{joint-placed}
@@ -70,7 +70,7 @@ after-sound : (joint : ℕ) → Gives (componentAfter joint) (Fitting joint)
 unfolding componentAfter
 after-sound joint =
     gives-then component-sound
-    (λ c sound. gives-then (gives-judge (widthFault (joint * c .states))) (λ u fits. gives-return (record { is-sound = sound; width = fits })))
+    (λ c sound. gives-judge (widthFault (joint * c .states)) (λ fits. gives-return (record { is-sound = sound; width = fits })))
 
 component-placed : (i : ℕ) (cs : List Component) → i < mostComponents → ComponentsSoFar i cs → Gives (placing componentRecord i cs) (ComponentsSoFar (i + 1))
 unfolding componentRecord
@@ -167,4 +167,4 @@ answer-sound (got t rest) h e = go (eqb (leftFault (length rest)) 0) e
 
 pub opened-sound : OpenedSound
 unfolding opened
-opened-sound bytes done = answer-sound (study bytes) (study-sound .held bytes) done
+opened-sound bytes done = answer-sound (study bytes) (held study-sound bytes) done
