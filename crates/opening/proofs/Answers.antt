@@ -1,12 +1,16 @@
 -- What opening answers where a reading is refused, and where it is not.
-use Prim.Native.Nat.{ℕ}
-use mathlib.Core.Path.{_≡_, ap}
-use mathlib.Core.List.{List}
-use borrow.Author.Tests.{eq-eqb, ne-eqb}
-use lib.ListN.{drop}
-use Rattle.reading.specs.Reader.{Read, Reader, Reads, andThen, asRead}
+use Prim.Native.Nat.{ℕ, suc}
+use mathlib.Core.Path.{_≡_, refl, ap}
+use mathlib.Core.List.{List, [], _∷_}
+use native.Mathlib.Nat.{zero-lt-suc}
+use native.Mathlib.Omega.{arith}
+use borrow.Author.Tests.{eq-eqb, ne-eqb, lt-ltb}
+use lib.ListN.{length, drop}
+use Rattle.rules.specs.Breach.{refuse}
+use Rattle.reading.specs.Reader.{Read, Reader, Reads, refused, got, andThen, asRead}
 use Rattle.study.specs.declared.Study.{Study}
 use Rattle.answers.specs.Answered.{answered}
+use Rattle.answers.specs.declared.outcome.Outcome.the-variants.{Done, Refused}
 use Rattle.opening.specs.Opening.{answer, refusedOpening}
 
 -- a reading that is refused is the whole answer
@@ -20,3 +24,25 @@ pub answer-going : {A : Type 0} {s : List ℕ} {p n : ℕ} {v : A} {r : Read A} 
     → answer (f v (drop n s)) ≡ answer (andThen r f)
 unfolding asRead
 answer-going {p = p} f here none = ap (λ (r : Read _). answer (andThen r f)) (rw (eq-eqb p 0 none) at (here .same))
+
+-- ---- by what was read
+
+pub is-refused : (n : ℕ) → answer (refused n) .outcome ≡ Refused n
+unfolding answer refusedOpening answered
+is-refused n = refl
+
+pub ends : (t : Study) → answer (got t []) .outcome ≡ Done
+unfolding answer refuse answered
+ends t = refl
+
+-- bytes are left over
+pub left-over : (t : Study) (b : ℕ) (rest : List ℕ) → answer (got t (b ∷ rest)) ≡ refusedOpening 15
+unfolding answer refuse answered
+left-over t b rest = rw (lt-ltb 0 (suc (length rest)) (zero-lt-suc (length rest)))
+
+pub left : (t : Study) (b : ℕ) (rest : List ℕ) → answer (got t (b ∷ rest)) .outcome ≡ Refused 15
+unfolding refusedOpening
+left t b rest = rw (left-over t b rest)
+
+pub not-both : (n : ℕ) → Done ≡ Refused n → ⊥
+not-both n e = let z : _≡_ {A = ℕ} 0 1 = cc in omega arith

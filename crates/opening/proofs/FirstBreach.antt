@@ -1,16 +1,12 @@
 -- Opening refuses by the first breach from the left. What carries it: every reader is local, so that what a front part gives stands whatever
 -- bytes follow, unless the front part is too short.
-use Prim.Native.Nat.{ℕ, suc, _*_}
+use Prim.Native.Nat.{ℕ, _*_}
 use mathlib.Core.Path.{_≡_, refl}
 use mathlib.Core.List.{List, [], _∷_, _++_}
 use mathlib.Core.Logic.{inl, inr}
-use native.Mathlib.Nat.{zero-lt-suc}
-use native.Mathlib.Omega.{arith}
 use lib.Dec.{eqb}
 use lib.ListN.{length, getD, take}
-use borrow.Author.Tests.{lt-ltb}
 use Rattle.lists.specs.Product.{product}
-use Rattle.rules.specs.Breach.{refuse}
 use Rattle.rules.specs.Limits.{componentMaps, gateMaps, loadMaps, mostComponents, mostGates, mostLoads, mostTests, mostGateInputs, mostCustomers, mostMinutes}
 use Rattle.rules.specs.Table.{short, countFault, statesFault, noStateFault, sumFault, widthFault, inputsFault, noComponentFault, maskFault}
 use Rattle.rules.specs.Table.{aheadFault, thresholdFault, noGateFault, sizeFault}
@@ -20,8 +16,7 @@ use Rattle.reading.proofs.Local.{local-repeat, local-fields}
 use Rattle.component_record.specs.Component.{stateCount, probability, componentField, component}
 use Rattle.gate_record.specs.Gate.{threshold, inputsByte, test, tests, input, inputs, gateField, gate}
 use Rattle.load_record.specs.Load.{lossGate, size, customers, minutes, loadField, load}
-use Rattle.answers.specs.Answered.{answered}
-use Rattle.opening.specs.Opening.{count, componentAfter, componentRecord, gateRecord, loadRecord, placing, records, study, refusedOpening, answer, opened}
+use Rattle.opening.specs.Opening.{count, componentAfter, componentRecord, gateRecord, loadRecord, placing, records, study, answer, opened}
 use Rattle.study.specs.declared.Component.{Component}
 use Rattle.study.specs.declared.Gate.{Gate}
 use Rattle.study.specs.declared.Load.{Load}
@@ -32,6 +27,7 @@ use Rattle.study.specs.Inputs.{inputCount}
 use Rattle.study.specs.Joint.{states}
 use Rattle.study.specs.Zero.{noComponents, noGates, noLoads}
 use Rattle.opening.specs.Laws.{FirstBreach}
+use Rattle.opening.proofs.Answers.{is-refused, ends, left, not-both}
 
 -- ---- every reader is local
 
@@ -115,22 +111,7 @@ local-study =
     local-then (local-records (gateRecord counts) gates noGates (λ i gs. local-gate counts i))
     (λ gs. local-then (local-records (loadRecord gates) loads noLoads (λ j ls. local-load gates)) (λ ls. local-return _))))))
 
--- ---- what opening answers to a reading
-
-is-refused : (n : ℕ) → answer (refused n) .outcome ≡ Refused n
-unfolding answer refusedOpening answered
-is-refused n = refl
-
-ends : (t : Study) → answer (got t []) .outcome ≡ Done
-unfolding answer refuse answered
-ends t = refl
-
-left : (t : Study) (b : ℕ) (rest : List ℕ) → answer (got t (b ∷ rest)) .outcome ≡ Refused 15
-unfolding answer refuse refusedOpening answered
-left t b rest = rw (lt-ltb 0 (suc (length rest)) (zero-lt-suc (length rest)))
-
-not-both : (n : ℕ) → Done ≡ Refused n → ⊥
-not-both n e = let z : _≡_ {A = ℕ} 0 1 = cc in omega arith
+-- ---- what opening answers to a front part
 
 -- a front part that is refused with another number than 1 decides
 decides : (rest : List ℕ) (r r′ : Read Study) → Stands rest r r′ → (n : ℕ) → answer r .outcome ≡ Refused n → (n ≡ 1 → ⊥) → answer r′ .outcome ≡ Refused n

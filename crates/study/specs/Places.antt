@@ -1,7 +1,9 @@
--- What stands at a place of a study.
+-- The places of a study, and what stands at one.
 use Prim.Native.Nat.{ℕ}
+use mathlib.Core.Path.{_≡_}
 use mathlib.Core.List.{[]}
-use lib.ListN.{getD}
+use lib.ListN.{length, getD}
+use Rattle.rules.specs.Limits.{mostComponents, mostLoads}
 use Rattle.study.specs.declared.Component.{Component}
 use Rattle.study.specs.declared.Gate.{Gate}
 use Rattle.study.specs.declared.Load.{Load}
@@ -20,3 +22,8 @@ gateAt t i = getD (t .gate) i noGate
 
 abbrev pub loadAt : Study → ℕ → Load
 loadAt t j = getD (t .load) j zeroLoad
+
+-- a study has twelve component places and eight load places
+pub record Shaped (t : Study) : Type 0 where
+  pub components : length (t .component) ≡ mostComponents
+  pub loads : length (t .load) ≡ mostLoads

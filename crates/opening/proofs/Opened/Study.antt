@@ -1,17 +1,15 @@
--- An opening that is not refused returns a sound study. What carries it: the records of each kind fill their places from the front, each
--- sound by itself, and the joint states so far are judged with each component.
+-- An opening that is not refused returns a sound study, and any opening a study with all its places. What carries it: the records of each kind fill
+-- their places from the front, each sound by itself, and the joint states so far are judged with each component.
 use Prim.Native.Nat.{ℕ, _+_, _*_, _<_}
 use mathlib.Core.Path.{_≡_, refl, sym, subst}
-use mathlib.Core.Bool.{Bool, true, false, cond}
-use mathlib.Core.List.{List}
+use mathlib.Core.List.{List, [], _∷_}
 use native.Mathlib.Omega.{arith}
-use lib.Dec.{eqb}
-use lib.ListN.{length, take, getD-replicate}
+use lib.ListN.{take, getD-replicate}
 use Rattle.lists.specs.Product.{product}
 use Rattle.lists.proofs.Filled.{Filled, filled-none, filled-more}
 use Rattle.rules.specs.Breach.{refuse}
 use Rattle.rules.specs.Limits.{mostComponents, mostGates, mostLoads, mostTests, mostGateInputs}
-use Rattle.rules.specs.Table.{countFault, widthFault, leftFault}
+use Rattle.rules.specs.Table.{countFault, widthFault}
 use Rattle.rules.proofs.Kept.{range-kept}
 use Rattle.reading.specs.Reader.{Read, Reader, refused, got, byte, repeat}
 use Rattle.reading.proofs.Held.{Held, Gives, held, gives-then, gives-judge, gives-judged, gives-return, gives-repeat}
@@ -21,12 +19,13 @@ use Rattle.opening.proofs.Places.{joint-placed}
 use Rattle.study.specs.declared.Component.{Component}
 use Rattle.study.specs.declared.Load.{Load}
 use Rattle.study.specs.declared.Study.{Study}
-use Rattle.answers.specs.declared.outcome.Outcome.the-variants.{Done, Refused}
+use Rattle.answers.specs.declared.outcome.Outcome.the-variants.{Done}
 use Rattle.study.specs.Joint.{states}
-use Rattle.study.specs.Places.{noGate}
-use Rattle.study.specs.Zero.{zeroComponent, zeroGate, zeroLoad, noComponents, noGates, noLoads}
+use Rattle.study.specs.Places.{Shaped, noGate}
+use Rattle.study.specs.Zero.{zeroComponent, zeroGate, zeroLoad, noComponents, noGates, noLoads, zeroStudy}
 use Rattle.soundness.specs.Sound.{SoundComponent, SoundGate, UnusedGate, SoundLoad, Sound}
-use Rattle.opening.specs.Laws.{OpenedSound}
+use Rattle.opening.specs.Laws.{OpenedSound, OpenedShaped}
+use Rattle.opening.proofs.Answers.{is-refused, left, left-over, not-both}
 use Rattle.opening.proofs.Opened.Component.{component-sound}
 use Rattle.opening.proofs.Opened.Gate.{gate-sound}
 use Rattle.opening.proofs.Opened.Load.{load-sound}
@@ -115,8 +114,13 @@ no-loads gates = filled-none refl (λ k h. getD-replicate mostLoads k zeroLoad z
 
 -- ---- the study
 
+-- a sound study with all its places
+record Whole (t : Study) : Type 0 where
+  is-sound : Sound t
+  shaped : Shaped t
+
 records-sound : (components gates loads : ℕ) → countFault mostComponents components ≡ 0 → countFault mostGates gates ≡ 0 → countFault mostLoads loads ≡ 0
-    → Gives (records components gates loads) Sound
+    → Gives (records components gates loads) Whole
 unfolding records
 records-sound components gates loads c g l =
     gives-then
@@ -131,19 +135,23 @@ records-sound components gates loads c g l =
     (λ ls loads-sound.
     gives-return
     (record {
-      components = c;
-      gates = g;
-      loads = l;
-      component = components-sound .filled .below;
-      no-component = components-sound .filled .behind;
-      width = components-sound .width;
-      gate = gates-sound .below;
-      no-gate = gates-sound .behind;
-      load = loads-sound .below;
-      no-load = loads-sound .behind;
+      is-sound =
+          record {
+            components = c;
+            gates = g;
+            loads = l;
+            component = components-sound .filled .below;
+            no-component = components-sound .filled .behind;
+            width = components-sound .width;
+            gate = gates-sound .below;
+            no-gate = gates-sound .behind;
+            load = loads-sound .below;
+            no-load = loads-sound .behind;
+          };
+      shaped = record { components = components-sound .filled .long; loads = loads-sound .long };
     }))))
 
-study-sound : Gives study Sound
+study-sound : Gives study Whole
 unfolding study
 study-sound =
     gives-then (count-sound mostComponents)
@@ -151,20 +159,26 @@ study-sound =
     gives-then (count-sound mostGates)
     (λ gates g. gives-then (count-sound mostLoads) (λ loads l. records-sound components gates loads c g l)))
 
-refused-done : (n : ℕ) → Refused n ≡ Done → ⊥
-refused-done n e = let z : _≡_ {A = ℕ} 0 1 = cc in omega arith
-
-answer-sound : (r : Read Study) → Held Sound r → answer r .outcome ≡ Done → Sound (answer r .study)
-unfolding answer refusedOpening answered
-answer-sound (refused n) h e = absurd (refused-done n e)
-answer-sound (got t rest) h e = go (eqb (leftFault (length rest)) 0) e
-  where
-    go : (b : Bool)
-        → (cond b (record { outcome = Done; study = t }) (refusedOpening (leftFault (length rest)))) .outcome ≡ Done
-        → Sound ((cond b (record { outcome = Done; study = t }) (refusedOpening (leftFault (length rest)))) .study)
-    go true d = h
-    go false d = absurd (refused-done _ d)
+answer-sound : (r : Read Study) → Held Whole r → answer r .outcome ≡ Done → Sound (answer r .study)
+unfolding answer refuse answered
+answer-sound (refused n) h e = absurd (not-both n (cc (is-refused n)))
+answer-sound (got t []) h e = h .is-sound
+answer-sound (got t (b ∷ rest)) h e = absurd (not-both 15 (cc (left t b rest)))
 
 pub opened-sound : OpenedSound
 unfolding opened
 opened-sound bytes done = answer-sound (study bytes) (held study-sound bytes) done
+
+zero-shaped : Shaped zeroStudy
+unfolding zeroStudy noComponents noLoads
+zero-shaped = record { components = refl; loads = refl }
+
+answer-shaped : (r : Read Study) → Held Whole r → Shaped (answer r .study)
+unfolding answer refuse refusedOpening answered
+answer-shaped (refused n) h = zero-shaped
+answer-shaped (got t []) h = h .shaped
+answer-shaped (got t (b ∷ rest)) h = rw (left-over t b rest) zero-shaped
+
+pub opened-shaped : OpenedShaped
+unfolding opened
+opened-shaped bytes = answer-shaped (study bytes) (held study-sound bytes)
