@@ -96,7 +96,7 @@ local-records : {A : Type 0} (reader : ℕ → List A → Reader A) (n : ℕ) (n
     → Local (repeat (placing reader) n none)
 local-records reader n none on = local-repeat (placing reader) n none (λ i l. local-then (on i l) (λ a. local-return _))
 
-local-study : Local study
+pub local-study : Local study
 unfolding study records
 local-study =
     local-then (local-count mostComponents)

@@ -2,3 +2,4 @@ pub mod Answers
 pub mod FirstBreach
 pub mod Opened
 pub mod Places
+pub mod Taken

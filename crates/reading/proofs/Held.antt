@@ -22,6 +22,16 @@ pub record Gives {A : Type 0} (m : Reader A) (P : A → Type 0) : Type 0 where
 pub held : {A : Type 0} {m : Reader A} {P : A → Type 0} → Gives m P → (bytes : List ℕ) → Held P (m bytes)
 held here bytes = here .gives (length bytes) .ends bytes refl
 
+-- what a reading ends in, and what holds of its value besides
+with-held : {A : Type 0} (R : ℕ → Type 0) (P : A → ℕ → Type 0) (Q : A → Type 0) (r : Read A) → EndsIn R P r → Held Q r → EndsIn R (λ a left. P a left × Q a) r
+with-held R P Q (refused n) h q = h
+with-held R P Q (got a rest) h q = (h, q)
+
+pub ends-with : {A : Type 0} {R : ℕ → Type 0} {n : ℕ} {m : Reader A} {P : A → ℕ → Type 0} {Q : A → Type 0} → Ends R n m P → Gives m Q
+    → Ends R n m (λ a left. P a left × Q a)
+ends-with {R = R} {m = m} {P = P} {Q = Q} here gives =
+    record { ends = λ bytes e. with-held R P Q (m bytes) (here .ends bytes e) (held gives bytes) }
+
 any-held : {A : Type 0} (r : Read A) → Held Any r
 any-held (refused n) = tt
 any-held (got a rest) = tt

@@ -6,3 +6,4 @@ pub mod Held
 pub mod Local
 pub mod MapBits
 pub mod Repeats
+pub mod Takes

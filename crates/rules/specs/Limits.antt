@@ -50,3 +50,8 @@ loadMaps = 2 ^ 3
 -- the loss gate of a load that is never lost: a number that no gate has
 abbrev pub never : ℕ
 never = 255
+
+-- The bytes of the longest study that opens: three counts; six components of four states with every field, 14 bytes each (fewer states take fewer bytes for
+-- each joint state); gate 0 with twelve tests, 27; 31 more gates with twelve tests and 31 gate inputs, 59 each; eight loads with every field, 10 each.
+abbrev pub longestStudy : ℕ
+longestStudy = 2023
