@@ -1,5 +1,6 @@
 pub mod Answers
 pub mod FirstBreach
+pub mod Longest
 pub mod Opened
 pub mod Places
 pub mod Taken
