@@ -7,6 +7,7 @@ use native.Mathlib.Omega.{arith}
 use borrow.Author.Tests.{eq-eqb, ne-eqb, lt-ltb}
 use lib.ListN.{length, drop}
 use Rattle.rules.specs.Breach.{refuse}
+use Rattle.rules.specs.Table.{leftFault}
 use Rattle.reading.specs.Reader.{Read, Reader, Reads, refused, got, andThen, asRead}
 use Rattle.study.specs.declared.Study.{Study}
 use Rattle.answers.specs.Answered.{answered}
@@ -24,6 +25,16 @@ pub answer-going : {A : Type 0} {s : List ℕ} {p n : ℕ} {v : A} {r : Read A} 
     → answer (f v (drop n s)) ≡ answer (andThen r f)
 unfolding asRead
 answer-going {p = p} f here none = ap (λ (r : Read _). answer (andThen r f)) (rw (eq-eqb p 0 none) at (here .same))
+
+-- the end of the bytes is judged last: where some are left they decide, and where none are the study is opened
+module _ {left : ℕ} (t : Study) (rest : List ℕ) (rule : left ≡ leftFault (length rest)) where
+  pub answer-left : (left ≡ 0 → ⊥) → refusedOpening left ≡ answer (got t rest)
+  unfolding answer answered
+  answer-left some = rw (← rule, ne-eqb left 0 some)
+
+  pub answer-ended : left ≡ 0 → record { outcome = Done; study = t } ≡ answer (got t rest)
+  unfolding answer answered
+  answer-ended none = rw (← rule, eq-eqb left 0 none)
 
 -- ---- by what was read
 
