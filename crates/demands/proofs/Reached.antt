@@ -3,11 +3,12 @@ use Prim.Native.Nat.{ℕ, _<_}
 use native.Mathlib.Omega.{arith}
 use lib.ListN.{length, length-set}
 use Rattle.study.specs.declared.Study.{Study}
+use Rattle.study.specs.Places.{Shaped}
 use Rattle.soundness.specs.Sound.{Sound}
 use Rattle.soundness.proofs.Ranges.{components-most, loads-most}
-use Rattle.opening.proofs.Opened.Study.{opened-sound}
+use Rattle.opening.proofs.Opened.Study.{opened-sound, opened-shaped}
 use Rattle.demands.specs.Demand1.{ReachedSound}
-use Rattle.demands.specs.Edits.{Edit, probabilities, customers, minutes, changed, Shaped, Reached, opened, edited}
+use Rattle.demands.specs.Edits.{Edit, probabilities, customers, minutes, changed, Reached, opened, edited}
 use Rattle.demands.proofs.Edited.{either, changed-sound}
 
 pub reached-sound : ReachedSound
@@ -20,7 +21,7 @@ changed-shaped (customers j n) t shaped = record { components = shaped .componen
 changed-shaped (minutes j n) t shaped = record { components = shaped .components; loads = simp length-set (shaped .loads) }
 
 reached-shaped : (t : Study) → Reached t → Shaped t
-reached-shaped t (opened bytes done) = ?
+reached-shaped t (opened bytes done) = opened-shaped bytes
 reached-shaped t (edited e u r) =
     let shaped = reached-shaped u r in
     either e u (λ a b. Shaped (a .study)) (λ none. changed-shaped e u shaped) (λ some. shaped)

@@ -3,10 +3,8 @@
 use Prim.Native.Nat.{ℕ}
 use mathlib.Core.Path.{_≡_, refl, ap, _∙_}
 use mathlib.Core.List.{List, [], _∷_}
-use lib.ListN.{length, getD}
+use lib.ListN.{getD}
 use Rattle.rules.specs.Breach.{firstBreach}
-use Rattle.rules.specs.Table.{roomFault}
-use Rattle.rules.proofs.Kept.{list-last}
 use Rattle.study.specs.declared.Study.{Study}
 use Rattle.answers.specs.Answered.{filled}
 use Rattle.answers.specs.Told.{Told, refusal, tells, outcomeTold, listingTold, countTold, boundsTold, figuresTold}
@@ -19,7 +17,8 @@ use Rattle.answers.proofs.Answered.{answered-tells, some-breach, filled-refused
 use Rattle.planning.specs.Bounds.{pairBreach, pathsBounded, classesBounded, lossFault, loadBounded}
 use Rattle.planning.specs.Figures.{figuresFault, figuresGiven}
 use Rattle.planning.specs.Listing.{listFault, pathsListed, bufferListed}
-use Rattle.report_text.specs.Report.{reported, written}
+use Rattle.lent_text.specs.Lent.{textFault, written}
+use Rattle.lent_text.proofs.Handed.{reported-tells}
 use Rattle.demands.specs.Calls.{Call, anEdit, listPaths, pathBounds, classBounds, loadBounds, figures}
 use Rattle.demands.specs.Calls.{callTold, callBreaches, callValues, studyAfter, Lent, callLent}
 use Rattle.demands.specs.Demand1.{OfEach, Kept, KeptBehind, Refuses, CallsRefuse, TextsRefuse}
@@ -66,9 +65,6 @@ study-kept figures t n refused = refl
 pub calls-refuse : CallsRefuse
 calls-refuse = record { refuses = call-refuses; study-kept = study-kept }
 
--- a text in a lent buffer has one breach
 pub texts-refuse : TextsRefuse
-unfolding reported written
-texts-refuse text buffer =
-    let alone = list-last (roomFault (length text) (length buffer)) in
-    refuses _ _ _ (rw alone (answered-tells NoCount _ _ countTold _ (λ n. refl) refl)) (rw alone refl, tt)
+unfolding textFault written
+texts-refuse text buffer = refuses _ _ _ (reported-tells text buffer) (refl, tt)

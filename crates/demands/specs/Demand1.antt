@@ -1,11 +1,12 @@
 -- Demand 1, refusals: what is refused and what is not, over the definitions that the contracts of the public calls cite.
-use Prim.Native.Nat.{ℕ, _≤_}
+use Prim.Native.Nat.{ℕ, _+_, _≤_}
 use mathlib.Core.Path.{_≡_}
 use mathlib.Core.Bool.{true}
 use mathlib.Core.List.{List, [], _∷_}
 use mathlib.Core.Logic.{_⊎_}
-use lib.ListN.{length, getD}
+use lib.ListN.{length, getD, take}
 use Rattle.rules.specs.Breach.{firstBreach}
+use Rattle.rules.specs.Limits.{longestStudy}
 use Rattle.rules.specs.Table.{roomFault}
 use Rattle.answers.specs.Told.{Told, refusal, tells, countTold}
 use Rattle.answers.specs.declared.outcome.Outcome.the-variants.{Done, Refused}
@@ -14,7 +15,8 @@ use Rattle.study.specs.Zero.{zeroStudy}
 use Rattle.soundness.specs.Sound.{Sound}
 use Rattle.soundness.specs.Check.{sound}
 use Rattle.opening.specs.Opening.{opened}
-use Rattle.report_text.specs.Report.{reported, written}
+use Rattle.lent_text.specs.Lent.{reported, written}
+use Rattle.report_text.specs.Report.{reportText}
 use Rattle.demands.specs.Calls.{Call, callTold, callBreaches, callValues, numbersBehind, studyAfter, Lent, callLent}
 use Rattle.demands.specs.Edits.{Edit, edit, changed, HasItem, Reached, after, tableOf, tableAfter, othersOf}
 
@@ -37,6 +39,19 @@ OpenedSound = Rattle.opening.specs.Laws.OpenedSound
 -- Opening refuses by the first breach met from the left.
 abbrev pub FirstBreach : Type 0
 FirstBreach = Rattle.opening.specs.Laws.FirstBreach
+
+-- Opening refuses by the numbers 1 to 15, and by no other.
+abbrev pub OpeningNumbers : Type 0
+OpeningNumbers = Rattle.opening.specs.Laws.OpeningRows
+
+-- No bytes longer than 2,023 open, so many do, and the first 2,024 decide what opening answers, whatever follows.
+pub record LongestStudy : Type 0 where
+  pub law : Rattle.opening.specs.Laws.LongestStudy
+  pub reached : Rattle.opening.specs.Longest.LongestOpens
+
+-- So the report of an input is that of its first 2,024 bytes, and a program need read no more.
+abbrev pub InputCut : Type 0
+InputCut = (bytes : List ℕ) → reportText (take (longestStudy + 1) bytes) ≡ reportText bytes
 
 -- ---- every call
 

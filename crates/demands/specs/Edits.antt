@@ -4,9 +4,8 @@ use mathlib.Core.Path.{_≡_}
 use mathlib.Core.Bool.{cond}
 use mathlib.Core.List.{List, [], _∷_, map}
 use lib.Dec.{eqb}
-use lib.ListN.{length}
 use Rattle.rules.specs.Breach.{firstBreach}
-use Rattle.rules.specs.Limits.{mostComponents, mostLoads, mostCustomers, mostMinutes}
+use Rattle.rules.specs.Limits.{mostCustomers, mostMinutes}
 use Rattle.rules.specs.Table.{itemFault, sizeFault}
 use Rattle.study.specs.declared.Component.{Component}
 use Rattle.study.specs.declared.Load.{Load}
@@ -48,11 +47,6 @@ abbrev pub HasItem : Edit → Study → Type 0
 HasItem (probabilities i p1 p2 p3) t = i < t .components
 HasItem (customers j n) t = j < t .loads
 HasItem (minutes j n) t = j < t .loads
-
--- Every value of the struct has twelve component places and eight load places.
-pub record Shaped (t : Study) : Type 0 where
-  pub components : length (t .component) ≡ mostComponents
-  pub loads : length (t .load) ≡ mostLoads
 
 -- a study that the calls hand out: opened, then edited any number of times
 pub data Reached : Study → Type 0 where

@@ -10,8 +10,8 @@ use Rattle.rules.proofs.Rows.{room-kept}
 use Rattle.text.specs.Writing.{Room, Wrote}
 use Rattle.answers.specs.declared.counts.CountAnswer.{CountAnswer}
 use Rattle.answers.specs.declared.counts.CountAnswer.the-variants.{Count, Refused}
-use Rattle.answers.specs.Told.{result, tells, countTold}
-use Rattle.answers.proofs.Answered.{answered-done, answered-refused, answered-tells, tells-none, tells-values, filled-done, filled-refused}
+use Rattle.answers.specs.Told.{tells, countTold}
+use Rattle.answers.proofs.Answered.{answered-done, answered-refused, answered-tells, no-breach, values-told, filled-done, filled-refused}
 use Rattle.lent_text.specs.Lent.{textFault, reported, written}
 
 -- without a breach the text fits
@@ -49,6 +49,6 @@ reported-tells text buffer = answered-tells Refused (textFault text buffer) (Cou
 
 pub told-inside : (text buffer : List ℕ) (answer : CountAnswer) (size : ℕ) → answer ≡ reported text buffer → answer ≡ Count size → size ≤ length buffer
 told-inside text buffer answer size e is-written =
-    let told = sym (reported-tells text buffer) ∙ ap countTold (sym e ∙ is-written) in
-    let same : length text ≡ size = cc (tells-values _ _ (size ∷ []) told) in
-    omega (arith, same, fault-kept text buffer (tells-none _ _ (size ∷ []) told))
+    let told = ap countTold (sym e ∙ is-written) in
+    let same : length text ≡ size = cc (values-told _ _ (size ∷ []) (reported-tells text buffer) told) in
+    omega (arith, same, fault-kept text buffer (no-breach _ _ (size ∷ []) (reported-tells text buffer) told))

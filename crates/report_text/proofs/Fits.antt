@@ -1,6 +1,6 @@
 -- A report buffer has room for any report: the lines of 4,096 paths, 256 classes, eight loads and the figures.
 use Prim.Native.Nat.{ℕ, _*_, _^_, _<_, _≤_}
-use mathlib.Core.Path.{_≡_, refl}
+use mathlib.Core.Path.{refl}
 use mathlib.Core.Bool.{Bool, true, false}
 use mathlib.Core.List.{List}
 use native.Mathlib.Nat.{min-le-left}

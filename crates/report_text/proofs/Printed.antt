@@ -9,7 +9,7 @@ use lib.ListN.{length, getD}
 use Rattle.lists.specs.Counting.{sum}
 use Rattle.units.specs.One.{one}
 use Rattle.units.specs.Rounding.{quotientDown, quotientUp}
-use Rattle.rules.specs.Limits.{mostLoads, mostCustomers, mostMinutes}
+use Rattle.rules.specs.Limits.{mostCustomers, mostMinutes}
 use Rattle.study.specs.declared.Load.{Load}
 use Rattle.study.specs.Zero.{zeroLoad}
 use Rattle.answers.specs.declared.figures.Caidi.the-variants.{Bounds, NotStated}

@@ -1,6 +1,6 @@
 -- `report_text::list_text::losses_text` meets its contract: two parts, one behind the other, from one pair of bounds for each load.
 use Prim.Native.Nat.{ℕ}
-use mathlib.Core.Path.{_≡_, sym, ap, _∙_}
+use mathlib.Core.Path.{_≡_}
 use mathlib.Core.List.{List, [], _∷_}
 use native.Mathlib.Omega.{arith}
 use lib.ListN.{length, take}

@@ -1,5 +1,5 @@
 -- `report_text::reporting::sound_text` meets its contract: the slices hold what the study's model is worked out of.
-use mathlib.Core.Path.{_≡_, sym}
+use mathlib.Core.Path.{sym}
 use denote.Ref.{now}
 use Rattle.model.specs.Held.{HeldOf}
 use Rattle.soundness.proofs.Ranges.{loads-most}
