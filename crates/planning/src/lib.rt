@@ -29,5 +29,6 @@ pub use opening::open;
 pub use paths::path_bounds;
 pub use report_text::empty_report;
 pub use report_text::report;
+pub use rules::LONGEST_STUDY;
 pub use study_figures::figures;
 pub use words::refusal_word;

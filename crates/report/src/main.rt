@@ -1,12 +1,23 @@
 // The report program: reads a study from standard input and prints its report.
 use planning::CountAnswer;
+use planning::LONGEST_STUDY;
 use planning::empty_report;
+ghost use Prim.Native.Nat.{_+_};
+ghost use mathlib.Core.Path.{_≡_};
+ghost use lib.ListN.{length};
+ghost use Rattle.rules.specs.Limits.{longestStudy};
 
-// The longest study, and a byte more, by which a longer one is known.
-const INPUT_BYTES: usize = 2024;
+// The longest study and a byte more: what opening answers to so many bytes, it answers whatever follows them.
+const INPUT_BYTES: usize = LONGEST_STUDY + 1;
+
+fn empty_input() -> [u8; INPUT_BYTES]
+    ensures { λ r. ⌜ longestStudy + 1 ≡ length r ⌝ }
+{
+    [0; INPUT_BYTES]
+}
 
 fn main() {
-    let mut input = [0u8; INPUT_BYTES];
+    let mut input = empty_input();
     let got = io::read_full(0, &mut input);
     let mut out = empty_report();
     let answer = planning::report(&input[..got], &mut out);

@@ -51,7 +51,7 @@ loadMaps = 2 ^ 3
 abbrev pub never : ℕ
 never = 255
 
--- The bytes of the longest study that opens: three counts; six components of four states with every field, 14 bytes each (fewer states take fewer bytes for
--- each joint state); gate 0 with twelve tests, 27; 31 more gates with twelve tests and 31 gate inputs, 59 each; eight loads with every field, 10 each.
+-- The bytes of the longest study that opens: three counts; six components of four states with every field, 14 bytes each, the most that components with
+-- 4,096 joint states take; gate 0 with twelve tests, 27; 31 more gates with twelve tests and 31 gate inputs, 59 each; eight loads with every field, 10 each.
 abbrev pub longestStudy : ℕ
 longestStudy = 2023

@@ -16,6 +16,7 @@ pub use limits::INPUT_PLACES;
 pub use limits::JOINT_STATE_PLACES;
 pub use limits::LOAD_MAPS;
 pub use limits::LOAD_PLACES;
+pub use limits::LONGEST_STUDY;
 pub use limits::MOST_COMPONENTS;
 pub use limits::MOST_CUSTOMERS;
 pub use limits::MOST_GATE_INPUTS;

@@ -48,5 +48,8 @@ pub const LOAD_MAPS: u8 = 8;
 // The loss gate of a load that is never lost: a number that no gate has.
 pub const NEVER: u8 = 255;
 
+// The bytes of the longest study that opens.
+pub const LONGEST_STUDY: usize = 2023;
+
 // Row 1: the bytes end inside or before a due field.
 pub const SHORT: u8 = 1;
