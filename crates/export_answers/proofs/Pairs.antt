@@ -11,6 +11,6 @@ use Rattle.export_answers.specs.Answers.{FillsPair}
 use Rattle.export_answers.proofs.Signed.{handed}
 
 pub pair-filled : {due r : ℤ} {breach : ℕ} {lowers uppers lower-was upper-was lower upper : List ℕ} → mag r < 2 ^ hbits w64 → r ≡ due
-    → (lower ≡ filled breach lowers lower-was) × (upper ≡ filled breach uppers upper-was)
+    → lower ≡ filled breach lowers lower-was → upper ≡ filled breach uppers upper-was
     → FillsPair due breach lowers uppers lower-was upper-was lower upper (toZ w64 (ofZ w64 r))
-pair-filled fits is left = record { answered = handed _ fits ∙ is; lower-left = left .0; upper-left = left .1 }
+pair-filled fits is lower-left upper-left = record { answered = handed _ fits ∙ is; lower-left = lower-left; upper-left = upper-left }

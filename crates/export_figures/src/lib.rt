@@ -79,10 +79,9 @@ fn hand_on(answer: FiguresAnswer, places: &mut [u64]) -> i64
 fn places_fault(t: Study, places: usize) -> u8
     ensures { λ r. ⌜ r ≡ placesFault t places ⌝ }
 {
-    first(
-        unsound_fault(is_sound(t)),
-        room_fault(FIGURE_PLACES, places),
-    )
+    let unsound = unsound_fault(is_sound(t));
+    let room = room_fault(FIGURE_PLACES, places);
+    first(unsound, room)
 }
 
 // SAIFI, SAIDI and CAIDI, lower and upper bound of each in its two of six places; answers how many are stated, since CAIDI may not be.

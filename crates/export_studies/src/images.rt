@@ -25,7 +25,9 @@ pub fn keep(answer: StudyAnswer, image: &mut [u8]) -> i64
     ensures { λ r. ⌜ KeepsStudy answer (now (image .entry)) (now (image .exit)) r ⌝ }
 {
     let outcome = answer.outcome;
-    let fault = first(refusal(outcome), room_fault(IMAGE_BYTES, image.len()));
+    let breach = refusal(outcome);
+    let room = room_fault(IMAGE_BYTES, image.len());
+    let fault = first(breach, room);
     if fault != 0 {
         return refused(fault);
     }

@@ -44,3 +44,7 @@ one-of (row ∷ rows) (suc n) = omega (arith, one-of rows n)
 pub word-short : (n : ℕ) → length (refusalWord n) ≤ wordBytes
 unfolding refusalWord refusalWords longest
 word-short n = omega (arith, one-of refusalWords n)
+
+-- a buffer with room for any word has room for this one
+pub any-word : (d : List ℕ) (n : ℕ) → wordBytes ≡ length d → Room d 0 (refusalWord n)
+any-word d n places = record { fits = omega (arith, word-short n) }

@@ -8,8 +8,9 @@ use Rattle.export_figures.proofs.hand_on.Tie as tie
 
 returns : tie.Need-returns
 returns c =
-    let wrote = c .before .before .before .write-figures .ensures in
-    let matched = c .before .before .before .before .before .before in
+    let writing = c .before .before .before in
+    let wrote = writing .write-figures .ensures in
+    let matched = writing .before .before .before in
     rw (matched .answer .given .1)
     (record { answered = handed _ (c .counted .ok) ∙ c .counted .ensures ∙ ap pos (wrote .0); left = wrote .1 })
 

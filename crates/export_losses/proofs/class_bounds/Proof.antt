@@ -8,7 +8,7 @@ returns : tie.Need-returns
 returns c =
     let asked = c .before .before .before .before .before in
     let bounded = rw (asked .before .before .before .read-image .ensures) at (asked .class-bounds .ensures) in
-    pair-filled (c .answer-outcome .ok) (rw (bounded .0) at (c .answer-outcome .ensures)) (bounded .1)
+    pair-filled (c .answer-outcome .ok) (rw (bounded .0) at (c .answer-outcome .ensures)) (bounded .1 .0) (bounded .1 .1)
 
 pub class-bounds-spec : {M : Type 1} → statement M
 class-bounds-spec =

@@ -20,7 +20,8 @@ returns c =
 
 returns-2 : tie.Need-returns-2
 returns-2 c =
-    let answer = sym (c .before .before .answer2 .given .1) ∙ bounded (c .before .before .before .before) in
+    let matched = c .before .before in
+    let answer = sym (matched .answer2 .given .1) ∙ bounded (matched .before .before) in
     rw (← answer) (record { answered = handed _ (c .refused .ok) ∙ c .refused .ensures; lower-left = refl; upper-left = refl })
 
 pub load-bounds-spec : {M : Type 1} → statement M

@@ -8,7 +8,7 @@ returns : tie.Need-returns
 returns c =
     let asked = c .before .before .before .before .before in
     let bounded = rw (asked .before .before .before .read-image .ensures) at (asked .path-bounds .ensures) in
-    pair-filled (c .answer-count .ok) (rw (bounded .0) at (c .answer-count .ensures)) (bounded .1)
+    pair-filled (c .answer-count .ok) (rw (bounded .0) at (c .answer-count .ensures)) (bounded .1 .0) (bounded .1 .1)
 
 pub path-bounds-spec : {M : Type 1} → statement M
 path-bounds-spec =

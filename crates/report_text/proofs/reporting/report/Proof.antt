@@ -17,8 +17,9 @@ hand-over-requires c κs = front-short (c .before .before .before .report-text .
 
 returns : tie.Need-returns
 returns c =
-    let wrote = c .before .before .before .before .before .before in
-    rw (whole-front (wrote .report-text .ensures)) at (c .before .before .hand-over .ensures)
+    let handed = c .before .before in
+    let wrote = handed .before .before .before .before in
+    rw (whole-front (wrote .report-text .ensures)) at (handed .hand-over .ensures)
 
 pub report-spec : {M : Type 1} → statement M
 report-spec =
