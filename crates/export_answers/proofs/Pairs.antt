@@ -6,11 +6,9 @@ use lib.IntN.{ℤ}
 use lib.Signed.{mag}
 use mir.Syntax.{w64}
 use mir.Val.{hbits, toZ, ofZ}
-use Rattle.answers.specs.Answered.{filled}
 use Rattle.export_answers.specs.Answers.{FillsPair}
 use Rattle.export_answers.proofs.Signed.{handed}
 
-pub pair-filled : {due r : ℤ} {breach : ℕ} {lowers uppers lower-was upper-was lower upper : List ℕ} → mag r < 2 ^ hbits w64 → r ≡ due
-    → lower ≡ filled breach lowers lower-was → upper ≡ filled breach uppers upper-was
-    → FillsPair due breach lowers uppers lower-was upper-was lower upper (toZ w64 (ofZ w64 r))
+pub pair-filled : {due r : ℤ} {lower-due upper-due lower upper : List ℕ} → mag r < 2 ^ hbits w64 → r ≡ due → lower ≡ lower-due → upper ≡ upper-due
+    → FillsPair due lower-due upper-due lower upper (toZ w64 (ofZ w64 r))
 pair-filled fits is lower-left upper-left = record { answered = handed _ fits ∙ is; lower-left = lower-left; upper-left = upper-left }

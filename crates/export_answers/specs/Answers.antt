@@ -5,7 +5,6 @@ use mathlib.Core.List.{List}
 use lib.IntN.{ℤ, pos, negℤ}
 use lib.ListN.{length, getD}
 use Rattle.lists.specs.Rows.{put}
-use Rattle.answers.specs.Answered.{filled}
 use Rattle.answers.specs.Told.{Told, result, refusal}
 
 -- ---- the answer
@@ -43,8 +42,8 @@ abbrev pub takenBy : Told → ℕ → ℕ → ℕ
 takenBy (result values) place was = getD values place 0
 takenBy (refusal number) place was = was
 
--- a call for bounds in two slices: what it answers, and what it leaves of each
-pub record FillsPair (due : ℤ) (breach : ℕ) (lowers uppers lower-was upper-was lower upper : List ℕ) (answer : ℤ) : Type 0 where
+-- a call for bounds in two slices: what is due as its answer and in each slice, and what it answers and leaves
+pub record FillsPair (due : ℤ) (lower-due upper-due lower upper : List ℕ) (answer : ℤ) : Type 0 where
   pub answered : answer ≡ due
-  pub lower-left : lower ≡ filled breach lowers lower-was
-  pub upper-left : upper ≡ filled breach uppers upper-was
+  pub lower-left : lower ≡ lower-due
+  pub upper-left : upper ≡ upper-due

@@ -5,17 +5,15 @@ use mathlib.Core.List.{List}
 use lib.IntN.{ℤ, pos}
 use Rattle.answers.specs.Told.{Told, outcomeTold, boundsTold}
 use Rattle.fault_tree.specs.Classes.{loadsLost}
-use Rattle.study_model.specs.Model.{modelOf}
-use Rattle.evaluation.specs.Bounds.{classLowers, classUppers}
-use Rattle.planning.specs.Bounds.{classesFault, classesBounded, loadBounded}
+use Rattle.planning.specs.Bounds.{classesBounded, lowerOfClasses, upperOfClasses, loadBounded}
 use Rattle.study_image.specs.Image.{studyIn}
 use Rattle.export_answers.specs.Answers.{answeredBy, done, takenBy, FillsPair}
 
 -- the call for the classes
 abbrev pub BoundsClasses : List ℕ → List ℕ → List ℕ → List ℕ → List ℕ → ℤ → Type 0
 BoundsClasses study lower upper =
-    FillsPair (answeredBy done (outcomeTold (classesBounded (studyIn study) lower upper))) (classesFault (studyIn study) lower upper)
-    (classLowers (modelOf (studyIn study))) (classUppers (modelOf (studyIn study))) lower upper
+    FillsPair (answeredBy done (outcomeTold (classesBounded (studyIn study) lower upper))) (lowerOfClasses (studyIn study) lower upper)
+    (upperOfClasses (studyIn study) lower upper)
 
 -- the call for a load: what its answer tells, in two numbers
 pub record TakesPair (told : Told) (lower-was upper-was lower upper : ℕ) (answer : ℤ) : Type 0 where

@@ -4,9 +4,7 @@ use mathlib.Core.List.{List}
 use Prim.Native.Nat.{ℕ}
 use lib.IntN.{ℤ}
 use Rattle.answers.specs.Told.{listingTold, countTold}
-use Rattle.study_model.specs.Model.{modelOf}
-use Rattle.evaluation.specs.Bounds.{pathLowers, pathUppers}
-use Rattle.planning.specs.Bounds.{pathsFault, pathsBounded}
+use Rattle.planning.specs.Bounds.{pathsBounded, lowerOfPaths, upperOfPaths}
 use Rattle.planning.specs.Listing.{pathsListed, bufferListed}
 use Rattle.study_image.specs.Image.{studyIn}
 use Rattle.export_answers.specs.Answers.{answeredBy, count, FillsPair}
@@ -19,5 +17,5 @@ pub record ListsPaths (study was buffer : List ℕ) (answer : ℤ) : Type 0 wher
 -- the call for bounds
 abbrev pub BoundsPaths : List ℕ → List ℕ → List ℕ → List ℕ → List ℕ → ℤ → Type 0
 BoundsPaths study lower upper =
-    FillsPair (answeredBy count (countTold (pathsBounded (studyIn study) lower upper))) (pathsFault (studyIn study) lower upper)
-    (pathLowers (modelOf (studyIn study))) (pathUppers (modelOf (studyIn study))) lower upper
+    FillsPair (answeredBy count (countTold (pathsBounded (studyIn study) lower upper))) (lowerOfPaths (studyIn study) lower upper)
+    (upperOfPaths (studyIn study) lower upper)
