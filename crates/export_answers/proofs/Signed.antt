@@ -11,6 +11,7 @@ use Rattle.export_answers.specs.Answers.{below}
 
 -- ---- a refusal: its number, a byte, below 0
 
+-- it fits
 below-fits : (n : ℕ) → n < 256 → SFits w64 (below n)
 below-fits zero h = record { sfits = omega arith }
 below-fits (suc n) h = record { sfits = omega arith }
@@ -20,14 +21,17 @@ module _ (n : ℕ) (small : n < 256) where
   less : pos 0 -ℤ toZ w64 n ≡ below n
   less = ap (λ (z : ℤ). pos 0 -ℤ z) (toZ-pos w64 n (omega arith)) ∙ +ℤ-idl (below n)
 
+  -- it fits
   pub minus-fits : SFits w64 (pos 0 -ℤ toZ w64 n)
   minus-fits = subst (SFits w64) (sym less) (below-fits n small)
 
+  -- and is the refusal below 0
   pub minus-is : toZ w64 (ofZ w64 (pos 0 -ℤ toZ w64 n)) ≡ below n
   minus-is = toZ-ofZ w64 _ minus-fits ∙ less
 
 -- ---- what a call answered is answered on
 
+-- the number is kept
 pub handed : (r : ℤ) → mag r < 2 ^ hbits w64 → toZ w64 (ofZ w64 r) ≡ r
 handed r fits = toZ-ofZ w64 r (record { sfits = fits })
 

@@ -52,10 +52,12 @@ module _ (t : Study) (places fault : ℕ) (is-fault : fault ≡ placesFault t pl
       rw (two-of-three _ _ (customersFault (customersOf t)) (λ none. some (is-fault ∙ none)), ← is-fault) (sym (answered-refused Refused _ _ some))
 
   module _ (none : fault ≡ 0) where
+    -- neither 16 nor 18
     both : Neither (unsoundFault (sound t)) (roomFault figurePlaces places)
     unfolding placesFault
     both = both-kept _ _ (sym is-fault ∙ none)
 
+    -- so that there are places enough
     pub places-room : figurePlaces ≤ places
     places-room = room-kept figurePlaces places (both .right)
 

@@ -30,6 +30,7 @@ placesFault t room = firstBreach (unsoundFault (sound t) ∷ roomFault figurePla
 unfoldable pub figuresInFault : Study → ℕ → ℕ
 figuresInFault t room = firstBreach (unsoundFault (sound t) ∷ roomFault figurePlaces room ∷ customersFault (customersOf t) ∷ [])
 
+-- the answer
 unfoldable pub figuresIn : Study → ℕ → FiguresAnswer
 unfolding answered
 figuresIn t room = answered Refused (figuresInFault t room) (Figures (modelFigures (modelOf t)))
@@ -40,5 +41,5 @@ pub record PlacesFigures (given : FiguresAnswer) (was places : List ℕ) (answer
   pub left : places ≡ leftBy (figuresTold given) was
 
 -- the call
-abbrev pub GivesFigures : List ℕ → List ℕ → List ℕ → ℤ → Type 0
+abbrev pub GivesFigures : (study was places : List ℕ) → ℤ → Type 0
 GivesFigures study was = PlacesFigures (figuresIn (studyIn study) (length was)) was

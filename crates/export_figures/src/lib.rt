@@ -19,12 +19,14 @@ ghost use Rattle.answers.specs.Told.{pairValues, caidiValues, figureValues};
 ghost use Rattle.export_answers.specs.Answers.{pairs};
 ghost use Rattle.export_figures.specs.Figures.{figurePlaces, placesFault, PlacesFigures, GivesFigures};
 
+// Where the pair of each figure stands.
 const SAIFI_AT: usize = 0;
 
 const SAIDI_AT: usize = 2;
 
 const CAIDI_AT: usize = 4;
 
+// The places of all three.
 const FIGURE_PLACES: usize = 6;
 
 // Writes a pair of bounds at a place.

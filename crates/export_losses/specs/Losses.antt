@@ -10,20 +10,21 @@ use Rattle.study_image.specs.Image.{studyIn}
 use Rattle.export_answers.specs.Answers.{answeredBy, done, takenBy, FillsPair}
 
 -- the call for the classes
-abbrev pub BoundsClasses : List ℕ → List ℕ → List ℕ → List ℕ → List ℕ → ℤ → Type 0
-BoundsClasses study lower upper =
-    FillsPair (answeredBy done (outcomeTold (classesBounded (studyIn study) lower upper))) (lowerOfClasses (studyIn study) lower upper)
-    (upperOfClasses (studyIn study) lower upper)
+abbrev pub BoundsClasses : (study lower-was upper-was lower upper : List ℕ) → ℤ → Type 0
+BoundsClasses study lower-was upper-was =
+    FillsPair (answeredBy done (outcomeTold (classesBounded (studyIn study) lower-was upper-was))) (lowerOfClasses (studyIn study) lower-was upper-was)
+    (upperOfClasses (studyIn study) lower-was upper-was)
 
--- the call for a load: what its answer tells, in two numbers
+-- a pair of bounds that is told, in two numbers: what is answered, and what is left in each
 pub record TakesPair (told : Told) (lower-was upper-was lower upper : ℕ) (answer : ℤ) : Type 0 where
   pub answered : answer ≡ answeredBy done told
   pub lower-left : lower ≡ takenBy told 0 lower-was
   pub upper-left : upper ≡ takenBy told 1 upper-was
 
-abbrev pub BoundsLoad : List ℕ → ℕ → ℕ → ℕ → ℕ → ℕ → ℤ → Type 0
+-- the call for a load
+abbrev pub BoundsLoad : (study : List ℕ) (load lower-was upper-was lower upper : ℕ) → ℤ → Type 0
 BoundsLoad study load = TakesPair (boundsTold (loadBounded (studyIn study) load))
 
 -- the call for the loads of a class
-abbrev pub CountsLost : ℕ → ℤ → Type 0
+abbrev pub CountsLost : (class : ℕ) → ℤ → Type 0
 CountsLost class answer = answer ≡ pos (loadsLost class)

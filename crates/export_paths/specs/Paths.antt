@@ -1,7 +1,7 @@
 -- The calls for the paths of the study that an image holds: their list, and bounds for each.
+use Prim.Native.Nat.{ℕ}
 use mathlib.Core.Path.{_≡_}
 use mathlib.Core.List.{List}
-use Prim.Native.Nat.{ℕ}
 use lib.IntN.{ℤ}
 use Rattle.answers.specs.Told.{listingTold, countTold}
 use Rattle.planning.specs.Bounds.{pathsBounded, lowerOfPaths, upperOfPaths}
@@ -15,7 +15,7 @@ pub record ListsPaths (study was buffer : List ℕ) (answer : ℤ) : Type 0 wher
   pub listed : buffer ≡ bufferListed (studyIn study) was
 
 -- the call for bounds
-abbrev pub BoundsPaths : List ℕ → List ℕ → List ℕ → List ℕ → List ℕ → ℤ → Type 0
-BoundsPaths study lower upper =
-    FillsPair (answeredBy count (countTold (pathsBounded (studyIn study) lower upper))) (lowerOfPaths (studyIn study) lower upper)
-    (upperOfPaths (studyIn study) lower upper)
+abbrev pub BoundsPaths : (study lower-was upper-was lower upper : List ℕ) → ℤ → Type 0
+BoundsPaths study lower-was upper-was =
+    FillsPair (answeredBy count (countTold (pathsBounded (studyIn study) lower-was upper-was))) (lowerOfPaths (studyIn study) lower-was upper-was)
+    (upperOfPaths (studyIn study) lower-was upper-was)

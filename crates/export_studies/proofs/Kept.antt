@@ -28,7 +28,7 @@ use Rattle.editing.specs.Edits.{refusedEdit, edited}
 use Rattle.export_answers.proofs.Signed.{handed-on}
 use Rattle.export_studies.specs.Images.{refusalOf, keepFault, Keeps, KeepsStudy, KeepsEdited}
 
--- ---- a study of an answer
+-- ---- the study of an answer
 
 -- as the code finds it
 pub keep-is : (answer : StudyAnswer) (slice : List ℕ) {fault refusal room : ℕ} → fault ≡ first refusal room → refusal ≡ refusalOf answer
@@ -43,6 +43,7 @@ keep-room answer slice none = room-kept imageBytes (length slice) (both-kept _ _
 
 -- ---- edits
 
+-- a rule that is kept refuses by nothing
 refuse-none : (n : ℕ) → refuse n false ≡ 0
 unfolding refuse
 refuse-none n = refl
@@ -82,6 +83,7 @@ module _ (slice rest : List ℕ) (new : Study) where
   abbrev edit : StudyAnswer
   edit = edited (firstBreach (unsoundFault (sound (studyIn slice)) ∷ rest)) (studyIn slice) new
 
+  -- the room adds no breach
   edit-fault : keepFault edit slice ≡ refusalOf edit
   unfolding keepFault
   edit-fault =
@@ -92,5 +94,5 @@ module _ (slice rest : List ℕ) (new : Study) where
   pub edit-keeps : {answer : StudyAnswer} {after : List ℕ} {r : ℤ} → answer ≡ edit → mag r < 2 ^ hbits w64 → KeepsStudy answer slice after r
       → KeepsEdited edit slice after (toZ w64 (ofZ w64 r))
   edit-keeps {answer} {after} {r} is fits kept =
-      let opens : KeepsStudy edit slice after r = subst (λ (a : StudyAnswer). KeepsStudy a slice after r) is kept in
-      handed-on (KeepsEdited edit slice after) fits (subst (λ (breach : ℕ). Keeps breach (edit .study) slice after r) edit-fault opens)
+      let keeps : KeepsStudy edit slice after r = subst (λ (a : StudyAnswer). KeepsStudy a slice after r) is kept in
+      handed-on (KeepsEdited edit slice after) fits (subst (λ (breach : ℕ). Keeps breach (edit .study) slice after r) edit-fault keeps)

@@ -25,6 +25,7 @@ pub record Keeps (breach : ℕ) (t : Study) (was slice : List ℕ) (answer : ℤ
 
 -- ---- the study of an answer
 
+-- the number by which it was refused, 0 for none
 abbrev pub refusalOf : StudyAnswer → ℕ
 refusalOf answer = numberTold (outcomeTold (answer .outcome))
 
@@ -32,23 +33,28 @@ refusalOf answer = numberTold (outcomeTold (answer .outcome))
 unfoldable pub keepFault : StudyAnswer → List ℕ → ℕ
 keepFault answer slice = firstBreach (refusalOf answer ∷ roomFault imageBytes (length slice) ∷ [])
 
-abbrev pub KeepsStudy : StudyAnswer → List ℕ → List ℕ → ℤ → Type 0
+-- so it is kept
+abbrev pub KeepsStudy : StudyAnswer → (was slice : List ℕ) → ℤ → Type 0
 KeepsStudy answer was = Keeps (keepFault answer was) (answer .study) was
 
 -- of an edit: only what refused it, since a slice shorter than an image holds no sound study
-abbrev pub KeepsEdited : StudyAnswer → List ℕ → List ℕ → ℤ → Type 0
+abbrev pub KeepsEdited : StudyAnswer → (was slice : List ℕ) → ℤ → Type 0
 KeepsEdited answer was = Keeps (refusalOf answer) (answer .study) was
 
 -- ---- the calls
 
-abbrev pub Opens : List ℕ → List ℕ → List ℕ → ℤ → Type 0
+-- opening
+abbrev pub Opens : (bytes was slice : List ℕ) → ℤ → Type 0
 Opens bytes = KeepsStudy (opened bytes)
 
-abbrev pub SetsProbabilities : ℕ → ℕ → ℕ → ℕ → List ℕ → List ℕ → ℤ → Type 0
+-- the edit of a component's probabilities
+abbrev pub SetsProbabilities : (component p1 p2 p3 : ℕ) (was slice : List ℕ) → ℤ → Type 0
 SetsProbabilities component p1 p2 p3 was = KeepsEdited (probabilitiesSet (studyIn was) component p1 p2 p3) was
 
-abbrev pub SetsCustomers : ℕ → ℕ → List ℕ → List ℕ → ℤ → Type 0
+-- the edit of a load's customers
+abbrev pub SetsCustomers : (load customers : ℕ) (was slice : List ℕ) → ℤ → Type 0
 SetsCustomers load customers was = KeepsEdited (customersSet (studyIn was) load customers) was
 
-abbrev pub SetsMinutes : ℕ → ℕ → List ℕ → List ℕ → ℤ → Type 0
+-- the edit of a load's minutes
+abbrev pub SetsMinutes : (load minutes : ℕ) (was slice : List ℕ) → ℤ → Type 0
 SetsMinutes load minutes was = KeepsEdited (minutesSet (studyIn was) load minutes) was

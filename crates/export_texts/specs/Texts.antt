@@ -15,9 +15,9 @@ pub record WritesText (text was buffer : List ℕ) (answer : ℤ) : Type 0 where
   pub left : buffer ≡ written text was
 
 -- the call for the report of a study's bytes
-abbrev pub Reports : List ℕ → List ℕ → List ℕ → ℤ → Type 0
+abbrev pub Reports : (bytes was buffer : List ℕ) → ℤ → Type 0
 Reports bytes = WritesText (reportText bytes)
 
 -- the call for the word of a refusal
-abbrev pub Words : ℕ → List ℕ → List ℕ → ℤ → Type 0
+abbrev pub Words : (number : ℕ) (was buffer : List ℕ) → ℤ → Type 0
 Words number = WritesText (refusalWord number)

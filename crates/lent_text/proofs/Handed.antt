@@ -22,17 +22,21 @@ fault-kept text buffer none = room-kept (length text) (length buffer) (sym (list
 -- ---- as the code judges it
 
 module _ (text buffer : List ℕ) {fault : ℕ} (is-fault : fault ≡ roomFault (length text) (length buffer)) where
+  -- the room alone is judged
   judged : fault ≡ textFault text buffer
   unfolding textFault
   judged = is-fault ∙ sym (list-last _)
 
+  -- a buffer that is too short
   pub refused-over : (fault ≡ 0 → ⊥) → (Refused fault ≡ reported text buffer) × (buffer ≡ written text buffer)
   unfolding reported written
   refused-over some = rw (← judged) (sym (answered-refused Refused fault (Count (length text)) some), sym (filled-refused fault text buffer some))
 
+  -- one that is not has the room
   pub over-room : fault ≡ 0 → Room buffer 0 text
   over-room none = record { fits = omega (arith, fault-kept text buffer (sym judged ∙ none)) }
 
+  -- and holds the text once it is written
   pub handed-over : {after : List ℕ} {next : ℕ} → fault ≡ 0 → Wrote buffer 0 text after next
       → (Count (length text) ≡ reported text buffer) × (after ≡ written text buffer)
   unfolding reported written
@@ -47,6 +51,7 @@ pub reported-tells : (text buffer : List ℕ) → countTold (reported text buffe
 unfolding reported
 reported-tells text buffer = answered-tells Refused (textFault text buffer) (Count (length text)) countTold (length text ∷ []) (λ n. refl) refl
 
+-- the bytes that are counted stand inside the buffer
 pub told-inside : (text buffer : List ℕ) (answer : CountAnswer) (size : ℕ) → answer ≡ reported text buffer → answer ≡ Count size → size ≤ length buffer
 told-inside text buffer answer size e is-written =
     let told = ap countTold (sym e ∙ is-written) in

@@ -9,6 +9,7 @@ use Rattle.lists.specs.Rows.{put}
 use Rattle.text.specs.Writing.{Wrote}
 
 module _ {d text d′ : List ℕ} {size : ℕ} (wrote : Wrote d 0 text d′ size) where
+  -- as many bytes were written as the text has
   long : size ≡ length text
   long = omega (arith, wrote .behind)
 
@@ -17,6 +18,7 @@ module _ {d text d′ : List ℕ} {size : ℕ} (wrote : Wrote d 0 text d′ size
   unfolding put
   whole-front = rw (wrote .holds) (take-at text (drop (0 + length text) d) size (sym long))
 
+  -- and stands inside the buffer
   pub whole-inside : size ≤ length d′
   unfolding put
   whole-inside = rw (wrote .holds, length-append text (drop (0 + length text) d)) (omega (arith, long))

@@ -21,6 +21,7 @@ study c = studyIn (start c .args .study .now)
 abbrev places : tie.After-places-fault → List ℕ
 places c = start c .args .places .now
 
+-- the breach that the code finds
 fault : (c : tie.After-places-fault) → c .places-fault .result ≡ placesFault (study c) (length (places c))
 fault c = rw (c .before .read-image .ensures) at (c .places-fault .ensures)
 

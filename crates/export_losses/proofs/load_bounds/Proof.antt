@@ -10,6 +10,7 @@ use Rattle.export_losses.proofs.load_bounds.Tie as tie
 abbrev start : tie.After-load-bounds → tie.Start
 start c = c .before .before .before
 
+-- the bounds of the load of the study that the image holds
 bounded : (c : tie.After-load-bounds) → c .load-bounds .result ≡ loadBounded (studyIn (start c .args .study .now)) (start c .args .load)
 bounded c = rw (c .before .read-image .ensures) at (c .load-bounds .ensures)
 
