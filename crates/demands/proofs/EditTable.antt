@@ -19,7 +19,7 @@ use Rattle.soundness.specs.Sound.{Sound}
 use Rattle.soundness.proofs.Checked.{none-unsound}
 use Rattle.demands.specs.Demand1.{EditFields}
 use Rattle.demands.specs.Edits.{Edit, probabilities, customers, minutes, edit, changed, Reached, edited, after}
-use Rattle.demands.specs.Edits.{Table, tableOf, tableBreach, write, tableAfter, othersOf}
+use Rattle.demands.specs.Edits.{Table, itemsOf, tableOf, tableBreach, write, tableAfter, othersOf}
 use Rattle.demands.proofs.Edited.{breach, either, component-kept, load-kept}
 use Rattle.demands.proofs.Reached.{reached-sound, component-inside, load-inside}
 
@@ -32,40 +32,36 @@ table-breach (customers j n) t s = front-kept _ _ (none-unsound t s)
 table-breach (minutes j n) t s = front-kept _ _ (none-unsound t s)
 
 -- two tables of the same items whose columns agree
-same-table : (f g : Table) → f .components ≡ g .components → f .loads ≡ g .loads → ((i : ℕ) → f .states i ≡ g .states i)
-    → ((i : ℕ) → f .p1 i ≡ g .p1 i) → ((i : ℕ) → f .p2 i ≡ g .p2 i) → ((i : ℕ) → f .p3 i ≡ g .p3 i)
+same-table : (f g : Table) → f .items ≡ g .items → ((i : ℕ) → f .p1 i ≡ g .p1 i) → ((i : ℕ) → f .p2 i ≡ g .p2 i) → ((i : ℕ) → f .p3 i ≡ g .p3 i)
     → ((j : ℕ) → f .customers j ≡ g .customers j) → ((j : ℕ) → f .minutes j ≡ g .minutes j) → f ≡ g
-same-table f g components loads states p1 p2 p3 c m =
+same-table f g items p1 p2 p3 c m =
     λ x.
-    record {
-      components = components x;
-      loads = loads x;
-      states = fun-ext states x;
-      p1 = fun-ext p1 x;
-      p2 = fun-ext p2 x;
-      p3 = fun-ext p3 x;
-      customers = fun-ext c x;
-      minutes = fun-ext m x;
-    }
+    record { items = items x; p1 = fun-ext p1 x; p2 = fun-ext p2 x; p3 = fun-ext p3 x; customers = fun-ext c x; minutes = fun-ext m x }
+
+-- no edit of probabilities changes a state count
+states-kept : (t : Study) (i p1 p2 p3 : ℕ) → itemsOf (changed (probabilities i p1 p2 p3) t) ≡ itemsOf t
+states-kept t i p1 p2 p3 =
+    let new = withProbabilities p1 p2 p3 (componentAt t i) in
+    let states = set-column-kept (t .component) i new zeroComponent (λ (c : Component). c .states) refl in
+    λ x. record { components = t .components; loads = t .loads; states = fun-ext states x }
 
 -- an edit without a breach writes its columns
 changed-table : (e : Edit) (t : Study) → Reached t → breach e t ≡ 0 → tableOf (changed e t) ≡ write e (tableOf t)
 changed-table (probabilities i p1 p2 p3) t r none =
     let room = component-inside t r i (component-kept t i p1 p2 p3 none .below) in
     let column = set-column (t .component) i (withProbabilities p1 p2 p3 (componentAt t i)) zeroComponent in
-    let states = set-column-kept (t .component) i (withProbabilities p1 p2 p3 (componentAt t i)) zeroComponent (λ (c : Component). c .states) refl in
-    same-table _ _ refl refl states (column (λ (c : Component). c .p1) p1 room refl) (column (λ (c : Component). c .p2) p2 room refl)
+    same-table _ _ (states-kept t i p1 p2 p3) (column (λ (c : Component). c .p1) p1 room refl) (column (λ (c : Component). c .p2) p2 room refl)
     (column (λ (c : Component). c .p3) p3 room refl) (λ j. refl) (λ j. refl)
 changed-table (customers j n) t r none =
     let new = withCustomers n (loadAt t j) in
     let room = load-inside t r j (load-kept t j mostCustomers n none .below) in
-    same-table _ _ refl refl (λ i. refl) (λ i. refl) (λ i. refl) (λ i. refl)
+    same-table _ _ refl (λ i. refl) (λ i. refl) (λ i. refl)
     (set-column (t .load) j new zeroLoad (λ (l : Load). l .customers) n room refl)
     (set-column-kept (t .load) j new zeroLoad (λ (l : Load). l .minutes) refl)
 changed-table (minutes j n) t r none =
     let new = withMinutes n (loadAt t j) in
     let room = load-inside t r j (load-kept t j mostMinutes n none .below) in
-    same-table _ _ refl refl (λ i. refl) (λ i. refl) (λ i. refl) (λ i. refl)
+    same-table _ _ refl (λ i. refl) (λ i. refl) (λ i. refl)
     (set-column-kept (t .load) j new zeroLoad (λ (l : Load). l .customers) refl)
     (set-column (t .load) j new zeroLoad (λ (l : Load). l .minutes) n room refl)
 

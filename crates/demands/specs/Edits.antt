@@ -60,23 +60,28 @@ after (e ∷ es) t = after es (edit e t .study)
 
 -- ---- a plain table of fields
 
--- what no edit changes (how many items there are, and the states of each component), and a column for each field that one can
-pub record Table : Type 0 where
+-- what no edit changes of it: how many items there are, and the state count of each component
+pub record Items : Type 0 where
   pub components : ℕ
   pub loads : ℕ
   pub states : ℕ → ℕ
+
+-- and a column for each field that an edit can change
+pub record Table : Type 0 where
+  pub items : Items
   pub p1 : ℕ → ℕ
   pub p2 : ℕ → ℕ
   pub p3 : ℕ → ℕ
   pub customers : ℕ → ℕ
   pub minutes : ℕ → ℕ
 
+abbrev pub itemsOf : Study → Items
+itemsOf t = record { components = t .components; loads = t .loads; states = λ i. componentAt t i .states }
+
 abbrev pub tableOf : Study → Table
 tableOf t =
     record {
-      components = t .components;
-      loads = t .loads;
-      states = λ i. componentAt t i .states;
+      items = itemsOf t;
       p1 = λ i. componentAt t i .p1;
       p2 = λ i. componentAt t i .p2;
       p3 = λ i. componentAt t i .p3;
@@ -86,9 +91,9 @@ tableOf t =
 
 -- by what an edit is refused, from the table alone: 17, then the rules of its field
 abbrev pub tableBreach : Edit → Table → ℕ
-tableBreach (probabilities i p1 p2 p3) f = firstBreach (itemFault (f .components) i ∷ probabilitiesFault (f .states i) p1 p2 p3 ∷ [])
-tableBreach (customers j n) f = firstBreach (itemFault (f .loads) j ∷ sizeFault mostCustomers n ∷ [])
-tableBreach (minutes j n) f = firstBreach (itemFault (f .loads) j ∷ sizeFault mostMinutes n ∷ [])
+tableBreach (probabilities i p1 p2 p3) f = firstBreach (itemFault (f .items .components) i ∷ probabilitiesFault (f .items .states i) p1 p2 p3 ∷ [])
+tableBreach (customers j n) f = firstBreach (itemFault (f .items .loads) j ∷ sizeFault mostCustomers n ∷ [])
+tableBreach (minutes j n) f = firstBreach (itemFault (f .items .loads) j ∷ sizeFault mostMinutes n ∷ [])
 
 -- a column with n at one item
 abbrev pub written : ℕ → ℕ → (ℕ → ℕ) → ℕ → ℕ
@@ -98,9 +103,7 @@ written item n column k = cond (eqb k item) n (column k)
 abbrev pub write : Edit → Table → Table
 write (probabilities i p1 p2 p3) f =
     record {
-      components = f .components;
-      loads = f .loads;
-      states = f .states;
+      items = f .items;
       p1 = written i p1 (f .p1);
       p2 = written i p2 (f .p2);
       p3 = written i p3 (f .p3);
@@ -108,27 +111,9 @@ write (probabilities i p1 p2 p3) f =
       minutes = f .minutes;
     }
 write (customers j n) f =
-    record {
-      components = f .components;
-      loads = f .loads;
-      states = f .states;
-      p1 = f .p1;
-      p2 = f .p2;
-      p3 = f .p3;
-      customers = written j n (f .customers);
-      minutes = f .minutes;
-    }
+    record { items = f .items; p1 = f .p1; p2 = f .p2; p3 = f .p3; customers = written j n (f .customers); minutes = f .minutes }
 write (minutes j n) f =
-    record {
-      components = f .components;
-      loads = f .loads;
-      states = f .states;
-      p1 = f .p1;
-      p2 = f .p2;
-      p3 = f .p3;
-      customers = f .customers;
-      minutes = written j n (f .minutes);
-    }
+    record { items = f .items; p1 = f .p1; p2 = f .p2; p3 = f .p3; customers = f .customers; minutes = written j n (f .minutes) }
 
 -- the table after a row of edits; a refused edit writes nothing
 abbrev pub tableAfter : List Edit → Table → Table
