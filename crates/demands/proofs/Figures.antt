@@ -20,7 +20,7 @@ use Rattle.study_model.proofs.Good.{sound-good}
 use Rattle.evaluation.specs.Bounds.{loadLowers, loadUppers}
 use Rattle.evaluation.specs.Figures.{modelFigures}
 use Rattle.evaluation.proofs.LossOrder.{lower-at, upper-at}
-use Rattle.planning.specs.Figures.{customersOf, figuresFault, figuresGiven}
+use Rattle.loss_calls.specs.Figures.{customersOf, figuresFault, figuresGiven}
 use Rattle.demands.specs.Calls.{figures as forFigures}
 use Rattle.demands.specs.Demand2.{exactLost, FiguresEnclose, ModelFiguresEnclose, FiguresAnswered}
 use Rattle.demands.proofs.Bounds.{losses-within}

@@ -28,7 +28,7 @@ use Rattle.model.proofs.Listing.{entries-wide, list-need, paths-few}
 use Rattle.model.proofs.Paths.{paths-same-iff}
 use Rattle.study_model.specs.Model.{modelOf}
 use Rattle.study_model.proofs.Good.{sound-good}
-use Rattle.planning.specs.Listing.{pathList, listFault, bufferListed}
+use Rattle.path_calls.specs.Listing.{pathList, listFault, bufferListed}
 use Rattle.demands.specs.Calls.{listPaths}
 use Rattle.demands.specs.Demand3.{LoseAlike, ListsEqual, ModelListsEqualIff, ListsEqualIff}
 use Rattle.demands.specs.Listed.{ListedBy}

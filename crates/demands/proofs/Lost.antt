@@ -26,7 +26,7 @@ use Rattle.paths.specs.Words.{fits}
 use Rattle.fault_tree.specs.Truth.{trueTests, trueGates, gateTrue, withTruth, gateTruths}
 use Rattle.fault_tree.proofs.GateTruths.{truths-long}
 use Rattle.fault_tree.specs.Classes.{lost, classBy, classOf}
-use Rattle.planning.specs.Listing.{bufferListed}
+use Rattle.path_calls.specs.Listing.{bufferListed}
 use Rattle.demands.specs.Demand2.{isTrue, GatesAgree, LossGateTrue, TellsLosses, LostIff, ListedLosses}
 use Rattle.demands.specs.Listed.{pathsIn}
 use Rattle.demands.proofs.Paths.{one-path}

@@ -14,9 +14,10 @@ use Rattle.answers.specs.declared.counts.Listing.the-variants.{Refused as NotLi
 use Rattle.answers.specs.declared.figures.FiguresAnswer.the-variants.{Refused as NoFigures}
 use Rattle.answers.specs.declared.outcome.Outcome.the-variants.{Refused}
 use Rattle.answers.proofs.Answered.{answered-tells, some-breach, filled-refused, filled-behind}
-use Rattle.planning.specs.Bounds.{pairBreach, pathsBounded, classesBounded, lossFault, loadBounded}
-use Rattle.planning.specs.Figures.{figuresFault, figuresGiven}
-use Rattle.planning.specs.Listing.{listFault, pathsListed, bufferListed}
+use Rattle.loss_calls.specs.Bounds.{lossFault, loadBounded}
+use Rattle.path_calls.specs.Bounds.{pairBreach, pathsBounded, classesBounded}
+use Rattle.loss_calls.specs.Figures.{figuresFault, figuresGiven}
+use Rattle.path_calls.specs.Listing.{listFault, pathsListed, bufferListed}
 use Rattle.lent_text.specs.Lent.{textFault, written}
 use Rattle.lent_text.proofs.Handed.{reported-tells}
 use Rattle.demands.specs.Calls.{Call, anEdit, listPaths, pathBounds, classBounds, loadBounds, figures}

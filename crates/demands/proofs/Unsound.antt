@@ -15,7 +15,7 @@ use Rattle.answers.proofs.Answered.{tells-refusal, some-breach, breach-told}
 use Rattle.soundness.specs.Check.{sound, probabilitiesFault}
 use Rattle.soundness.specs.Sound.{Sound}
 use Rattle.soundness.proofs.Checked.{check-refuses, none-unsound}
-use Rattle.planning.specs.Bounds.{pairFault}
+use Rattle.path_calls.specs.Bounds.{pairFault}
 use Rattle.demands.specs.Calls.{Call, anEdit, listPaths, pathBounds, classBounds, loadBounds, figures}
 use Rattle.demands.specs.Calls.{callTold, callBreaches, callValues, numbersBehind}
 use Rattle.demands.specs.Demand1.{OneOf, UnsoundRefused, NumbersListed}

@@ -14,7 +14,7 @@ use Rattle.model.specs.Held.{Listed as Holds}
 use Rattle.model.specs.Model.{Model, components}
 use Rattle.fault_tree.specs.Classes.{classOf}
 use Rattle.study_model.specs.Model.{modelOf}
-use Rattle.planning.specs.Listing.{bufferListed}
+use Rattle.path_calls.specs.Listing.{bufferListed}
 use Rattle.demands.specs.Listed.{ListedBy, pathsIn, pathIn}
 
 -- ---- equal lists

@@ -7,7 +7,7 @@ use Rattle.study.specs.declared.Study.{Study}
 use Rattle.study.specs.Joint.{stateCounts}
 use Rattle.answers.specs.declared.counts.Listing.the-variants.{Listed}
 use Rattle.entries.specs.Entries.{entriesOf}
-use Rattle.planning.specs.Listing.{pathsListed, bufferListed}
+use Rattle.path_calls.specs.Listing.{pathsListed, bufferListed}
 
 -- a call for the list of t with buffer d was not refused, and answered p paths
 abbrev pub ListedBy : Study → List ℕ → ℕ → Type 0

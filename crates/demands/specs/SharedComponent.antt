@@ -10,7 +10,7 @@ use Rattle.lists.specs.Counting.{truth}
 use Rattle.study.specs.Zero.{zeroLoad}
 use Rattle.model.specs.Model.{Model}
 use Rattle.accuracy.specs.Accuracy.{wholeOf}
-use Rattle.planning.specs.Bounds.{lossOf}
+use Rattle.loss_calls.specs.Bounds.{lossOf}
 use Rattle.demands.specs.Demand2.{exactLost}
 
 -- each of the two fails when the component that both need is in state 1

@@ -18,7 +18,7 @@ use Rattle.answers.specs.declared.figures.Caidi.the-variants.{Bounds, NotStated
 use Rattle.answers.specs.declared.figures.FiguresAnswer.the-variants.{Refused}
 use Rattle.answers.specs.Told.{caidiValues}
 use Rattle.answers.proofs.Answered.{answered-refused}
-use Rattle.planning.specs.Figures.{customersOf, figuresFault, figuresGiven}
+use Rattle.loss_calls.specs.Figures.{customersOf, figuresFault, figuresGiven}
 use Rattle.export_figures.specs.Figures.{figurePlaces, placesFault, figuresInFault, figuresIn}
 
 -- CAIDI takes two places or none

@@ -14,7 +14,7 @@ use Rattle.answers.specs.Told.{figuresTold}
 use Rattle.soundness.specs.Check.{sound}
 use Rattle.study_model.specs.Model.{modelOf}
 use Rattle.evaluation.specs.Figures.{modelFigures}
-use Rattle.planning.specs.Figures.{customersOf}
+use Rattle.loss_calls.specs.Figures.{customersOf}
 use Rattle.study_image.specs.Image.{studyIn}
 use Rattle.export_answers.specs.Answers.{answeredBy, pairs, leftBy}
 

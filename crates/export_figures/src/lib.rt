@@ -96,5 +96,5 @@ pub fn figures(study: &[u8], places: &mut [u64]) -> i64
     if fault != 0 {
         return refused(fault);
     }
-    hand_on(planning::figures(t), places)
+    hand_on(loss_calls::figures(t), places)
 }

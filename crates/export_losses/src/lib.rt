@@ -10,14 +10,14 @@ ghost use Rattle.export_losses.specs.Losses.{BoundsClasses, BoundsLoad, 
 pub fn class_bounds(study: &[u8], lower: &mut [u64], upper: &mut [u64]) -> i64
     ensures { λ r. ⌜ BoundsClasses (now (study .entry)) (now (lower .entry)) (now (upper .entry)) (now (lower .exit)) (now (upper .exit)) r ⌝ }
 {
-    answer_outcome(planning::class_bounds(read_image(study), lower, upper))
+    answer_outcome(path_calls::class_bounds(read_image(study), lower, upper))
 }
 
 // Bounds for the loss of a load, in two numbers. Refused by 16, 17, in this order.
 pub fn load_bounds(study: &[u8], load: usize, lower: &mut u64, upper: &mut u64) -> i64
     ensures { λ r. ⌜ BoundsLoad (now (study .entry)) load (now (lower .entry)) (now (upper .entry)) (now (lower .exit)) (now (upper .exit)) r ⌝ }
 {
-    let answer = planning::load_bounds(read_image(study), load);
+    let answer = loss_calls::load_bounds(read_image(study), load);
     match answer {
         BoundsAnswer::Bounds(pair) => {
             *lower = pair.lower;
@@ -32,5 +32,5 @@ pub fn load_bounds(study: &[u8], load: usize, lower: &mut u64, upper: &mut u64) 
 pub fn loads_lost(class: u8) -> i64
     ensures { λ r. ⌜ CountsLost class r ⌝ }
 {
-    counted(planning::loads_lost(class))
+    counted(fault_tree::loads_lost(class))
 }

@@ -4,8 +4,8 @@ use mathlib.Core.Path.{_≡_}
 use mathlib.Core.List.{List}
 use lib.IntN.{ℤ}
 use Rattle.answers.specs.Told.{listingTold, countTold}
-use Rattle.planning.specs.Bounds.{pathsBounded, lowerOfPaths, upperOfPaths}
-use Rattle.planning.specs.Listing.{pathsListed, bufferListed}
+use Rattle.path_calls.specs.Bounds.{pathsBounded, lowerOfPaths, upperOfPaths}
+use Rattle.path_calls.specs.Listing.{pathsListed, bufferListed}
 use Rattle.study_image.specs.Image.{studyIn}
 use Rattle.export_answers.specs.Answers.{answeredBy, count, FillsPair}
 

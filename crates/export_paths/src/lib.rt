@@ -8,7 +8,7 @@ ghost use Rattle.export_paths.specs.Paths.{ListsPaths, BoundsPaths};
 pub fn list_paths(study: &[u8], buffer: &mut [u8]) -> i64
     ensures { λ r. ⌜ ListsPaths (now (study .entry)) (now (buffer .entry)) (now (buffer .exit)) r ⌝ }
 {
-    answer_listing(planning::list_paths(read_image(study), buffer))
+    answer_listing(path_calls::list_paths(read_image(study), buffer))
 }
 
 // Bounds for the paths of a study, in the order of its list, at the front of two slices; answers how many there are. Refused by 16, 18, in
@@ -16,5 +16,5 @@ pub fn list_paths(study: &[u8], buffer: &mut [u8]) -> i64
 pub fn path_bounds(study: &[u8], lower: &mut [u64], upper: &mut [u64]) -> i64
     ensures { λ r. ⌜ BoundsPaths (now (study .entry)) (now (lower .entry)) (now (upper .entry)) (now (lower .exit)) (now (upper .exit)) r ⌝ }
 {
-    answer_count(planning::path_bounds(read_image(study), lower, upper))
+    answer_count(path_calls::path_bounds(read_image(study), lower, upper))
 }

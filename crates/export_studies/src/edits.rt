@@ -8,7 +8,7 @@ pub fn set_probabilities(study: &mut [u8], component: usize, p1: u32, p2: u32, p
     ensures { λ r. ⌜ SetsProbabilities component p1 p2 p3 (now (study .entry)) (now (study .exit)) r ⌝ }
 {
     keep(
-        planning::set_probabilities(read_image(study), component, p1, p2, p3),
+        editing::set_probabilities(read_image(study), component, p1, p2, p3),
         study,
     )
 }
@@ -18,7 +18,7 @@ pub fn set_customers(study: &mut [u8], load: usize, customers: u32) -> i64
     ensures { λ r. ⌜ SetsCustomers load customers (now (study .entry)) (now (study .exit)) r ⌝ }
 {
     keep(
-        planning::set_customers(read_image(study), load, customers),
+        editing::set_customers(read_image(study), load, customers),
         study,
     )
 }
@@ -28,7 +28,7 @@ pub fn set_minutes(study: &mut [u8], load: usize, minutes: u32) -> i64
     ensures { λ r. ⌜ SetsMinutes load minutes (now (study .entry)) (now (study .exit)) r ⌝ }
 {
     keep(
-        planning::set_minutes(read_image(study), load, minutes),
+        editing::set_minutes(read_image(study), load, minutes),
         study,
     )
 }

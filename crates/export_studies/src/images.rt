@@ -39,5 +39,5 @@ pub fn keep(answer: StudyAnswer, image: &mut [u8]) -> i64
 pub fn open(bytes: &[u8], study: &mut [u8]) -> i64
     ensures { λ r. ⌜ Opens (now (bytes .entry)) (now (study .entry)) (now (study .exit)) r ⌝ }
 {
-    keep(planning::open(bytes), study)
+    keep(opening::open(bytes), study)
 }

@@ -6,12 +6,12 @@ ghost use Rattle.export_texts.specs.Texts.{Reports, Words};
 pub fn report(bytes: &[u8], text: &mut [u8]) -> i64
     ensures { λ r. ⌜ Reports (now (bytes .entry)) (now (text .entry)) (now (text .exit)) r ⌝ }
 {
-    answer_count(planning::report(bytes, text))
+    answer_count(report_text::report(bytes, text))
 }
 
 // Writes the word of a refusal at the front of a buffer; answers how many bytes it has, 0 for a number that the table lacks. Refused by 18.
 pub fn refusal_word(number: u8, text: &mut [u8]) -> i64
     ensures { λ r. ⌜ Words number (now (text .entry)) (now (text .exit)) r ⌝ }
 {
-    answer_count(planning::refusal_word(number, text))
+    answer_count(words::refusal_word(number, text))
 }

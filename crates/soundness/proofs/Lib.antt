@@ -1,3 +1,4 @@
 pub mod Checked
 pub mod Front
+pub mod Judged
 pub mod Ranges

@@ -1,6 +1,6 @@
 -- `export_losses::load_bounds` meets its contract: each kind of answer by its own clause.
 use mathlib.Core.Path.{_≡_, refl, sym, _∙_}
-use Rattle.planning.specs.Bounds.{loadBounded}
+use Rattle.loss_calls.specs.Bounds.{loadBounded}
 use Rattle.study_image.specs.Image.{studyIn}
 use Rattle.export_answers.proofs.Signed.{handed}
 use borrow.Author.Needs.{needs}

@@ -1,0 +1,37 @@
+-- `path_calls::listing::list_paths` meets its contract: 16 decides where it stands, and otherwise the room.
+use mathlib.Core.Path.{sym}
+use Rattle.answers.specs.declared.counts.Listing.the-variants.{Refused}
+use Rattle.answers.proofs.Answered.{answered-refused, filled-refused}
+use Rattle.path_calls.specs.Listing.{listFault, pathsListed, bufferListed}
+use Rattle.soundness.proofs.Judged.{unsound-first, sound-behind, next-first}
+use borrow.Author.Needs.{needs}
+use Rattle.path_calls.proofs.listing.list_paths.Statement.{statement}
+use Rattle.path_calls.proofs.listing.list_paths.Tie as tie
+
+returns : tie.Need-returns
+unfolding listFault pathsListed bufferListed
+returns c =
+    let taken = c .if1 .taken in
+    rw (← unsound-first _ (c .before .before .is-sound .ensures) (c .before .unsound-fault .ensures) _ taken)
+    (sym (answered-refused Refused _ _ taken), sym (filled-refused _ _ _ taken))
+
+list-lent-requires : tie.Need-list-lent-requires
+list-lent-requires c κs =
+    sound-behind _ (c .before .before .before .is-sound .ensures) (c .before .before .unsound-fault .ensures) (c .before .if1 .left)
+
+returns-2 : tie.Need-returns-2
+unfolding listFault pathsListed bufferListed
+returns-2 c =
+    let kept = c .before .before .before .before in
+    rw (next-first _ (kept .before .before .is-sound .ensures) (kept .before .unsound-fault .ensures) (kept .if1 .left)) (c .before .before .list-lent .ensures)
+
+pub list-paths-spec : {M : Type 1} → statement M
+list-paths-spec =
+    tie.close
+    (tie.spec
+    (λ c κs. search needs)
+    (λ c κs. search needs)
+    returns
+    list-lent-requires
+    (λ c. search needs)
+    returns-2)

@@ -1,0 +1,14 @@
+-- `path_calls::pairs::pair_fault` meets its contract: the room of the lower slice is judged first.
+use Rattle.rules.proofs.Kept.{two-judged}
+use Rattle.path_calls.specs.Bounds.{pairFault}
+use borrow.Author.Needs.{needs}
+use Rattle.path_calls.proofs.pairs.pair_fault.Statement.{statement}
+use Rattle.path_calls.proofs.pairs.pair_fault.Tie as tie
+
+returns : tie.Need-returns
+unfolding pairFault
+returns c = two-judged (c .first .ensures) (c .before .before .room-fault .ensures) (c .before .room-fault2 .ensures)
+
+pub pair-fault-spec : {M : Type 1} → statement M
+pair-fault-spec =
+    tie.close (tie.spec (λ c κs. search needs) (λ c κs. search needs) (λ c κs. search needs) returns)

@@ -1,4 +1,0 @@
-pub mod Bounds
-pub mod Figures
-pub mod Listing
-pub mod Losses
