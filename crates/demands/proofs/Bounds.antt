@@ -21,8 +21,8 @@ use Rattle.accuracy.proofs.Totals.{total-within}
 use Rattle.study_model.specs.Model.{modelOf}
 use Rattle.study_model.proofs.Good.{sound-good}
 use Rattle.evaluation.specs.Bounds.{lowerOf, upperOf, pathLowers, pathUppers, classLowers, classUppers}
-use Rattle.loss_calls.specs.Bounds.{lossOf}
 use Rattle.path_calls.specs.Bounds.{pairBreach}
+use Rattle.loss_calls.specs.Bounds.{lossOf}
 use Rattle.demands.specs.Calls.{pathBounds as forPaths, classBounds as forClasses, loadBounds as forLoad}
 use Rattle.demands.specs.Demand2.{PathsWithin, ClassesWithin, LossesWithin}
 use Rattle.demands.specs.Demand2.{PathBoundsAnswered, ClassBoundsAnswered, LoadBoundsAnswered}

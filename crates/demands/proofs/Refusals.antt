@@ -14,15 +14,17 @@ use Rattle.answers.specs.declared.counts.Listing.the-variants.{Refused as NotLi
 use Rattle.answers.specs.declared.figures.FiguresAnswer.the-variants.{Refused as NoFigures}
 use Rattle.answers.specs.declared.outcome.Outcome.the-variants.{Refused}
 use Rattle.answers.proofs.Answered.{answered-tells, some-breach, filled-refused, filled-behind}
-use Rattle.loss_calls.specs.Bounds.{lossFault, loadBounded}
 use Rattle.path_calls.specs.Bounds.{pairBreach, pathsBounded, classesBounded}
-use Rattle.loss_calls.specs.Figures.{figuresFault, figuresGiven}
 use Rattle.path_calls.specs.Listing.{listFault, pathsListed, bufferListed}
+use Rattle.loss_calls.specs.Bounds.{lossFault, loadBounded}
+use Rattle.loss_calls.specs.Figures.{figuresFault, figuresGiven}
 use Rattle.lent_text.specs.Lent.{textFault, written}
 use Rattle.lent_text.proofs.Handed.{reported-tells}
+use Rattle.words.specs.Words.{refusalWord}
+use Rattle.report_text.specs.Report.{reportText}
 use Rattle.demands.specs.Calls.{Call, anEdit, listPaths, pathBounds, classBounds, loadBounds, figures}
 use Rattle.demands.specs.Calls.{callTold, callBreaches, callValues, studyAfter, Lent, callLent}
-use Rattle.demands.specs.Demand1.{OfEach, Kept, KeptBehind, Refuses, CallsRefuse, TextsRefuse}
+use Rattle.demands.specs.Demand1.{OfEach, Kept, KeptBehind, Refuses, CallsRefuse, TextRefuses, TextsRefuse}
 use Rattle.demands.proofs.Edited.{edit-tells, edit-kept}
 
 -- ---- any call
@@ -66,6 +68,10 @@ study-kept figures t n refused = refl
 pub calls-refuse : CallsRefuse
 calls-refuse = record { refuses = call-refuses; study-kept = study-kept }
 
-pub texts-refuse : TextsRefuse
+-- any text in a lent buffer
+text-refuses : (text buffer : List ℕ) → TextRefuses text buffer
 unfolding textFault written
-texts-refuse text buffer = refuses _ _ _ (reported-tells text buffer) (refl, tt)
+text-refuses text buffer = refuses _ _ _ (reported-tells text buffer) (refl, tt)
+
+pub texts-refuse : TextsRefuse
+texts-refuse = record { report = λ bytes. text-refuses (reportText bytes); word = λ number. text-refuses (refusalWord number) }

@@ -42,9 +42,9 @@ use Rattle.study_model.specs.Model.{modelOf}
 use Rattle.evaluation.specs.Bounds.{pathLowers, pathUppers, classLowers, classUppers, loadLowers, loadUppers}
 use Rattle.evaluation.specs.Figures.{figuresBy}
 use Rattle.path_calls.specs.Bounds.{pairFault, pairBreach, pathsBounded, lowerOfPaths, upperOfPaths, classesBounded, lowerOfClasses, upperOfClasses}
+use Rattle.path_calls.specs.Listing.{pathList, listFault, pathsListed, bufferListed}
 use Rattle.loss_calls.specs.Bounds.{lossOf, lossFault, loadBounded}
 use Rattle.loss_calls.specs.Figures.{figuresFault, figuresGiven}
-use Rattle.path_calls.specs.Listing.{pathList, listFault, pathsListed, bufferListed}
 use Rattle.demands.specs.WorkedExamples.{Results, Example, votes, opens, listing, ListIs, PairIs, Gives, RowHolds, WorkedExamples}
 
 -- ---- what the definitions give of a model

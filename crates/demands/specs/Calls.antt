@@ -12,9 +12,9 @@ use Rattle.study_model.specs.Model.{modelOf}
 use Rattle.evaluation.specs.Bounds.{pathLowers, pathUppers, classLowers, classUppers}
 use Rattle.evaluation.specs.Figures.{modelFigures}
 use Rattle.path_calls.specs.Bounds.{pairBreaches, pathsBounded, lowerOfPaths, upperOfPaths, classesBounded, lowerOfClasses, upperOfClasses}
+use Rattle.path_calls.specs.Listing.{pathList, listBreaches, pathsListed, bufferListed}
 use Rattle.loss_calls.specs.Bounds.{lossBreaches, lossOf, loadBounded}
 use Rattle.loss_calls.specs.Figures.{figuresBreaches, figuresGiven}
-use Rattle.path_calls.specs.Listing.{pathList, listBreaches, pathsListed, bufferListed}
 use Rattle.demands.specs.Edits.{Edit, probabilities, customers, minutes, edit, editBreaches}
 
 -- a call, with what it names and with what the lent buffer or slices held

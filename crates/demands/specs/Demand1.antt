@@ -16,6 +16,7 @@ use Rattle.soundness.specs.Sound.{Sound}
 use Rattle.soundness.specs.Check.{sound}
 use Rattle.opening.specs.Opening.{opened}
 use Rattle.lent_text.specs.Lent.{reported, written}
+use Rattle.words.specs.Words.{refusalWord}
 use Rattle.report_text.specs.Report.{reportText}
 use Rattle.demands.specs.Calls.{Call, callTold, callBreaches, callValues, numbersBehind, studyAfter, Lent, callLent}
 use Rattle.demands.specs.Edits.{Edit, edit, changed, HasItem, Reached, after, tableOf, tableAfter, othersOf}
@@ -79,12 +80,16 @@ pub record CallsRefuse : Type 0 where
   pub refuses : (c : Call) (t : Study) → Refuses (callTold c t) (callBreaches c t) (callValues c t) (callLent c t)
   pub study-kept : (c : Call) (t : Study) (n : ℕ) → callTold c t ≡ refusal n → studyAfter c t ≡ t
 
--- And of every text in a lent buffer, so of the report and of the word of a refusal: 18 alone.
-abbrev pub TextsRefuse : Type 0
-TextsRefuse =
-    (text buffer : List ℕ)
-    → Refuses (countTold (reported text buffer)) (roomFault (length text) (length buffer) ∷ []) (length text ∷ [])
+-- a call that writes a text: 18 is its only breach, and its value the number of bytes
+abbrev pub TextRefuses : List ℕ → List ℕ → Type 0
+TextRefuses text buffer =
+    Refuses (countTold (reported text buffer)) (roomFault (length text) (length buffer) ∷ []) (length text ∷ [])
     (record { before = buffer; after = written text buffer; result = text } ∷ [])
+
+-- So it is of the report of any bytes, and of the word of any number.
+pub record TextsRefuse : Type 0 where
+  pub report : (bytes buffer : List ℕ) → TextRefuses (reportText bytes) buffer
+  pub word : (number : ℕ) (buffer : List ℕ) → TextRefuses (refusalWord number) buffer
 
 -- Every later call refuses a study that is not sound by 16, and by 16 no other.
 pub record UnsoundRefused : Type 0 where

@@ -32,8 +32,8 @@ use Rattle.fault_tree.specs.Classes.{classOf}
 use Rattle.study_model.specs.Model.{modelOf}
 use Rattle.evaluation.specs.Bounds.{pathLowers, pathUppers, classLowers, classUppers}
 use Rattle.evaluation.specs.Figures.{modelFigures}
-use Rattle.loss_calls.specs.Bounds.{lossOf, loadBounded}
 use Rattle.path_calls.specs.Bounds.{pathsBounded, lowerOfPaths, upperOfPaths, classesBounded, lowerOfClasses, upperOfClasses}
+use Rattle.loss_calls.specs.Bounds.{lossOf, loadBounded}
 use Rattle.loss_calls.specs.Figures.{figuresGiven}
 use Rattle.demands.specs.Listed.{ListedBy, pathIn}
 

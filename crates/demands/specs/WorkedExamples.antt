@@ -25,10 +25,10 @@ use Rattle.answers.specs.declared.outcome.Outcome.the-variants.{Done}
 use Rattle.answers.specs.declared.outcome.StudyAnswer.{StudyAnswer}
 use Rattle.entries.specs.Entries.{blankMark, classPlaces, entry}
 use Rattle.opening.specs.Opening.{opened, refusedOpening}
-use Rattle.loss_calls.specs.Bounds.{loadBounded}
 use Rattle.path_calls.specs.Bounds.{pathsBounded, lowerOfPaths, upperOfPaths, classesBounded, lowerOfClasses, upperOfClasses}
-use Rattle.loss_calls.specs.Figures.{figuresGiven}
 use Rattle.path_calls.specs.Listing.{pathsListed, bufferListed}
+use Rattle.loss_calls.specs.Bounds.{loadBounded}
+use Rattle.loss_calls.specs.Figures.{figuresGiven}
 
 -- ---- studies in few words
 

@@ -5,8 +5,8 @@ use mathlib.Core.List.{List}
 use lib.IntN.{ℤ, pos}
 use Rattle.answers.specs.Told.{Told, outcomeTold, boundsTold}
 use Rattle.fault_tree.specs.Classes.{loadsLost}
-use Rattle.loss_calls.specs.Bounds.{loadBounded}
 use Rattle.path_calls.specs.Bounds.{classesBounded, lowerOfClasses, upperOfClasses}
+use Rattle.loss_calls.specs.Bounds.{loadBounded}
 use Rattle.study_image.specs.Image.{studyIn}
 use Rattle.export_answers.specs.Answers.{answeredBy, done, takenBy, FillsPair}
 

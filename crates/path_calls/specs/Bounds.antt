@@ -35,6 +35,10 @@ pairBreach t need lower upper = firstBreach (pairBreaches t need lower upper)
 
 -- ---- the call for paths
 
+-- 18 alone, once the study is found sound
+abbrev pub pathsRoom : Study → List ℕ → List ℕ → ℕ
+pathsRoom t lower upper = pairRoom (length (pathsOf (modelOf t))) lower upper
+
 abbrev pub pathsFault : Study → List ℕ → List ℕ → ℕ
 pathsFault t lower upper = pairBreach t (length (pathsOf (modelOf t))) (length lower) (length upper)
 

@@ -16,14 +16,14 @@ ghost use Rattle.model.specs.Model.{pathsOf};
 ghost use Rattle.soundness.specs.Sound.{Sound};
 ghost use Rattle.study_model.specs.Model.{modelOf};
 ghost use Rattle.evaluation.specs.Bounds.{pathLowers, pathUppers};
-ghost use Rattle.path_calls.specs.Bounds.{pairRoom, pathsBounded, lowerOfPaths, upperOfPaths};
+ghost use Rattle.path_calls.specs.Bounds.{pathsRoom, pathsBounded, lowerOfPaths, upperOfPaths};
 
 // Bounds for the paths of a sound study. Refused by 18.
 fn bound_paths(t: Study, lower: &mut [u64], upper: &mut [u64]) -> CountAnswer
     requires { ⌜ Sound t ⌝ }
-    ensures answer { λ r. ⌜ r ≡ answered Refused (pairRoom (length (pathsOf (modelOf t))) (now (lower .entry)) (now (upper .entry))) (Count (length (pathsOf (modelOf t)))) ⌝ }
-    ensures lower { λ r. ⌜ now (lower .exit) ≡ filled (pairRoom (length (pathsOf (modelOf t))) (now (lower .entry)) (now (upper .entry))) (pathLowers (modelOf t)) (now (lower .entry)) ⌝ }
-    ensures upper { λ r. ⌜ now (upper .exit) ≡ filled (pairRoom (length (pathsOf (modelOf t))) (now (lower .entry)) (now (upper .entry))) (pathUppers (modelOf t)) (now (upper .entry)) ⌝ }
+    ensures answer { λ r. ⌜ r ≡ answered Refused (pathsRoom t (now (lower .entry)) (now (upper .entry))) (Count (length (pathsOf (modelOf t)))) ⌝ }
+    ensures lower { λ r. ⌜ now (lower .exit) ≡ filled (pathsRoom t (now (lower .entry)) (now (upper .entry))) (pathLowers (modelOf t)) (now (lower .entry)) ⌝ }
+    ensures upper { λ r. ⌜ now (upper .exit) ≡ filled (pathsRoom t (now (lower .entry)) (now (upper .entry))) (pathUppers (modelOf t)) (now (upper .entry)) ⌝ }
 {
     let mut list = empty_list();
     let slices = slice_study(t, &mut list);

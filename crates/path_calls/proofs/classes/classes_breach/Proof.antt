@@ -10,7 +10,9 @@ use Rattle.path_calls.proofs.classes.classes_breach.Tie as tie
 returns : tie.Need-returns
 unfolding pairBreach
 returns c =
-    two-judged (c .first .ensures) (c .before .before .unsound-fault .ensures ∙ ap unsoundFault (c .before .before .before .is-sound .ensures)) (c .before .pair-fault .ensures)
+    let judged = c .before .before in
+    let unsound = judged .unsound-fault .ensures ∙ ap unsoundFault (judged .before .is-sound .ensures) in
+    two-judged (c .first .ensures) unsound (c .before .pair-fault .ensures)
 
 pub classes-breach-spec : {M : Type 1} → statement M
 classes-breach-spec =

@@ -17,7 +17,8 @@ returns c =
 
 list-lent-requires : tie.Need-list-lent-requires
 list-lent-requires c κs =
-    sound-behind _ (c .before .before .before .is-sound .ensures) (c .before .before .unsound-fault .ensures) (c .before .if1 .left)
+    let kept = c .before in
+    sound-behind _ (kept .before .before .is-sound .ensures) (kept .before .unsound-fault .ensures) (kept .if1 .left)
 
 returns-2 : tie.Need-returns-2
 unfolding listFault pathsListed bufferListed
