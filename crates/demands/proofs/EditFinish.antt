@@ -12,7 +12,6 @@ use Rattle.rules.specs.Breach.{firstBreach}
 use Rattle.rules.specs.Table.{unsoundFault, itemFault}
 use Rattle.rules.proofs.Kept.{list-none, none-none, front-kept, front-broken}
 use Rattle.rules.proofs.Rows.{item-none, item-missing}
-use Rattle.study.specs.declared.Component.{Component}
 use Rattle.study.specs.declared.Load.{Load}
 use Rattle.study.specs.declared.Study.{Study}
 use Rattle.study.specs.Edits.{withProbabilities, withCustomers, withMinutes}
@@ -21,9 +20,9 @@ use Rattle.study.specs.Zero.{zeroComponent, zeroLoad}
 use Rattle.answers.specs.Told.{outcomeTold}
 use Rattle.answers.specs.declared.outcome.Outcome.the-variants.{Done, Refused}
 use Rattle.answers.proofs.Answered.{breach-told, some-breach}
-use Rattle.soundness.specs.Check.{sound, probabilitiesFault}
+use Rattle.soundness.specs.Check.{sound}
 use Rattle.soundness.specs.Sound.{SoundComponent, SoundLoad, Sound}
-use Rattle.soundness.proofs.Checked.{none-unsound}
+use Rattle.soundness.proofs.Checked.{probabilities-none, none-unsound}
 use Rattle.demands.specs.Demand1.{OneOf, EditsFinish}
 use Rattle.demands.specs.Edits.{Edit, probabilities, customers, minutes, edit, changed, HasItem, Reached}
 use Rattle.demands.proofs.Edited.{breach, either, edit-tells}
@@ -31,11 +30,6 @@ use Rattle.demands.proofs.OneOf.{one-among}
 use Rattle.demands.proofs.Reached.{reached-sound, component-inside, load-inside}
 
 -- ---- the rules of the new field
-
-probabilities-none : (c : Component) → SoundComponent c → probabilitiesFault (c .states) (c .p1) (c .p2) (c .p3) ≡ 0
-unfolding probabilitiesFault
-probabilities-none c s =
-    list-none _ _ (s .state1) (list-none _ _ (s .state2) (list-none _ _ (s .state3) (list-none _ _ (s .sum) none-none)))
 
 -- a sound study has no breach of its own, and with the item there and its new numbers within the rules there is none
 no-breach : (t : Study) → Sound t → (count item fault : ℕ) → item < count → fault ≡ 0

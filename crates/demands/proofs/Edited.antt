@@ -27,7 +27,7 @@ use Rattle.answers.specs.declared.outcome.StudyAnswer.{StudyAnswer}
 use Rattle.answers.proofs.Answered.{answered-tells, no-breach}
 use Rattle.soundness.specs.Check.{sound, probabilitiesFault}
 use Rattle.soundness.specs.Sound.{SoundComponent, SoundGate, SoundLoad, Sound}
-use Rattle.soundness.proofs.Checked.{no-unsound}
+use Rattle.soundness.proofs.Checked.{probabilities-sound, no-unsound}
 use Rattle.editing.specs.Edits.{refusedEdit, edited, componentEditBreaches, componentEditFault, probabilitiesSet}
 use Rattle.editing.specs.Edits.{loadEditBreaches, loadEditFault, customersSet, minutesSet}
 use Rattle.editing.proofs.Edited.{edited-done, edited-refused}
@@ -97,16 +97,6 @@ component-kept t i p1 p2 p3 = rules-kept t (t .components) i (probabilitiesFault
 pub load-kept : (t : Study) (j most n : ℕ) → firstBreach (loadEditBreaches t j most n) ≡ 0 → Kept t (t .loads) j (sizeFault most n)
 load-kept t j most n = rules-kept t (t .loads) j (sizeFault most n)
 
--- a component with probabilities that keep their rules
-new-sound : (c : Component) (p1 p2 p3 : ℕ) → SoundComponent c → probabilitiesFault (c .states) p1 p2 p3 ≡ 0
-    → SoundComponent (withProbabilities p1 p2 p3 c)
-unfolding probabilitiesFault
-new-sound c p1 p2 p3 s rules =
-    let one = list-kept _ _ rules in
-    let two = list-kept _ _ (one .right) in
-    let rest = both-kept _ _ (two .right) in
-    record { states = s .states; state1 = one .left; state2 = two .left; state3 = rest .left; sum = rest .right }
-
 component-edited : (t : Study) (i : ℕ) (c : Component) → Sound t → i < t .components → c .states ≡ componentAt t i .states → SoundComponent c
     → Sound (withComponent i c t)
 component-edited t i c s below same new =
@@ -146,7 +136,7 @@ changed-sound (probabilities i p1 p2 p3) t none =
     let kept = component-kept t i p1 p2 p3 none in
     let was = kept .is-sound .component i (kept .below) in
     component-edited t i (withProbabilities p1 p2 p3 (componentAt t i)) (kept .is-sound) (kept .below) refl
-    (new-sound (componentAt t i) p1 p2 p3 was (kept .rule))
+    (probabilities-sound (componentAt t i) p1 p2 p3 (was .states) (kept .rule))
 changed-sound (customers j n) t none =
     let kept = load-kept t j mostCustomers n none in
     let was = kept .is-sound .load j (kept .below) in

@@ -44,11 +44,15 @@ component-kept c e =
     let both = first-kept _ _ e in
     probabilities-sound c (c .p1) (c .p2) (c .p3) (both .left) (both .right)
 
+-- and the other way
+pub probabilities-none : (c : Component) → SoundComponent c → probabilitiesFault (c .states) (c .p1) (c .p2) (c .p3) ≡ 0
+unfolding probabilitiesFault
+probabilities-none c s =
+    list-none _ _ (s .state1) (list-none _ _ (s .state2) (list-none _ _ (s .state3) (list-none _ _ (s .sum) none-none)))
+
 component-none : (c : Component) → SoundComponent c → componentFault c ≡ 0
-unfolding componentFault probabilitiesFault
-component-none c s =
-    first-none _ _ (s .states)
-    (list-none _ _ (s .state1) (list-none _ _ (s .state2) (list-none _ _ (s .state3) (list-none _ _ (s .sum) none-none))))
+unfolding componentFault
+component-none c s = first-none _ _ (s .states) (probabilities-none c s)
 
 no-component-kept : (c : Component) → unusedComponentFault c ≡ 0 → c ≡ zeroComponent
 unfolding unusedComponentFault
