@@ -13,8 +13,8 @@ use Rattle.units.proofs.Quotients.{quotient-below, quotient-above}
 use Rattle.study.specs.declared.Load.{Load}
 use Rattle.study.specs.Zero.{zeroLoad}
 use Rattle.answers.specs.declared.bounds.Enclosure.{Enclosure}
-use Rattle.indices.specs.Figures.{customersSum, lossSum, minutesSum, figuresOf}
-use Rattle.indices.specs.Enclosed.{Encloses, LossesEnclosed, exactLoss, exactMinutes, SaifiEncloses, SaidiEncloses, CaidiEncloses}
+use Rattle.indices.specs.Figures.{customersSum, lossSum, minutesSum, boundOf, quotients, figuresOf}
+use Rattle.indices.specs.Enclosed.{Encloses, LossesEnclosed, SaifiEncloses, SaidiEncloses, CaidiEncloses}
 use Rattle.indices.proofs.Stated.{stated-some, stated-bounds}
 
 -- two bounds in units enclose x / w
@@ -40,7 +40,7 @@ sums-between low high x w (suc n) each =
 
 -- over one divisor that is exact
 over-exact : {low high x w : ℕ} (c : ℕ) → 0 < c → 0 < w → Between low high x w
-    → Encloses (record { lower = quotientDown low c; upper = quotientUp high c }) (one * x) (w * c)
+    → Encloses (quotients low c high c) (one * x) (w * c)
 over-exact {low} {high} {x} {w} c some whole b =
     record {
       divisor = mul-pos whole some;
@@ -50,7 +50,7 @@ over-exact {low} {high} {x} {w} c some whole b =
 
 -- over a divisor that has bounds itself: the lower quotient divides by its upper bound, and the upper quotient by its lower one
 over-bounds : {low high x least most y w : ℕ} → 0 < least → 0 < w → Between low high x w → Between least most y w
-    → Encloses (record { lower = quotientDown low most; upper = quotientUp high least }) x y
+    → Encloses (quotients low most high least) x y
 over-bounds {low} {high} {x} {least} {most} {y} {w} some whole b d =
     let lower = quotientDown low most in
     let upper = quotientUp high least in
@@ -65,15 +65,15 @@ over-bounds {low} {high} {x} {least} {most} {y} {w} some whole b d =
 module _ {lower upper : List ℕ} {x : ℕ → ℕ} {w : ℕ} (loads : List Load) (enclosed : LossesEnclosed lower upper x w (length loads)) where
   -- P × C of one load
   loss-of : (j : ℕ) → j < length loads
-      → Between (getD lower j 0 * getD loads j zeroLoad .customers) (getD upper j 0 * getD loads j zeroLoad .customers)
+      → Between (boundOf lower j * getD loads j zeroLoad .customers) (boundOf upper j * getD loads j zeroLoad .customers)
       (x j * getD loads j zeroLoad .customers) w
   loss-of j h = times (getD loads j zeroLoad .customers) (record { below = enclosed .below j h; above = enclosed .above j h })
 
-  loss-between : Between (lossSum lower loads) (lossSum upper loads) (exactLoss x loads) w
+  loss-between : Between (lossSum (boundOf lower) loads) (lossSum (boundOf upper) loads) (lossSum x loads) w
   unfolding lossSum
   loss-between = sums-between _ _ _ w (length loads) loss-of
 
-  minutes-between : Between (minutesSum lower loads) (minutesSum upper loads) (exactMinutes x loads) w
+  minutes-between : Between (minutesSum (boundOf lower) loads) (minutesSum (boundOf upper) loads) (minutesSum x loads) w
   unfolding minutesSum
   minutes-between = sums-between _ _ _ w (length loads) (λ j h. times (getD loads j zeroLoad .minutes) (loss-of j h))
 
@@ -88,5 +88,5 @@ module _ {lower upper : List ℕ} {x : ℕ → ℕ} {w : ℕ} (loads : List Load
   pub caidi-encloses : CaidiEncloses (figuresOf lower upper loads) x loads
   unfolding figuresOf
   caidi-encloses bounds stated =
-      subst (λ (b : Enclosure). Encloses b (exactMinutes x loads) (exactLoss x loads)) (stated-bounds lower upper loads stated)
-      (over-bounds (pos-of-ne-zero (stated-some lower upper loads stated)) (enclosed .whole) minutes-between loss-between)
+      subst (λ (b : Enclosure). Encloses b (minutesSum x loads) (lossSum x loads)) (stated-bounds _ _ _ _ stated)
+      (over-bounds (pos-of-ne-zero (stated-some _ _ _ _ stated)) (enclosed .whole) minutes-between loss-between)

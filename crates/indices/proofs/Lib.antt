@@ -1,4 +1,5 @@
 pub mod BySums
+pub mod Carried
 pub mod Enclosed
 pub mod Front
 pub mod Ordering

@@ -7,14 +7,14 @@ use lib.ListN.{length, getD, take, length-take}
 use Rattle.lists.proofs.SumBelow.{sum-most}
 use Rattle.study.specs.declared.Load.{Load}
 use Rattle.study.specs.Zero.{zeroLoad}
-use Rattle.indices.specs.Figures.{lossSum}
+use Rattle.indices.specs.Figures.{lossSum, boundOf}
 use Rattle.indices.specs.Losses.{AtMostOne, LossBounds}
 
 module _ {lower upper : List ℕ} {n : ℕ} (bounds : LossBounds lower upper n) where
   pub lower-most : AtMostOne lower n
   lower-most = record { most = λ j h. omega (arith, bounds .ordered j h, bounds .uppers .most j h) }
 
-  pub loss-ordered : (load : List Load) → lossSum lower (take n load) ≤ lossSum upper (take n load)
+  pub loss-ordered : (load : List Load) → lossSum (boundOf lower) (take n load) ≤ lossSum (boundOf upper) (take n load)
   unfolding lossSum
   loss-ordered load =
       sum-most _ _ (length (take n load))

@@ -1,14 +1,11 @@
 -- What CAIDI is, where it is not stated and where it is; and what its bounds are, where it has any.
 use Prim.Native.Nat.{ℕ}
 use mathlib.Core.Path.{_≡_, refl, sym, _∙_}
-use mathlib.Core.List.{List}
 use native.Mathlib.Omega.{arith}
 use borrow.Author.Tests.{eq-eqb, ne-eqb}
-use Rattle.units.specs.Rounding.{quotientDown, quotientUp}
-use Rattle.study.specs.declared.Load.{Load}
 use Rattle.answers.specs.declared.bounds.Enclosure.{Enclosure}
 use Rattle.answers.specs.declared.figures.Caidi.the-variants.{Bounds, NotStated}
-use Rattle.indices.specs.Figures.{lossSum, minutesSum, caidi}
+use Rattle.indices.specs.Figures.{quotients, caidi}
 
 not-bounds : (bounds : Enclosure) → NotStated ≡ Bounds bounds → ⊥
 not-bounds bounds e = let z : _≡_ {A = ℕ} 0 1 = cc in omega arith
@@ -16,27 +13,19 @@ not-bounds bounds e = let z : _≡_ {A = ℕ} 0 1 = cc in omega arith
 same-bounds : (a b : Enclosure) → Bounds a ≡ Bounds b → a ≡ b
 same-bounds a b e = cc
 
-module _ (lower upper : List ℕ) (loads : List Load) where
-  abbrev pub caidiBounds : Enclosure
-  caidiBounds =
-      record {
-        lower = quotientDown (minutesSum lower loads) (lossSum upper loads);
-        upper = quotientUp (minutesSum upper loads) (lossSum lower loads);
-      }
-
-  pub caidi-not-stated : lossSum lower loads ≡ 0 → caidi lower upper loads ≡ NotStated
+module _ (lossLow lossHigh minutesLow minutesHigh : ℕ) where
+  pub caidi-not-stated : lossLow ≡ 0 → caidi lossLow lossHigh minutesLow minutesHigh ≡ NotStated
   unfolding caidi
-  caidi-not-stated none = rw (eq-eqb (lossSum lower loads) 0 none) refl
+  caidi-not-stated none = rw (eq-eqb lossLow 0 none) refl
 
-  pub caidi-stated : (lossSum lower loads ≡ 0 → ⊥)
-      → caidi lower upper loads
-      ≡ Bounds caidiBounds
+  pub caidi-stated : (lossLow ≡ 0 → ⊥)
+      → caidi lossLow lossHigh minutesLow minutesHigh ≡ Bounds (quotients minutesLow lossHigh minutesHigh lossLow)
   unfolding caidi
-  caidi-stated some = rw (ne-eqb (lossSum lower loads) 0 some) refl
+  caidi-stated some = rw (ne-eqb lossLow 0 some) refl
 
-  module _ {bounds : Enclosure} (stated : caidi lower upper loads ≡ Bounds bounds) where
-    pub stated-some : lossSum lower loads ≡ 0 → ⊥
+  module _ {bounds : Enclosure} (stated : caidi lossLow lossHigh minutesLow minutesHigh ≡ Bounds bounds) where
+    pub stated-some : lossLow ≡ 0 → ⊥
     stated-some none = not-bounds bounds (sym (caidi-not-stated none) ∙ stated)
 
-    pub stated-bounds : caidiBounds ≡ bounds
+    pub stated-bounds : quotients minutesLow lossHigh minutesHigh lossLow ≡ bounds
     stated-bounds = same-bounds _ bounds (sym (caidi-stated stated-some) ∙ stated)

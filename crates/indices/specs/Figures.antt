@@ -1,4 +1,5 @@
--- The figures by the published formulas. P is a bound for the loss of each load in units, C its customers, M its minutes; sums run over all loads.
+-- The figures by the published formulas. P is the probability that a load is lost, C its customers, M its minutes; sums run over all loads. A sum takes
+-- P as a function of the load's number, so that the same sums serve lower bounds, upper bounds and exact probabilities.
 use Prim.Native.Nat.{ℕ, _*_}
 use mathlib.Core.Bool.{cond}
 use mathlib.Core.List.{List}
@@ -8,9 +9,12 @@ use Rattle.lists.specs.Counting.{sum}
 use Rattle.units.specs.Rounding.{quotientDown, quotientUp}
 use Rattle.study.specs.declared.Load.{Load}
 use Rattle.study.specs.Zero.{zeroLoad}
+use Rattle.answers.specs.declared.bounds.Enclosure.{Enclosure}
 use Rattle.answers.specs.declared.figures.Caidi.{Caidi}
 use Rattle.answers.specs.declared.figures.Caidi.the-variants.{Bounds, NotStated}
 use Rattle.answers.specs.declared.figures.Figures.{Figures}
+
+-- ---- the sums
 
 -- the sum of C
 unfoldable pub customersSum : List Load → ℕ
@@ -18,40 +22,42 @@ unfolding sum
 customersSum loads = sum (λ (j : ℕ). getD loads j zeroLoad .customers) (length loads)
 
 -- the sum of P × C
-unfoldable pub lossSum : List ℕ → List Load → ℕ
+unfoldable pub lossSum : (ℕ → ℕ) → List Load → ℕ
 unfolding sum
-lossSum losses loads = sum (λ (j : ℕ). getD losses j 0 * getD loads j zeroLoad .customers) (length loads)
+lossSum p loads = sum (λ (j : ℕ). p j * getD loads j zeroLoad .customers) (length loads)
 
 -- the sum of P × C × M
-unfoldable pub minutesSum : List ℕ → List Load → ℕ
+unfoldable pub minutesSum : (ℕ → ℕ) → List Load → ℕ
 unfolding sum
-minutesSum losses loads = sum (λ (j : ℕ). getD losses j 0 * getD loads j zeroLoad .customers * getD loads j zeroLoad .minutes) (length loads)
+minutesSum p loads = sum (λ (j : ℕ). p j * getD loads j zeroLoad .customers * getD loads j zeroLoad .minutes) (length loads)
 
--- CAIDI's lower bound divides by the upper sum of P × C, its upper by the lower sum; it is not stated when that is 0
-unfoldable pub caidi : List ℕ → List ℕ → List Load → Caidi
-unfolding lossSum minutesSum
-caidi lower upper loads =
-    cond (eqb (lossSum lower loads) 0) NotStated
-    (Bounds
-    (record {
-      lower = quotientDown (minutesSum lower loads) (lossSum upper loads);
-      upper = quotientUp (minutesSum upper loads) (lossSum lower loads);
-    }))
+-- P from a list of bounds in units, one for each load
+abbrev pub boundOf : List ℕ → ℕ → ℕ
+boundOf losses j = getD losses j 0
+
+-- ---- the quotients
+
+-- a lower sum over its divisor, rounded down, and an upper sum over its own, rounded up
+abbrev pub quotients : ℕ → ℕ → ℕ → ℕ → Enclosure
+quotients low lowDivisor high highDivisor = record { lower = quotientDown low lowDivisor; upper = quotientUp high highDivisor }
+
+-- a sum over P for each customer served, from lower and upper bounds for P
+abbrev pub perCustomer : ((ℕ → ℕ) → List Load → ℕ) → List ℕ → List ℕ → List Load → Enclosure
+perCustomer sumOf lower upper loads =
+    quotients (sumOf (boundOf lower) loads) (customersSum loads) (sumOf (boundOf upper) loads) (customersSum loads)
+
+-- CAIDI from lower and upper sums of P × C and of P × C × M. Its lower bound divides by the upper sum of P × C, its upper by the lower sum; it is not
+-- stated when that is 0
+unfoldable pub caidi : ℕ → ℕ → ℕ → ℕ → Caidi
+caidi lossLow lossHigh minutesLow minutesHigh = cond (eqb lossLow 0) NotStated (Bounds (quotients minutesLow lossHigh minutesHigh lossLow))
 
 -- the figures from lower and upper bounds for the loss of each load
 unfoldable pub figuresOf : List ℕ → List ℕ → List Load → Figures
 unfolding customersSum lossSum minutesSum caidi
 figuresOf lower upper loads =
     record {
-      saifi =
-          record {
-            lower = quotientDown (lossSum lower loads) (customersSum loads);
-            upper = quotientUp (lossSum upper loads) (customersSum loads);
-          };
-      saidi =
-          record {
-            lower = quotientDown (minutesSum lower loads) (customersSum loads);
-            upper = quotientUp (minutesSum upper loads) (customersSum loads);
-          };
-      caidi = caidi lower upper loads;
+      saifi = perCustomer lossSum lower upper loads;
+      saidi = perCustomer minutesSum lower upper loads;
+      caidi =
+          caidi (lossSum (boundOf lower) loads) (lossSum (boundOf upper) loads) (minutesSum (boundOf lower) loads) (minutesSum (boundOf upper) loads);
     }

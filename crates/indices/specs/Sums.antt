@@ -1,9 +1,34 @@
--- A sum over loads, and how large it is at most.
-use Prim.Native.Nat.{ℕ, _*_, _≤_}
+-- Sums over loads as the code adds them up, and how large they are at most.
+use Prim.Native.Nat.{ℕ, _+_, _*_, _≤_}
 use mathlib.Core.Path.{_≡_}
-use Rattle.rules.specs.Limits.{mostLoads}
+use mathlib.Core.List.{List}
+use Rattle.units.specs.One.{one}
+use Rattle.rules.specs.Limits.{mostLoads, mostCustomers, mostMinutes}
+use Rattle.study.specs.declared.Load.{Load}
+use Rattle.indices.specs.declared.sums.Sums.{Sums}
+use Rattle.indices.specs.Figures.{lossSum, minutesSum, boundOf}
+
+-- the most that one load adds to a sum of P × C, and to one of P × C × M
+abbrev pub mostLoss : ℕ
+mostLoss = one * mostCustomers
+
+abbrev pub mostLossMinutes : ℕ
+mostLossMinutes = one * mostCustomers * mostMinutes
 
 -- r is the sum, of terms that are at most `most`
 pub record SumIs (sum most r : ℕ) : Type 0 where
   pub is : r ≡ sum
   pub fits : r ≤ mostLoads * most
+
+-- the sums with one load more, whose loss is bounded so
+abbrev pub withLoad : Sums → ℕ → Load → Sums
+withLoad sums loss l = record { loss = sums .loss + loss * l .customers; minutes = sums .minutes + loss * l .customers * l .minutes }
+
+pub record SumsFit (sums : Sums) : Type 0 where
+  pub loss : sums .loss ≤ mostLoads * mostLoss
+  pub minutes : sums .minutes ≤ mostLoads * mostLossMinutes
+
+-- the sums over loads, each with its bound
+pub record SumsOf (losses : List ℕ) (loads : List Load) (sums : Sums) : Type 0 where
+  pub loss : SumIs (lossSum (boundOf losses) loads) mostLoss (sums .loss)
+  pub minutes : SumIs (minutesSum (boundOf losses) loads) mostLossMinutes (sums .minutes)

@@ -1,7 +1,7 @@
 // SAIFI, SAIDI and CAIDI.
+use crate::sums::Sums;
 use crate::sums::customers_sum;
-use crate::sums::loss_sum;
-use crate::sums::minutes_sum;
+use crate::sums::sums_of;
 use answers::Caidi;
 use answers::Enclosure;
 use answers::Figures;
@@ -12,20 +12,19 @@ use units::quotient_up;
 ghost use Prim.Native.Nat.{_*_, _<_, _≤_};
 ghost use mathlib.Core.Path.{_≡_};
 ghost use lib.ListN.{take};
-ghost use Rattle.units.specs.One.{one};
-ghost use Rattle.units.specs.Rounding.{quotientDown, quotientUp};
-ghost use Rattle.rules.specs.Limits.{mostLoads, mostCustomers, mostMinutes};
+ghost use Rattle.rules.specs.Limits.{mostLoads};
 ghost use Rattle.model.specs.Good.{Sizes};
-ghost use Rattle.indices.specs.Figures.{customersSum, caidi, figuresOf};
+ghost use Rattle.indices.specs.Figures.{customersSum, quotients as Figures·quotients, caidi, figuresOf};
 ghost use Rattle.indices.specs.Losses.{LossBounds};
+ghost use Rattle.indices.specs.Sums.{mostLoss, mostLossMinutes, SumsFit};
 
 // A lower sum over its divisor, rounded down, and an upper sum over its own, rounded up.
 fn quotients(low: u64, low_divisor: u64, high: u64, high_divisor: u64) -> Enclosure
     requires { ⌜ 0 < «low_divisor» ⌝ }
-    requires { ⌜ high ≤ mostLoads * (one * mostCustomers * mostMinutes) ⌝ }
+    requires { ⌜ high ≤ mostLoads * mostLossMinutes ⌝ }
     requires { ⌜ 0 < «high_divisor» ⌝ }
-    requires { ⌜ «high_divisor» ≤ mostLoads * (one * mostCustomers) ⌝ }
-    ensures { λ r. ⌜ r ≡ record { lower = quotientDown low «low_divisor»; upper = quotientUp high «high_divisor» } ⌝ }
+    requires { ⌜ «high_divisor» ≤ mostLoads * mostLoss ⌝ }
+    ensures { λ r. ⌜ r ≡ Figures·quotients low «low_divisor» high «high_divisor» ⌝ }
 {
     Enclosure {
         lower: quotient_down(low, low_divisor),
@@ -33,26 +32,17 @@ fn quotients(low: u64, low_divisor: u64, high: u64, high_divisor: u64) -> Enclos
     }
 }
 
-// CAIDI of n loads, from lower and upper bounds for the loss of each.
-fn caidi_of(
-    lower: [u64; LOAD_PLACES],
-    upper: [u64; LOAD_PLACES],
-    load: [Load; LOAD_PLACES],
-    n: u8,
-) -> Caidi
-    requires { ⌜ n ≤ mostLoads ⌝ }
-    requires { ⌜ Sizes (take n load) ⌝ }
-    requires { ⌜ LossBounds lower upper n ⌝ }
-    ensures { λ r. ⌜ r ≡ caidi lower upper (take n load) ⌝ }
+// CAIDI, from lower and upper sums.
+fn caidi_of(low: Sums, high: Sums) -> Caidi
+    requires { ⌜ low .loss ≤ high .loss ⌝ }
+    requires { ⌜ SumsFit low ⌝ }
+    requires { ⌜ SumsFit high ⌝ }
+    ensures { λ r. ⌜ r ≡ caidi (low .loss) (high .loss) (low .minutes) (high .minutes) ⌝ }
 {
-    let low_loss = loss_sum(lower, load, n);
-    if low_loss == 0 {
+    if low.loss == 0 {
         return Caidi::NotStated;
     }
-    let high_loss = loss_sum(upper, load, n);
-    let low = minutes_sum(lower, load, n);
-    let high = minutes_sum(upper, load, n);
-    Caidi::Bounds(quotients(low, high_loss, high, low_loss))
+    Caidi::Bounds(quotients(low.minutes, high.loss, high.minutes, low.loss))
 }
 
 // The figures of n loads, from lower and upper bounds for the loss of each.
@@ -69,16 +59,12 @@ pub fn figures_of(
     ensures { λ r. ⌜ r ≡ figuresOf lower upper (take n load) ⌝ }
 {
     let customers = customers_sum(load, n);
-    let low = loss_sum(lower, load, n);
-    let high = loss_sum(upper, load, n);
-    let saifi = quotients(low, customers, high, customers);
-    let low_minutes = minutes_sum(lower, load, n);
-    let high_minutes = minutes_sum(upper, load, n);
-    let saidi = quotients(low_minutes, customers, high_minutes, customers);
-    let caidi = caidi_of(lower, upper, load, n);
+    let low = sums_of(lower, load, n);
+    let high = sums_of(upper, load, n);
+    let caidi = caidi_of(low, high);
     Figures {
-        saifi,
-        saidi,
+        saifi: quotients(low.loss, customers, high.loss, customers),
+        saidi: quotients(low.minutes, customers, high.minutes, customers),
         caidi,
     }
 }

@@ -1,14 +1,14 @@
-// The sums over loads that the figures divide: of C, of P × C and of P × C × M.
+// The sums over loads that the figures divide: of C, and of P × C and P × C × M for one bound P of each load's loss.
 use rules::LOAD_PLACES;
 use study::Load;
-ghost use Prim.Native.Nat.{_*_, _≤_};
+ghost use Prim.Native.Nat.{_≤_};
+ghost use mathlib.Core.Path.{_≡_};
 ghost use lib.ListN.{take};
-ghost use Rattle.units.specs.One.{one};
-ghost use Rattle.rules.specs.Limits.{mostLoads, mostCustomers, mostMinutes};
+ghost use Rattle.rules.specs.Limits.{mostLoads, mostCustomers};
 ghost use Rattle.model.specs.Good.{Sizes};
-ghost use Rattle.indices.specs.Figures.{customersSum, lossSum, minutesSum};
+ghost use Rattle.indices.specs.Figures.{customersSum};
 ghost use Rattle.indices.specs.Losses.{AtMostOne};
-ghost use Rattle.indices.specs.Sums.{SumIs};
+ghost use Rattle.indices.specs.Sums.{SumIs, withLoad, SumsFit, SumsOf};
 
 // The customers of the first n loads.
 pub fn customers_sum(load: [Load; LOAD_PLACES], n: u8) -> u64
@@ -27,38 +27,41 @@ pub fn customers_sum(load: [Load; LOAD_PLACES], n: u8) -> u64
     sum
 }
 
-// The losses of the first n loads, each times the load's customers.
-pub fn loss_sum(losses: [u64; LOAD_PLACES], load: [Load; LOAD_PLACES], n: u8) -> u64
-    requires { ⌜ n ≤ mostLoads ⌝ }
-    requires { ⌜ Sizes (take n load) ⌝ }
-    requires { ⌜ AtMostOne losses n ⌝ }
-    ensures { λ r. ⌜ SumIs (lossSum losses (take n load)) (one * mostCustomers) r ⌝ }
-{
-    let loads = n as usize;
-    let mut sum: u64 = 0;
-    let mut j: usize = 0;
-    while j < loads {
-        let l = load[j];
-        sum = sum + losses[j] * l.customers as u64;
-        j = j + 1;
-    }
-    sum
+// The sums over P: of P × C, and of P × C × M.
+pub struct Sums {
+    pub loss: u64,
+    pub minutes: u64,
 }
 
-// The losses of the first n loads, each times the load's customers and its minutes.
-pub fn minutes_sum(losses: [u64; LOAD_PLACES], load: [Load; LOAD_PLACES], n: u8) -> u64
+// The sums with one load more.
+fn with_load(sums: Sums, loss: u64, l: Load) -> Sums
+    requires { ⌜ SumsFit (withLoad sums loss l) ⌝ }
+    ensures { λ r. ⌜ r ≡ withLoad sums loss l ⌝ }
+{
+    let lost = loss * l.customers as u64;
+    Sums {
+        loss: sums.loss + lost,
+        minutes: sums.minutes + lost * l.minutes as u64,
+    }
+}
+
+// The sums over the first n loads, from a bound for the loss of each.
+pub fn sums_of(losses: [u64; LOAD_PLACES], load: [Load; LOAD_PLACES], n: u8) -> Sums
     requires { ⌜ n ≤ mostLoads ⌝ }
     requires { ⌜ Sizes (take n load) ⌝ }
     requires { ⌜ AtMostOne losses n ⌝ }
-    ensures { λ r. ⌜ SumIs (minutesSum losses (take n load)) (one * mostCustomers * mostMinutes) r ⌝ }
+    ensures { λ r. ⌜ SumsOf losses (take n load) r ⌝ }
 {
     let loads = n as usize;
-    let mut sum: u64 = 0;
+    let mut sums = Sums {
+        loss: 0,
+        minutes: 0,
+    };
     let mut j: usize = 0;
     while j < loads {
         let l = load[j];
-        sum = sum + losses[j] * l.customers as u64 * l.minutes as u64;
+        sums = with_load(sums, losses[j], l);
         j = j + 1;
     }
-    sum
+    sums
 }

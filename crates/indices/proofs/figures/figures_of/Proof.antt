@@ -1,38 +1,40 @@
 -- `indices::figures::figures_of` meets its contract: the sums and the quotients are the callees'.
-use Rattle.indices.proofs.BySums.{figures-by-sums}
-use Rattle.indices.proofs.Ordering.{lower-most}
+use Prim.Native.Nat.{_≤_}
+use native.Mathlib.Omega.{arith}
+use Rattle.indices.proofs.BySums.{sums-fit, figures-by-sums}
+use Rattle.indices.proofs.Ordering.{lower-most, loss-ordered}
 use borrow.Author.Needs.{needs}
 use Rattle.indices.proofs.figures.figures_of.Statement.{statement}
 use Rattle.indices.proofs.figures.figures_of.Tie as tie
 
-loss-sum-requires : tie.Need-loss-sum-requires
-loss-sum-requires c κs =
+sums-of-requires : tie.Need-sums-of-requires
+sums-of-requires c κs =
     let pre = c .before .pre in
     (pre .0, (pre .1 .0, lower-most (pre .1 .1 .0)))
 
-minutes-sum-requires : tie.Need-minutes-sum-requires
-minutes-sum-requires c κs =
-    let pre = c .before .before .before .before .pre in
-    (pre .0, (pre .1 .0, lower-most (pre .1 .1 .0)))
+caidi-of-requires : tie.Need-caidi-of-requires
+caidi-of-requires c κs =
+    let low = c .before .sums-of .ensures in
+    let high = c .sums-of2 .ensures in
+    let start = c .before .before .before in
+    let ordered = loss-ordered (start .pre .1 .1 .0) (start .args .load) in
+    (omega (arith, low .loss .is, high .loss .is, ordered), (sums-fit low, sums-fit high))
 
 returns : tie.Need-returns
 returns c =
-    let minutes = c .before .before in
-    let sums = minutes .before .before .before in
-    figures-by-sums _ _ _ (sums .before .loss-sum .ensures .is) (sums .loss-sum2 .ensures .is) (minutes .before .minutes-sum .ensures .is)
-    (minutes .minutes-sum2 .ensures .is) (sums .before .before .customers-sum .ensures .is) (minutes .before .before .quotients .ensures)
-    (c .before .quotients2 .ensures) (c .caidi-of .ensures)
+    let customers = c .before .before in
+    let sums = customers .before in
+    figures-by-sums (sums .before .sums-of .ensures) (sums .sums-of2 .ensures) (sums .before .before .customers-sum .ensures .is)
+    (customers .caidi-of .ensures) (c .before .quotients .ensures) (c .quotients2 .ensures)
 
 pub figures-of-spec : {M : Type 1} → statement M
 figures-of-spec =
     tie.close
     (tie.spec
     (λ c κs. search needs)
-    loss-sum-requires
+    sums-of-requires
     (λ c κs. search needs)
-    (λ c κs. search needs)
-    minutes-sum-requires
-    (λ c κs. search needs)
+    caidi-of-requires
     (λ c κs. search needs)
     (λ c κs. search needs)
     returns)

@@ -14,7 +14,7 @@ use Rattle.indices.proofs.sums.customers_sum.Statement.{statement}
 use Rattle.indices.proofs.sums.customers_sum.Tie as tie
 
 abbrev Inv-loop : tie.InvT-loop
-Inv-loop n load loads sum₀ j₀ sum j = Summed (λ (j : ℕ). getD load j zeroLoad .customers) (mostCustomers) loads j sum
+Inv-loop n load loads sum₀ j₀ sum j = Summed (λ (j : ℕ). getD load j zeroLoad .customers) mostCustomers loads j sum
 
 abbrev μ-loop : tie.MeasureT-loop
 μ-loop n load loads sum₀ j₀ sum j = loads - j
