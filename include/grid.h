@@ -25,7 +25,7 @@
 #define GRID_CLASS_PLACES 256
 
 /* The places that the figures need. */
-#define GRID_FIGURE_PLACES 6
+#define GRID_FIGURE_PLACES 8
 
 #ifdef __cplusplus
 extern "C" {
@@ -56,8 +56,9 @@ int64_t grid_class_bounds(const uint8_t *study, size_t study_len, uint64_t *lowe
 /* Writes the bounds for the loss of a load. Answers 0. Refused by 16, 17. */
 int64_t grid_load_bounds(const uint8_t *study, size_t study_len, size_t load, uint64_t *lower, uint64_t *upper);
 
-/* Writes the lower and the upper bound of SAIFI (units), SAIDI (billionths of a minute) and CAIDI (minutes) at places 0 to 5.
- * Answers 3, or 2 where CAIDI is not stated and places 4 and 5 keep what they held. Refused by 16, 18, 19. */
+/* Writes the lower and the upper bound of SAIFI (units), SAIDI (billionths of a minute), CAIDI (minutes) and MAIFI (units) at places 0 to 7.
+ * Loads with a restore time of 5 minutes or less count in MAIFI alone, all others in the first three.
+ * Answers 4, or 3 where CAIDI is not stated and places 4 and 5 keep what they held. Refused by 16, 18, 19. */
 int64_t grid_figures(const uint8_t *study, size_t study_len, uint64_t *figures, size_t figures_len);
 
 /* How many loads are lost in a class: the ones of its byte. */

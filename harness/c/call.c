@@ -1,4 +1,4 @@
-/* Calls the library from C: opens a study of two components, prints its SAIFI, and what an edit and a study are refused by. */
+/* Calls the library from C: opens a study of two components, prints its SAIFI and MAIFI, and what an edit and a study are refused by. */
 #include "grid.h"
 
 #include <inttypes.h>
@@ -29,9 +29,10 @@ int main(void)
 
     if (grid_open(bytes, sizeof bytes, study, sizeof study) != 0)
         return 1;
-    if (grid_figures(study, sizeof study, figures, GRID_FIGURE_PLACES) != 3)
+    if (grid_figures(study, sizeof study, figures, GRID_FIGURE_PLACES) != 4)
         return 1;
     printf("SAIFI %" PRIu64 " %" PRIu64 "\n", figures[0], figures[1]);
+    printf("MAIFI %" PRIu64 " %" PRIu64 "\n", figures[6], figures[7]);
     print_refusal(grid_set_probabilities(study, sizeof study, 0, 1000000001, 0, 0));
     print_refusal(grid_open(bytes, sizeof bytes - 1, study, sizeof study));
     return 0;

@@ -124,7 +124,7 @@ pub fn load_bounds(study: &[u8], load: usize, lower: &mut u64, upper: &mut u64) 
     answer(unsafe { grid_load_bounds(study.as_ptr(), study.len(), load, lower, upper) })
 }
 
-/// Writes SAIFI, SAIDI and CAIDI, lower before upper, and answers how many are stated, 3 or 2. Refused by 16, 18, 19.
+/// Writes SAIFI, SAIDI, CAIDI and MAIFI, lower before upper, and answers how many are stated: 4, or 3 without CAIDI. Refused by 16, 18, 19.
 pub fn figures(study: &[u8], figures: &mut [u64]) -> Answer<usize> {
     answer(unsafe {
         grid_figures(

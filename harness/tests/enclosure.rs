@@ -46,20 +46,27 @@ fn assert_encloses(bounds: Bounds, top: u128, bottom: u128) {
 }
 
 fn check_figures(study: &Study, losses: &Losses, list: &[(Path, Bounds)], unit: u128) {
-    let Ok(three) = figures(study, list) else {
+    let Ok(given) = figures(study, list) else {
         assert!(study.loads.iter().all(|load| load.customers == 0));
         return;
     };
-    let (mut customers, mut lost, mut minutes) = (0, 0, 0);
+    let (mut customers, mut lost, mut minutes, mut momentary) = (0, 0, 0, 0);
     for (j, load) in study.loads.iter().enumerate() {
         let loss = exact(study, losses, |class| class & (1 << j) != 0);
+        let affected = loss * u128::from(load.customers);
         customers += u128::from(load.customers);
-        lost += loss * u128::from(load.customers);
-        minutes += loss * u128::from(load.customers) * u128::from(load.minutes);
+        match load.minutes {
+            0..=5 => momentary += affected,
+            longer => {
+                lost += affected;
+                minutes += affected * u128::from(longer);
+            }
+        }
     }
-    assert_encloses(three.saifi, lost, customers * unit);
-    assert_encloses(three.saidi, minutes, customers * unit);
-    if let Some(caidi) = three.caidi {
+    assert_encloses(given.saifi, lost, customers * unit);
+    assert_encloses(given.saidi, minutes, customers * unit);
+    assert_encloses(given.maifi, momentary, customers * unit);
+    if let Some(caidi) = given.caidi {
         assert_encloses(caidi, minutes, lost);
     }
 }

@@ -33,7 +33,7 @@ fn image_of(study: &str) -> Vec<u8> {
 fn a_two_in_series() {
     let due = "PATHS 3\nP 00 0 720000000 720000000\nP 01 1 180000000 180000000\nP 1- 1 100000000 100000000\n\
                K 0 720000000 720000000\nK 1 280000000 280000000\nL 0 280000000 280000000\n\
-               SAIFI 280000000 280000000\nSAIDI 16800000000 16800000000\nCAIDI 60 60\n";
+               SAIFI 280000000 280000000\nSAIDI 16800000000 16800000000\nCAIDI 60 60\nMAIFI 0 0\n";
     assert_eq!(report_of(CASE_A), due);
 }
 
@@ -129,6 +129,7 @@ fn k_probability_zero() {
     assert_eq!(lines(study, "P "), paths);
     assert_eq!(lines(study, "K "), ["0 1000000000 1000000000", "1 0 0"]);
     assert_eq!(lines(study, "CAIDI "), ["none"]);
+    assert_eq!(lines(study, "MAIFI "), ["0 0"]);
 }
 
 #[test]
@@ -149,10 +150,10 @@ fn m_no_customers() {
     let mut image = image_of(CASE_A);
     assert_eq!(library::set_customers(&mut image, 0, 0), Ok(0));
     for call in [library::figures, reference::figures] {
-        let mut places = [7; 6];
+        let mut places = [7; 8];
         assert_eq!(call(&image, &mut places), Err(19));
-        assert_eq!(places, [7; 6]);
-        assert_eq!(call(&image, &mut places[..5]), Err(18));
+        assert_eq!(places, [7; 8]);
+        assert_eq!(call(&image, &mut places[..7]), Err(18));
     }
     let nobody = "02 01 01  02 00E1F505  02 00C2EB0B  02 02 0002 0102  05 00 3C000000";
     assert!(report_of(nobody).ends_with("L 0 280000000 280000000\nINDICES 19\n"));

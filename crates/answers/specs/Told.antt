@@ -43,7 +43,7 @@ caidiValues (Stated pair) = pairValues pair
 caidiValues NotStated = []
 
 abbrev pub figureValues : FigureValues → List ℕ
-figureValues figures = pairValues (figures .saifi) ++ (pairValues (figures .saidi) ++ caidiValues (figures .caidi))
+figureValues figures = pairValues (figures .saifi) ++ (pairValues (figures .saidi) ++ (caidiValues (figures .caidi) ++ pairValues (figures .maifi)))
 
 -- ---- the answers
 

@@ -7,11 +7,12 @@ pub enum Caidi {
     NotStated,
 }
 
-// SAIFI in units, SAIDI in billionths of a minute, CAIDI.
+// SAIFI in units, SAIDI in billionths of a minute, CAIDI, MAIFI in units.
 pub struct Figures {
     pub saifi: Enclosure,
     pub saidi: Enclosure,
     pub caidi: Caidi,
+    pub maifi: Enclosure,
 }
 
 // The figures, or the refusal.

@@ -22,7 +22,7 @@
 //                                 many do not
 //     v ITEM                      the bounds of a load of the current study: the refusal, 0 for none, the lower and the upper bound
 //     i                           the figures of the current study. One line: the refusal, 0 for none. Unless refused, a line each for SAIFI,
-//                                 SAIDI and CAIDI: the lower and the upper bound, and an empty line where CAIDI is not stated
+//                                 SAIDI, CAIDI and MAIFI: the lower and the upper bound, and an empty line where CAIDI is not stated
 //     n CLASS                     the number of loads lost in a class
 //     w NUMBER SIZE FILL          asks for the word of a refusal in so many bytes that all hold FILL. One line: the refusal, 0 for none, and the
 //                                 number of bytes. One line: the word. One line: how many of the bytes behind the word hold FILL, and how many

@@ -32,6 +32,7 @@ pub fn figures(study: Study) {
             numbers::two(figures.saifi.lower, figures.saifi.upper);
             numbers::two(figures.saidi.lower, figures.saidi.upper);
             show_caidi(caidi);
+            numbers::two(figures.maifi.lower, figures.maifi.upper);
         }
         FiguresAnswer::Refused(number) => numbers::byte(number, true),
     }

@@ -9,7 +9,9 @@ use Rattle.model.specs.Good.{Good}
 use Rattle.model.specs.Model.{Model, components}
 use Rattle.accuracy.specs.Accuracy.{wholeOf}
 use Rattle.indices.specs.Enclosed.{LossesEnclosed}
-use Rattle.indices.proofs.Enclosed.{saifi-encloses, saidi-encloses, caidi-encloses}
+use Rattle.indices.specs.Figures.{customersLost, lossSum}
+use Rattle.indices.proofs.Enclosed.{saifi-encloses, saidi-encloses, caidi-encloses, maifi-encloses}
+use Rattle.indices.proofs.Parted.{sums-parted}
 use Rattle.rules.proofs.Kept.{list-last}
 use Rattle.rules.proofs.Rows.{customers-kept}
 use Rattle.answers.specs.Told.{figureValues, figuresTold}
@@ -22,7 +24,7 @@ use Rattle.evaluation.specs.Figures.{modelFigures}
 use Rattle.evaluation.proofs.LossOrder.{lower-at, upper-at}
 use Rattle.loss_calls.specs.Figures.{customersOf, figuresFault, figuresGiven}
 use Rattle.demands.specs.Calls.{figures as forFigures}
-use Rattle.demands.specs.Demand2.{exactLost, FiguresEnclose, ModelFiguresEnclose, FiguresAnswered}
+use Rattle.demands.specs.Demand2.{exactLost, FiguresEnclose, LossesParted, ModelFiguresEnclose, FiguresAnswered}
 use Rattle.demands.proofs.Bounds.{losses-within}
 use Rattle.demands.proofs.Finished.{finished}
 
@@ -37,10 +39,15 @@ losses-enclosed m good =
 pub model-figures-enclose : ModelFiguresEnclose
 model-figures-enclose m good customers =
     record {
-      saifi = saifi-encloses (m .loads) (losses-enclosed m good) customers;
-      saidi = saidi-encloses (m .loads) (losses-enclosed m good) customers;
-      caidi = caidi-encloses (m .loads) (losses-enclosed m good);
+      saifi-encloses = saifi-encloses (m .loads) (losses-enclosed m good) customers;
+      saidi-encloses = saidi-encloses (m .loads) (losses-enclosed m good) customers;
+      caidi-encloses = caidi-encloses (m .loads) (losses-enclosed m good);
+      maifi-encloses = maifi-encloses (m .loads) (losses-enclosed m good) customers;
     }
+
+pub losses-parted : LossesParted
+unfolding lossSum
+losses-parted p loads = sums-parted (customersLost p) loads
 
 pub figures-answered : FiguresAnswered
 unfolding figuresGiven figuresFault

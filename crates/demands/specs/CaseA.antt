@@ -29,6 +29,7 @@ caseAText =
     ∷ letters "SAIFI 280000000 280000000\n"
     ∷ letters "SAIDI 16800000000 16800000000\n"
     ∷ letters "CAIDI 60 60\n"
+    ∷ letters "MAIFI 0 0\n"
     ∷ [])
 
 abbrev pub CaseA : Type 0

@@ -1,6 +1,6 @@
 -- Demand 2: a load is lost in a joint state just when its fault tree says so; the bounds enclose the exact probabilities, and the figures the
 -- exact quotients. Of every good model, and so of every answer that is not a refusal.
-use Prim.Native.Nat.{ℕ, _<_, _≤_}
+use Prim.Native.Nat.{ℕ, _+_, _<_, _≤_}
 use mathlib.Core.Path.{_≡_}
 use mathlib.Core.Bool.{Bool, true, false}
 use mathlib.Core.List.{List, []}
@@ -9,6 +9,7 @@ use lib.ListN.{length, getD}
 use Rattle.lists.specs.Bits.{bit}
 use Rattle.units.specs.Within.{Within}
 use Rattle.rules.specs.Limits.{never}
+use Rattle.study.specs.declared.Load.{Load}
 use Rattle.study.specs.declared.Study.{Study}
 use Rattle.study.specs.Joint.{stateCounts}
 use Rattle.study.specs.Places.{gateAt, loadAt}
@@ -24,8 +25,9 @@ use Rattle.paths.specs.Words.{fits}
 use Rattle.model.specs.Good.{Good}
 use Rattle.model.specs.Model.{Model, components, pathsOf}
 use Rattle.accuracy.specs.Accuracy.{exactOf, wholeOf, pathDistance, totalDistance}
-use Rattle.indices.specs.Figures.{customersSum}
-use Rattle.indices.specs.Enclosed.{SaifiEncloses, SaidiEncloses, CaidiEncloses}
+use Rattle.indices.specs.Figures.{customersSum, lossSum, minutesSum}
+use Rattle.indices.specs.Enclosed.{EnclosesPerCustomer, EnclosesMinutes}
+use Rattle.indices.specs.Parts.{short, sustained, every}
 use Rattle.soundness.specs.Sound.{Sound}
 use Rattle.fault_tree.specs.Truth.{gateTrue, gateTruths}
 use Rattle.fault_tree.specs.Classes.{classOf}
@@ -90,11 +92,17 @@ abbrev pub LossWithin : Model → ℕ → ℕ → ℕ → Type 0
 LossWithin m j lower upper =
     Within lower upper (totalDistance (components m) (λ (class : ℕ). bit class j) (pathsOf m)) (exactLost m j) (wholeOf m)
 
--- Figures enclose the quotients of the published formulas, over the exact probabilities; CAIDI does wherever it is stated.
+-- Figures enclose the quotients of the published formulas, over the exact probabilities: SAIFI, SAIDI and, wherever it is stated, CAIDI over the loads
+-- with more than five minutes to restore, MAIFI over the short ones. The customers of all loads are served.
 pub record FiguresEnclose (m : Model) (figures : Figures) : Type 0 where
-  pub saifi : SaifiEncloses figures (exactLost m) (wholeOf m) (m .loads)
-  pub saidi : SaidiEncloses figures (exactLost m) (wholeOf m) (m .loads)
-  pub caidi : CaidiEncloses figures (exactLost m) (m .loads)
+  pub saifi-encloses : EnclosesPerCustomer (figures .saifi) (lossSum sustained) (exactLost m) (wholeOf m) (m .loads)
+  pub saidi-encloses : EnclosesPerCustomer (figures .saidi) (minutesSum sustained) (exactLost m) (wholeOf m) (m .loads)
+  pub caidi-encloses : EnclosesMinutes (figures .caidi) sustained (exactLost m) (m .loads)
+  pub maifi-encloses : EnclosesPerCustomer (figures .maifi) (lossSum short) (exactLost m) (wholeOf m) (m .loads)
+
+-- Each load counts on one side and only one, so that the sums of P × C behind SAIFI and MAIFI make the sum over all loads.
+abbrev pub LossesParted : Type 0
+LossesParted = (p : ℕ → ℕ) (loads : List Load) → lossSum sustained p loads + lossSum short p loads ≡ lossSum every p loads
 
 -- ---- of every good model
 
@@ -128,6 +136,6 @@ ClassBoundsAnswered =
 abbrev pub LoadBoundsAnswered : Type 0
 LoadBoundsAnswered = (t : Study) (j : ℕ) (pair : Enclosure) → loadBounded t j ≡ Bounds pair → LossWithin (modelOf t) j (pair .lower) (pair .upper)
 
--- The call for the figures answers them: they enclose the quotients, CAIDI where it is stated.
+-- The call for the figures answers them: all four enclose their quotients, CAIDI where it is stated.
 abbrev pub FiguresAnswered : Type 0
 FiguresAnswered = (t : Study) (figures : Figures) → figuresGiven t ≡ Given figures → FiguresEnclose (modelOf t) figures

@@ -136,8 +136,8 @@ listing bytes opening paths bounds classes loads figures =
     record { bytes = bytes; opening = opening; results = some results }
 
 -- the figures, and their refusal where there are no customers
-abbrev figuresAre : Enclosure → Enclosure → Caidi → FiguresAnswer
-figuresAre saifi saidi caidi = Figures (record { saifi = saifi; saidi = saidi; caidi = caidi })
+abbrev figuresAre : Enclosure → Enclosure → Caidi → Enclosure → FiguresAnswer
+figuresAre saifi saidi caidi maifi = Figures (record { saifi = saifi; saidi = saidi; caidi = caidi; maifi = maifi })
 
 abbrev noCustomers : FiguresAnswer
 noCustomers = Refused 19
@@ -163,7 +163,7 @@ examples =
     (at 720_000_000 ∷ at 180_000_000 ∷ at 100_000_000 ∷ [])
     (at 720_000_000 ∷ at 280_000_000 ∷ [])
     (at 280_000_000 ∷ [])
-    (figuresAre (at 280_000_000) (at 16_800_000_000) (Bounds (at 60)))
+    (figuresAre (at 280_000_000) (at 16_800_000_000) (Bounds (at 60)) (at 0))
     -- B: two components, lost when both fail
     ∷ listing (2 ∷ 1 ∷ 1
     ∷ 0x02 ∷ 0x55 ∷ 0x43 ∷ 0xDE ∷ 0x13
@@ -242,14 +242,14 @@ examples =
     (at one ∷ at 0 ∷ [])
     (at 0 ∷ [])
     noCustomers
-    -- K: state 1 at 0, and a load of one customer that is lost in it
+    -- K: state 1 at 0, and a load of one customer that is lost in it; it states no minutes, and so is short
     ∷ listing (1 ∷ 1 ∷ 1 ∷ 0x00 ∷ 0x02 ∷ 1 ∷ 0 ∷ 2 ∷ 0x03 ∷ 0 ∷ 1 ∷ 0 ∷ 0 ∷ 0 ∷ [])
     (opens (twoStates 0 ∷ []) (failed0 ∷ []) (lostBy 0 1 0 ∷ []))
     zeroListed
     (at one ∷ at 0 ∷ [])
     (at one ∷ at 0 ∷ [])
     (at 0 ∷ [])
-    (figuresAre (at 0) (at 0) NotStated)
+    (figuresAre (at 0) (at 0) NotStated (at 0))
     ∷ []
 
 -- ---- the claim

@@ -1,11 +1,9 @@
--- Which breach the call for the figures meets first, and how many places the figures take.
+-- Which breach the call for the figures meets first.
 use Prim.Native.Nat.{ℕ, _≤_}
 use mathlib.Core.Path.{_≡_, refl, sym, _∙_}
 use mathlib.Core.Bool.{Bool, true, false}
 use mathlib.Core.List.{[], _∷_}
-use native.Mathlib.Omega.{arith}
 use lib.Dec.{eqb}
-use lib.ListN.{length}
 use borrow.Author.Tests.{eqb-true, eqb-false}
 use Rattle.rules.specs.Breach.{first, firstBreach}
 use Rattle.rules.specs.Table.{unsoundFault, roomFault, customersFault}
@@ -13,18 +11,10 @@ use Rattle.rules.proofs.Kept.{Neither, front-broken, front-kept, second-decides
 use Rattle.rules.proofs.Rows.{room-kept}
 use Rattle.study.specs.declared.Study.{Study}
 use Rattle.soundness.specs.Check.{sound}
-use Rattle.answers.specs.declared.figures.Caidi.{Caidi}
-use Rattle.answers.specs.declared.figures.Caidi.the-variants.{Bounds, NotStated}
 use Rattle.answers.specs.declared.figures.FiguresAnswer.the-variants.{Refused}
-use Rattle.answers.specs.Told.{caidiValues}
 use Rattle.answers.proofs.Answered.{answered-refused}
 use Rattle.loss_calls.specs.Figures.{customersOf, figuresFault, figuresGiven}
 use Rattle.export_figures.specs.Figures.{figurePlaces, placesFault, figuresInFault, figuresIn}
-
--- CAIDI takes two places or none
-pub caidi-short : (caidi : Caidi) → length (caidiValues caidi) ≤ 2
-caidi-short (Bounds pair) = omega arith
-caidi-short NotStated = omega arith
 
 -- as the code finds it
 pub places-is : (t : Study) (places : ℕ) {fault unsound room : ℕ} → fault ≡ first unsound room → unsound ≡ unsoundFault (sound t)

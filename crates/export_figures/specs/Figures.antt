@@ -1,26 +1,41 @@
--- The call for the figures of the study that an image holds, in six places.
+-- The call for the figures of the study that an image holds, each in two places of its own.
 use Prim.Native.Nat.{ℕ}
 use mathlib.Core.Path.{_≡_}
 use mathlib.Core.List.{List, [], _∷_}
 use lib.IntN.{ℤ}
 use lib.ListN.{length}
+use Rattle.lists.specs.Rows.{put}
 use Rattle.rules.specs.Breach.{firstBreach}
 use Rattle.rules.specs.Table.{unsoundFault, roomFault, customersFault}
 use Rattle.study.specs.declared.Study.{Study}
+use Rattle.answers.specs.declared.figures.Figures.{Figures as FigureValues}
 use Rattle.answers.specs.declared.figures.FiguresAnswer.{FiguresAnswer}
 use Rattle.answers.specs.declared.figures.FiguresAnswer.the-variants.{Figures, Refused}
 use Rattle.answers.specs.Answered.{answered}
-use Rattle.answers.specs.Told.{figuresTold}
+use Rattle.answers.specs.Told.{pairValues, caidiValues, figuresTold}
 use Rattle.soundness.specs.Check.{sound}
 use Rattle.study_model.specs.Model.{modelOf}
 use Rattle.evaluation.specs.Figures.{modelFigures}
 use Rattle.loss_calls.specs.Figures.{customersOf}
 use Rattle.study_image.specs.Image.{studyIn}
-use Rattle.export_answers.specs.Answers.{answeredBy, pairs, leftBy}
+use Rattle.export_answers.specs.Answers.{answeredBy, pairs}
 
--- a lower and an upper bound of SAIFI, SAIDI and CAIDI
+-- a lower and an upper bound of SAIFI, SAIDI, CAIDI and MAIFI
 abbrev pub figurePlaces : ℕ
-figurePlaces = 6
+figurePlaces = 8
+
+-- where the pair of each stands
+abbrev pub saifiAt : ℕ
+saifiAt = 0
+
+abbrev pub saidiAt : ℕ
+saidiAt = 2
+
+abbrev pub caidiAt : ℕ
+caidiAt = 4
+
+abbrev pub maifiAt : ℕ
+maifiAt = 6
 
 -- 16, then 18
 unfoldable pub placesFault : Study → ℕ → ℕ
@@ -35,10 +50,23 @@ unfoldable pub figuresIn : Study → ℕ → FiguresAnswer
 unfolding answered
 figuresIn t room = answered Refused (figuresInFault t room) (Figures (modelFigures (modelOf t)))
 
--- an answer in the places: how many figures are stated, and a pair of places for each; CAIDI, where it is not stated, leaves its places as they were
+-- the places with each figure in its own two; CAIDI, where it is not stated, has no values and leaves its places as they were
+abbrev pub placesWith : FigureValues → List ℕ → List ℕ
+placesWith figures was =
+    let saifi = put was saifiAt (pairValues (figures .saifi)) in
+    let saidi = put saifi saidiAt (pairValues (figures .saidi)) in
+    let caidi = put saidi caidiAt (caidiValues (figures .caidi)) in
+    put caidi maifiAt (pairValues (figures .maifi))
+
+-- what an answer leaves of the places
+abbrev pub placesLeft : FiguresAnswer → List ℕ → List ℕ
+placesLeft (Figures figures) was = placesWith figures was
+placesLeft (Refused number) was = was
+
+-- an answer in the places: how many figures are stated, and what is left
 pub record PlacesFigures (given : FiguresAnswer) (was places : List ℕ) (answer : ℤ) : Type 0 where
   pub answered : answer ≡ answeredBy pairs (figuresTold given)
-  pub left : places ≡ leftBy (figuresTold given) was
+  pub left : places ≡ placesLeft given was
 
 -- the call
 abbrev pub GivesFigures : (study was places : List ℕ) → ℤ → Type 0

@@ -17,7 +17,7 @@ ghost use lib.ListN.{length};
 ghost use Rattle.lists.specs.Rows.{put};
 ghost use Rattle.answers.specs.Told.{pairValues, caidiValues, figureValues};
 ghost use Rattle.export_answers.specs.Answers.{pairs};
-ghost use Rattle.export_figures.specs.Figures.{figurePlaces, placesFault, PlacesFigures, GivesFigures};
+ghost use Rattle.export_figures.specs.Figures.{figurePlaces, caidiAt, placesWith, placesFault, PlacesFigures, GivesFigures};
 
 // Where the pair of each figure stands.
 const SAIFI_AT: usize = 0;
@@ -26,8 +26,10 @@ const SAIDI_AT: usize = 2;
 
 const CAIDI_AT: usize = 4;
 
-// The places of all three.
-const FIGURE_PLACES: usize = 6;
+const MAIFI_AT: usize = 6;
+
+// The places of them all.
+const FIGURE_PLACES: usize = 8;
 
 // Writes a pair of bounds at a place.
 fn write_pair(pair: Enclosure, places: &mut [u64], at: usize)
@@ -38,18 +40,18 @@ fn write_pair(pair: Enclosure, places: &mut [u64], at: usize)
     places[at + 1] = pair.upper;
 }
 
-// Writes CAIDI where it is stated; answers how many figures are stated.
+// Writes CAIDI where it is stated; answers how many figures are stated, the three others among them.
 fn write_caidi(caidi: Caidi, places: &mut [u64]) -> u32
     requires { ⌜ figurePlaces ≤ length (now places) ⌝ }
-    ensures { λ r. ⌜ r ≡ 2 + pairs (caidiValues caidi) ⌝ }
-    ensures { λ r. ⌜ now (places .exit) ≡ put (now (places .entry)) 4 (caidiValues caidi) ⌝ }
+    ensures { λ r. ⌜ r ≡ 3 + pairs (caidiValues caidi) ⌝ }
+    ensures { λ r. ⌜ now (places .exit) ≡ put (now (places .entry)) caidiAt (caidiValues caidi) ⌝ }
 {
     match caidi {
         Caidi::Bounds(pair) => {
             write_pair(pair, places, CAIDI_AT);
-            3
+            4
         }
-        Caidi::NotStated => 2,
+        Caidi::NotStated => 3,
     }
 }
 
@@ -57,12 +59,14 @@ fn write_caidi(caidi: Caidi, places: &mut [u64]) -> u32
 fn write_figures(figures: Figures, places: &mut [u64]) -> u32
     requires { ⌜ figurePlaces ≤ length (now places) ⌝ }
     ensures { λ r. ⌜ r ≡ pairs (figureValues figures) ⌝ }
-    ensures { λ r. ⌜ now (places .exit) ≡ put (now (places .entry)) 0 (figureValues figures) ⌝ }
+    ensures { λ r. ⌜ now (places .exit) ≡ placesWith figures (now (places .entry)) ⌝ }
 {
     let caidi = figures.caidi;
     write_pair(figures.saifi, places, SAIFI_AT);
     write_pair(figures.saidi, places, SAIDI_AT);
-    write_caidi(caidi, places)
+    let stated = write_caidi(caidi, places);
+    write_pair(figures.maifi, places, MAIFI_AT);
+    stated
 }
 
 // Hands on the figures that a call answered.
@@ -86,7 +90,7 @@ fn places_fault(t: Study, places: usize) -> u8
     first(unsound, room)
 }
 
-// SAIFI, SAIDI and CAIDI, lower and upper bound of each in its two of six places; answers how many are stated, since CAIDI may not be.
+// SAIFI, SAIDI, CAIDI and MAIFI, lower and upper bound of each in its two of eight places; answers how many are stated, since CAIDI may not be.
 // Refused by 16, 18, 19, in this order.
 pub fn figures(study: &[u8], places: &mut [u64]) -> i64
     ensures { λ r. ⌜ GivesFigures (now (study .entry)) (now (places .entry)) (now (places .exit)) r ⌝ }

@@ -1,7 +1,7 @@
 // The figures of an opened study.
 ghost use Rattle.export_figures.specs.Figures.{GivesFigures};
 
-// SAIFI, SAIDI and CAIDI, lower and upper bound of each in its two of six places; answers how many are stated, since CAIDI may not be.
+// SAIFI, SAIDI, CAIDI and MAIFI, lower and upper bound of each in its two of eight places; answers how many are stated, since CAIDI may not be.
 // Refused by 16, 18, 19, in this order.
 #[no_mangle]
 pub extern "C" fn grid_figures(study: &[u8], figures: &mut [u64]) -> i64

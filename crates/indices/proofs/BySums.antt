@@ -11,13 +11,15 @@ use Rattle.indices.specs.Figures.{customersSum, quotients, caidi, figure
 use Rattle.indices.specs.Sums.{SumsFit, SumsOf}
 
 pub sums-fit : {losses : List ℕ} {loads : List Load} {sums : Sums} → SumsOf losses loads sums → SumsFit sums
-sums-fit are = record { loss = are .loss .fits; minutes = are .minutes .fits }
+sums-fit are = record { loss = are .loss .fits; minutes = are .minutes .fits; momentary = are .momentary .fits }
 
 module _ {lower upper : List ℕ} {loads : List Load} {low high : Sums} (lows : SumsOf lower loads low) (highs : SumsOf upper loads high) where
-  pub figures-by-sums : {customers : ℕ} {saifi saidi : Enclosure} {c : Caidi} → customers ≡ customersSum loads
+  pub figures-by-sums : {customers : ℕ} {saifi saidi maifi : Enclosure} {c : Caidi} → customers ≡ customersSum loads
       → c ≡ caidi (low .loss) (high .loss) (low .minutes) (high .minutes)
       → saifi ≡ quotients (low .loss) customers (high .loss) customers
       → saidi ≡ quotients (low .minutes) customers (high .minutes) customers
-      → _≡_ {A = Figures} (record { saifi = saifi; saidi = saidi; caidi = c }) (figuresOf lower upper loads)
+      → maifi ≡ quotients (low .momentary) customers (high .momentary) customers
+      → _≡_ {A = Figures} (record { saifi = saifi; saidi = saidi; caidi = c; maifi = maifi }) (figuresOf lower upper loads)
   unfolding figuresOf
-  figures-by-sums is-customers is-caidi is-saifi is-saidi = cc (lows .loss .is, lows .minutes .is, highs .loss .is, highs .minutes .is)
+  figures-by-sums is-customers is-caidi is-saifi is-saidi is-maifi =
+      cc (lows .loss .is, lows .minutes .is, lows .momentary .is, highs .loss .is, highs .minutes .is, highs .momentary .is)

@@ -2,19 +2,21 @@
 -- encloses the exact one. Every fact is multiplied out, so that nothing is divided.
 use Prim.Native.Nat.{ℕ, zero, suc, _*_, _<_, _≤_}
 use mathlib.Core.Path.{subst}
+use mathlib.Core.Bool.{Bool, true, false}
 use mathlib.Core.List.{List}
 use native.Mathlib.Nat.{pos-of-ne-zero, mul-pos, mul-le-mul-left, mul-le-mul-right}
 use native.Mathlib.Omega.{arith}
 use lib.ListN.{length, getD}
-use Rattle.lists.specs.Counting.{sum}
+use Rattle.lists.specs.Counting.{sum, counted}
 use Rattle.units.specs.One.{one}
 use Rattle.units.specs.Rounding.{quotientDown, quotientUp}
 use Rattle.units.proofs.Quotients.{quotient-below, quotient-above}
 use Rattle.study.specs.declared.Load.{Load}
 use Rattle.study.specs.Zero.{zeroLoad}
 use Rattle.answers.specs.declared.bounds.Enclosure.{Enclosure}
-use Rattle.indices.specs.Figures.{customersSum, lossSum, minutesSum, boundOf, quotients, figuresOf}
-use Rattle.indices.specs.Enclosed.{Encloses, LossesEnclosed, SaifiEncloses, SaidiEncloses, CaidiEncloses}
+use Rattle.indices.specs.Figures.{loadsSum, customersSum, lossSum, minutesSum, boundOf, quotients, figuresOf}
+use Rattle.indices.specs.Enclosed.{Encloses, LossesEnclosed, EnclosesPerCustomer, EnclosesMinutes}
+use Rattle.indices.specs.Parts.{short, sustained}
 use Rattle.indices.proofs.Stated.{stated-some, stated-bounds}
 
 -- two bounds in units enclose x / w
@@ -26,6 +28,11 @@ record Between (low high x w : ℕ) : Type 0 where
 
 times : {low high x w : ℕ} (k : ℕ) → Between low high x w → Between (low * k) (high * k) (x * k) w
 times k b = record { below = omega (arith, mul-le-mul-right k (b .below)); above = omega (arith, mul-le-mul-right k (b .above)) }
+
+-- a value that counts or not, on all three sides
+counted-between : {low high x w : ℕ} (b : Bool) → Between low high x w → Between (counted b low) (counted b high) (counted b x) w
+counted-between true between = between
+counted-between false between = record { below = omega arith; above = omega arith }
 
 sums-between : (low high x : ℕ → ℕ) (w n : ℕ) → ((j : ℕ) → j < n → Between (low j) (high j) (x j) w)
     → Between (sum low n) (sum high n) (sum x n) w
@@ -69,24 +76,32 @@ module _ {lower upper : List ℕ} {x : ℕ → ℕ} {w : ℕ} (loads : List Load
       (x j * getD loads j zeroLoad .customers) w
   loss-of j h = times (getD loads j zeroLoad .customers) (record { below = enclosed .below j h; above = enclosed .above j h })
 
-  loss-between : Between (lossSum (boundOf lower) loads) (lossSum (boundOf upper) loads) (lossSum x loads) w
-  unfolding lossSum
-  loss-between = sums-between _ _ _ w (length loads) loss-of
+  module _ (takesPart : Load → Bool) where
+    loss-between : Between (lossSum takesPart (boundOf lower) loads) (lossSum takesPart (boundOf upper) loads) (lossSum takesPart x loads) w
+    unfolding lossSum loadsSum
+    loss-between = sums-between _ _ _ w (length loads) (λ j h. counted-between (takesPart (getD loads j zeroLoad)) (loss-of j h))
 
-  minutes-between : Between (minutesSum (boundOf lower) loads) (minutesSum (boundOf upper) loads) (minutesSum x loads) w
-  unfolding minutesSum
-  minutes-between = sums-between _ _ _ w (length loads) (λ j h. times (getD loads j zeroLoad .minutes) (loss-of j h))
+    minutes-between : Between (minutesSum takesPart (boundOf lower) loads) (minutesSum takesPart (boundOf upper) loads) (minutesSum takesPart x loads) w
+    unfolding minutesSum loadsSum
+    minutes-between =
+        sums-between _ _ _ w (length loads)
+        (λ j h. counted-between (takesPart (getD loads j zeroLoad)) (times (getD loads j zeroLoad .minutes) (loss-of j h)))
 
-  pub saifi-encloses : 0 < customersSum loads → SaifiEncloses (figuresOf lower upper loads) x w loads
-  unfolding figuresOf
-  saifi-encloses some = over-exact (customersSum loads) some (enclosed .whole) loss-between
+  module _ (some : 0 < customersSum loads) where
+    pub saifi-encloses : EnclosesPerCustomer (figuresOf lower upper loads .saifi) (lossSum sustained) x w loads
+    unfolding figuresOf
+    saifi-encloses = over-exact (customersSum loads) some (enclosed .whole) (loss-between sustained)
 
-  pub saidi-encloses : 0 < customersSum loads → SaidiEncloses (figuresOf lower upper loads) x w loads
-  unfolding figuresOf
-  saidi-encloses some = over-exact (customersSum loads) some (enclosed .whole) minutes-between
+    pub saidi-encloses : EnclosesPerCustomer (figuresOf lower upper loads .saidi) (minutesSum sustained) x w loads
+    unfolding figuresOf
+    saidi-encloses = over-exact (customersSum loads) some (enclosed .whole) (minutes-between sustained)
 
-  pub caidi-encloses : CaidiEncloses (figuresOf lower upper loads) x loads
+    pub maifi-encloses : EnclosesPerCustomer (figuresOf lower upper loads .maifi) (lossSum short) x w loads
+    unfolding figuresOf
+    maifi-encloses = over-exact (customersSum loads) some (enclosed .whole) (loss-between short)
+
+  pub caidi-encloses : EnclosesMinutes (figuresOf lower upper loads .caidi) sustained x loads
   unfolding figuresOf
   caidi-encloses bounds stated =
-      subst (λ (b : Enclosure). Encloses b (minutesSum x loads) (lossSum x loads)) (stated-bounds _ _ _ _ stated)
-      (over-bounds (pos-of-ne-zero (stated-some _ _ _ _ stated)) (enclosed .whole) minutes-between loss-between)
+      subst (λ (b : Enclosure). Encloses b (minutesSum sustained x loads) (lossSum sustained x loads)) (stated-bounds _ _ _ _ stated)
+      (over-bounds (pos-of-ne-zero (stated-some _ _ _ _ stated)) (enclosed .whole) (minutes-between sustained) (loss-between sustained))

@@ -1,11 +1,11 @@
--- The figures by the published formulas. P is the probability that a load is lost, C its customers, M its minutes; sums run over all loads. A sum takes
--- P as a function of the load's number, so that the same sums serve lower bounds, upper bounds and exact probabilities.
+-- The figures by the published formulas. P is the probability that a load is lost, C its customers, M its minutes. A sum runs over the loads that take
+-- part in it, and takes P as a function of the load's number, so that the same sums serve lower bounds, upper bounds and exact probabilities.
 use Prim.Native.Nat.{ℕ, _*_}
-use mathlib.Core.Bool.{cond}
+use mathlib.Core.Bool.{Bool, cond}
 use mathlib.Core.List.{List}
 use lib.Dec.{eqb}
 use lib.ListN.{length, getD}
-use Rattle.lists.specs.Counting.{sum}
+use Rattle.lists.specs.Counting.{sum, counted}
 use Rattle.units.specs.Rounding.{quotientDown, quotientUp}
 use Rattle.study.specs.declared.Load.{Load}
 use Rattle.study.specs.Zero.{zeroLoad}
@@ -13,23 +13,43 @@ use Rattle.answers.specs.declared.bounds.Enclosure.{Enclosure}
 use Rattle.answers.specs.declared.figures.Caidi.{Caidi}
 use Rattle.answers.specs.declared.figures.Caidi.the-variants.{Bounds, NotStated}
 use Rattle.answers.specs.declared.figures.Figures.{Figures}
+use Rattle.indices.specs.Parts.{short, sustained, every}
 
 -- ---- the sums
 
--- the sum of C
-unfoldable pub customersSum : List Load → ℕ
+-- what load j adds to a sum: its value where it takes part
+abbrev pub term : (Load → Bool) → (ℕ → Load → ℕ) → List Load → ℕ → ℕ
+term takesPart value loads j = counted (takesPart (getD loads j zeroLoad)) (value j (getD loads j zeroLoad))
+
+-- the sum of a value over the loads that take part
+unfoldable pub loadsSum : (Load → Bool) → (ℕ → Load → ℕ) → List Load → ℕ
 unfolding sum
-customersSum loads = sum (λ (j : ℕ). getD loads j zeroLoad .customers) (length loads)
+loadsSum takesPart value loads = sum (term takesPart value loads) (length loads)
+
+-- C, P × C and P × C × M of load j
+abbrev pub customersOf : ℕ → Load → ℕ
+customersOf j l = l .customers
+
+abbrev pub customersLost : (ℕ → ℕ) → ℕ → Load → ℕ
+customersLost p j l = p j * l .customers
+
+abbrev pub minutesLost : (ℕ → ℕ) → ℕ → Load → ℕ
+minutesLost p j l = p j * l .customers * l .minutes
+
+-- the sum of C, over all loads
+unfoldable pub customersSum : List Load → ℕ
+unfolding loadsSum
+customersSum = loadsSum every customersOf
 
 -- the sum of P × C
-unfoldable pub lossSum : (ℕ → ℕ) → List Load → ℕ
-unfolding sum
-lossSum p loads = sum (λ (j : ℕ). p j * getD loads j zeroLoad .customers) (length loads)
+unfoldable pub lossSum : (Load → Bool) → (ℕ → ℕ) → List Load → ℕ
+unfolding loadsSum
+lossSum takesPart p = loadsSum takesPart (customersLost p)
 
 -- the sum of P × C × M
-unfoldable pub minutesSum : (ℕ → ℕ) → List Load → ℕ
-unfolding sum
-minutesSum p loads = sum (λ (j : ℕ). p j * getD loads j zeroLoad .customers * getD loads j zeroLoad .minutes) (length loads)
+unfoldable pub minutesSum : (Load → Bool) → (ℕ → ℕ) → List Load → ℕ
+unfolding loadsSum
+minutesSum takesPart p = loadsSum takesPart (minutesLost p)
 
 -- P from a list of bounds in units, one for each load
 abbrev pub boundOf : List ℕ → ℕ → ℕ
@@ -53,11 +73,13 @@ caidi lossLow lossHigh minutesLow minutesHigh = cond (eqb lossLow 0) NotStated (
 
 -- the figures from lower and upper bounds for the loss of each load
 unfoldable pub figuresOf : List ℕ → List ℕ → List Load → Figures
-unfolding customersSum lossSum minutesSum caidi
+unfolding short sustained customersSum lossSum minutesSum caidi
 figuresOf lower upper loads =
     record {
-      saifi = perCustomer lossSum lower upper loads;
-      saidi = perCustomer minutesSum lower upper loads;
+      saifi = perCustomer (lossSum sustained) lower upper loads;
+      saidi = perCustomer (minutesSum sustained) lower upper loads;
       caidi =
-          caidi (lossSum (boundOf lower) loads) (lossSum (boundOf upper) loads) (minutesSum (boundOf lower) loads) (minutesSum (boundOf upper) loads);
+          caidi (lossSum sustained (boundOf lower) loads) (lossSum sustained (boundOf upper) loads) (minutesSum sustained (boundOf lower) loads)
+          (minutesSum sustained (boundOf upper) loads);
+      maifi = perCustomer (lossSum short) lower upper loads;
     }

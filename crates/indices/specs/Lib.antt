@@ -1,4 +1,5 @@
 pub mod Enclosed
 pub mod Figures
 pub mod Losses
+pub mod Parts
 pub mod Sums

@@ -2,11 +2,13 @@
 use Prim.Native.Nat.{ℕ, _+_, _*_, _≤_}
 use mathlib.Core.Path.{_≡_}
 use mathlib.Core.List.{List}
+use Rattle.lists.specs.Counting.{counted}
 use Rattle.units.specs.One.{one}
 use Rattle.rules.specs.Limits.{mostLoads, mostCustomers, mostMinutes}
 use Rattle.study.specs.declared.Load.{Load}
 use Rattle.indices.specs.declared.sums.Sums.{Sums}
 use Rattle.indices.specs.Figures.{lossSum, minutesSum, boundOf}
+use Rattle.indices.specs.Parts.{short, sustained}
 
 -- the most that one load adds to a sum of P × C, and to one of P × C × M
 abbrev pub mostLoss : ℕ
@@ -20,15 +22,23 @@ pub record SumIs (sum most r : ℕ) : Type 0 where
   pub is : r ≡ sum
   pub fits : r ≤ mostLoads * most
 
--- the sums with one load more, whose loss is bounded so
-abbrev pub withLoad : Sums → ℕ → Load → Sums
-withLoad sums loss l = record { loss = sums .loss + loss * l .customers; minutes = sums .minutes + loss * l .customers * l .minutes }
+-- the sums with one load more, whose loss is bounded so: in each it counts where it takes part
+unfoldable pub withLoad : Sums → ℕ → Load → Sums
+unfolding short sustained
+withLoad sums loss l =
+    record {
+      loss = sums .loss + counted (sustained l) (loss * l .customers);
+      minutes = sums .minutes + counted (sustained l) (loss * l .customers * l .minutes);
+      momentary = sums .momentary + counted (short l) (loss * l .customers);
+    }
 
 pub record SumsFit (sums : Sums) : Type 0 where
   pub loss : sums .loss ≤ mostLoads * mostLoss
   pub minutes : sums .minutes ≤ mostLoads * mostLossMinutes
+  pub momentary : sums .momentary ≤ mostLoads * mostLoss
 
 -- the sums over loads, each with its bound
 pub record SumsOf (losses : List ℕ) (loads : List Load) (sums : Sums) : Type 0 where
-  pub loss : SumIs (lossSum (boundOf losses) loads) mostLoss (sums .loss)
-  pub minutes : SumIs (minutesSum (boundOf losses) loads) mostLossMinutes (sums .minutes)
+  pub loss : SumIs (lossSum sustained (boundOf losses) loads) mostLoss (sums .loss)
+  pub minutes : SumIs (minutesSum sustained (boundOf losses) loads) mostLossMinutes (sums .minutes)
+  pub momentary : SumIs (lossSum short (boundOf losses) loads) mostLoss (sums .momentary)

@@ -1,4 +1,4 @@
-// SAIFI, SAIDI and CAIDI.
+// SAIFI, SAIDI, CAIDI and MAIFI.
 use crate::sums::Sums;
 use crate::sums::customers_sum;
 use crate::sums::sums_of;
@@ -66,5 +66,6 @@ pub fn figures_of(
         saifi: quotients(low.loss, customers, high.loss, customers),
         saidi: quotients(low.minutes, customers, high.minutes, customers),
         caidi,
+        maifi: quotients(low.momentary, customers, high.momentary, customers),
     }
 }

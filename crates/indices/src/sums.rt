@@ -1,4 +1,5 @@
-// The sums over loads that the figures divide: of C, and of P × C and P × C × M for one bound P of each load's loss.
+// The sums that the figures divide: of C over all loads, and for one bound P of each load's loss, of P × C and P × C × M over those that take part.
+use crate::parts::is_short;
 use rules::LOAD_PLACES;
 use study::Load;
 ghost use Prim.Native.Nat.{_≤_};
@@ -27,10 +28,11 @@ pub fn customers_sum(load: [Load; LOAD_PLACES], n: u8) -> u64
     sum
 }
 
-// The sums over P: of P × C, and of P × C × M.
+// The sums over P: of P × C and of P × C × M over the loads that are not short, and of P × C over those that are.
 pub struct Sums {
     pub loss: u64,
     pub minutes: u64,
+    pub momentary: u64,
 }
 
 // The sums with one load more.
@@ -39,9 +41,17 @@ fn with_load(sums: Sums, loss: u64, l: Load) -> Sums
     ensures { λ r. ⌜ r ≡ withLoad sums loss l ⌝ }
 {
     let lost = loss * l.customers as u64;
+    if is_short(l) {
+        return Sums {
+            loss: sums.loss,
+            minutes: sums.minutes,
+            momentary: sums.momentary + lost,
+        };
+    }
     Sums {
         loss: sums.loss + lost,
         minutes: sums.minutes + lost * l.minutes as u64,
+        momentary: sums.momentary,
     }
 }
 
@@ -56,6 +66,7 @@ pub fn sums_of(losses: [u64; LOAD_PLACES], load: [Load; LOAD_PLACES], n: u8) -> 
     let mut sums = Sums {
         loss: 0,
         minutes: 0,
+        momentary: 0,
     };
     let mut j: usize = 0;
     while j < loads {

@@ -1,5 +1,5 @@
 -- Laws of sums over the numbers below n: each by induction over n.
-use Prim.Native.Nat.{ℕ, zero, suc, _*_, _<_, _≤_}
+use Prim.Native.Nat.{ℕ, zero, suc, _+_, _*_, _<_, _≤_}
 use mathlib.Core.Path.{_≡_, refl, sym, ap}
 use mathlib.Core.Logic.{⊎-elim}
 use native.Mathlib.Nat.{eq-or-lt-of-le, le-of-suc-le-suc, not-suc-le-zero, zero-mul}
@@ -10,6 +10,11 @@ pub sum-scaled : (f : ℕ → ℕ) (m n : ℕ) → sum (λ (k : ℕ). f k * m) n
 unfolding sum
 sum-scaled f m zero = sym (zero-mul m)
 sum-scaled f m (suc n) = omega (arith, sum-scaled f m n)
+
+pub sum-added : (f g : ℕ → ℕ) (n : ℕ) → sum (λ (k : ℕ). f k + g k) n ≡ sum f n + sum g n
+unfolding sum
+sum-added f g zero = refl
+sum-added f g (suc n) = omega (arith, sum-added f g n)
 
 pub sum-most : (f g : ℕ → ℕ) (n : ℕ) → ((k : ℕ) → k < n → f k ≤ g k) → sum f n ≤ sum g n
 unfolding sum

@@ -8,7 +8,7 @@ use study::Study;
 ghost use mathlib.Core.Path.{_≡_};
 ghost use Rattle.loss_calls.specs.Figures.{figuresGiven};
 
-// SAIFI, SAIDI and CAIDI. Refused by 16, 19, in this order.
+// SAIFI, SAIDI, CAIDI and MAIFI. Refused by 16, 19, in this order.
 pub fn figures(study: Study) -> FiguresAnswer
     ensures { λ r. ⌜ r ≡ figuresGiven study ⌝ }
 {

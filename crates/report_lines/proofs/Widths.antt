@@ -94,9 +94,11 @@ unfolding caidiLine
 caidi-short (Bounds b) h = bounds-short 20 (omega arith) (letters "CAIDI") (b .lower) (b .upper) (h .0) (h .1)
 caidi-short NotStated h = omega arith
 
-pub figures-short : (f : FigureValues) → Printable (f .saifi) → Printable (f .saidi) → CaidiPrintable (f .caidi) → length (allFigures f) ≤ 144
+pub figures-short : (f : FigureValues) → Printable (f .saifi) → Printable (f .saidi) → CaidiPrintable (f .caidi) → Printable (f .maifi)
+    → length (allFigures f) ≤ 192
 unfolding allFigures sumOver
-figures-short f saifi saidi caidi =
+figures-short f saifi saidi caidi maifi =
     let first = bounds-short 20 (omega arith) (letters "SAIFI") (f .saifi .lower) (f .saifi .upper) (saifi .0) (saifi .1) in
     let second = bounds-short 20 (omega arith) (letters "SAIDI") (f .saidi .lower) (f .saidi .upper) (saidi .0) (saidi .1) in
-    rw (joined-length _) (omega (arith, first, second, caidi-short (f .caidi) caidi))
+    let last = bounds-short 20 (omega arith) (letters "MAIFI") (f .maifi .lower) (f .maifi .upper) (maifi .0) (maifi .1) in
+    rw (joined-length _) (omega (arith, first, second, caidi-short (f .caidi) caidi, last))

@@ -20,6 +20,7 @@ allFigures f =
     (boundsLine (letters "SAIFI") (f .saifi .lower) (f .saifi .upper)
     ∷ boundsLine (letters "SAIDI") (f .saidi .lower) (f .saidi .upper)
     ∷ caidiLine (f .caidi)
+    ∷ boundsLine (letters "MAIFI") (f .maifi .lower) (f .maifi .upper)
     ∷ [])
 
 -- refusal 19 stands in the place of them all

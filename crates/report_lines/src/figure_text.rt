@@ -27,9 +27,11 @@ fn all_figures(out: &mut [u8], at: usize, f: Figures) -> usize
     let saifi = f.saifi;
     let saidi = f.saidi;
     let caidi = f.caidi;
+    let maifi = f.maifi;
     let second = bounds_line(out, at, b"SAIFI", saifi.lower, saifi.upper);
     let third = bounds_line(out, second, b"SAIDI", saidi.lower, saidi.upper);
-    caidi_line(out, third, caidi)
+    let last = caidi_line(out, third, caidi);
+    bounds_line(out, last, b"MAIFI", maifi.lower, maifi.upper)
 }
 
 // Writes the lines of the figures, or the one that stands in their place.

@@ -85,15 +85,15 @@ module _ {probabilities list : List ℕ} {n paths : ℕ} (held : Held probabilit
     losses : LossBounds (lowerLoads probabilities n (entriesOf n paths list)) (upperLoads probabilities n (entriesOf n paths list)) (length loads)
     losses = fewer-losses (sizes .few) all-losses
 
-    figures-fit : length (figureLines (figuresBy (lowerLoads probabilities n (entriesOf n paths list)) (upperLoads probabilities n (entriesOf n paths list)) loads)) ≤ 144
+    figures-fit : length (figureLines (figuresBy (lowerLoads probabilities n (entriesOf n paths list)) (upperLoads probabilities n (entriesOf n paths list)) loads)) ≤ 192
     unfolding figureLines figuresBy refuse answered
     figures-fit = go (eqb (customersSum loads) 0)
       where
-        go : (b : Bool) → length (figureLines (answered Refused (refuse 19 b) (Figures (figuresOf (lowerLoads probabilities n (entriesOf n paths list)) (upperLoads probabilities n (entriesOf n paths list)) loads)))) ≤ 144
+        go : (b : Bool) → length (figureLines (answered Refused (refuse 19 b) (Figures (figuresOf (lowerLoads probabilities n (entriesOf n paths list)) (upperLoads probabilities n (entriesOf n paths list)) loads)))) ≤ 192
         go true = omega (arith, number-short 2 (omega arith) (letters "INDICES") 19 (omega arith))
         go false = model-figures-short loads sizes _ _ losses
 
-    losses-fit : length (lossesText probabilities n (entriesOf n paths list) loads) ≤ 352
+    losses-fit : length (lossesText probabilities n (entriesOf n paths list) loads) ≤ 400
     unfolding lossesText sumOver
     losses-fit =
         let lines =

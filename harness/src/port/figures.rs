@@ -1,4 +1,4 @@
-//! SAIFI, SAIDI and CAIDI from the bounds of loads.
+//! SAIFI, SAIDI, CAIDI and MAIFI from the bounds of loads.
 use super::study::*;
 
 pub struct Enclosure {
@@ -10,6 +10,7 @@ pub struct Figures {
     pub saifi: Enclosure,
     pub saidi: Enclosure,
     pub caidi: Option<Enclosure>,
+    pub maifi: Enclosure,
 }
 
 fn enclosure(low: u64, under: u64, high: u64, over: u64) -> Enclosure {
@@ -19,15 +20,28 @@ fn enclosure(low: u64, under: u64, high: u64, over: u64) -> Enclosure {
     }
 }
 
-fn loss_sum(losses: &[u64], loads: &[Load]) -> u64 {
-    let each = losses.iter().zip(loads);
-    each.map(|(p, load)| p * u64::from(load.customers)).sum()
+/// The sums over one bound of each loss: of the loads that are longer away, and of the short ones.
+#[derive(Default)]
+struct Sums {
+    sustained: u64,
+    minutes: u64,
+    momentary: u64,
 }
 
-fn minutes_sum(losses: &[u64], loads: &[Load]) -> u64 {
-    let each = losses.iter().zip(loads);
-    each.map(|(p, load)| p * u64::from(load.customers) * u64::from(load.minutes))
-        .sum()
+impl Sums {
+    fn of(losses: &[u64], loads: &[Load]) -> Sums {
+        let mut sums = Sums::default();
+        for (loss, load) in losses.iter().zip(loads) {
+            let lost = loss * u64::from(load.customers);
+            if load.minutes <= LONGEST_MOMENTARY {
+                sums.momentary += lost;
+            } else {
+                sums.sustained += lost;
+                sums.minutes += lost * u64::from(load.minutes);
+            }
+        }
+        sums
+    }
 }
 
 /// None where there are no customers to divide by.
@@ -36,11 +50,12 @@ pub fn figures_of(lower: &[u64], upper: &[u64], loads: &[Load]) -> Option<Figure
     if customers == 0 {
         return None;
     }
-    let (low, high) = (loss_sum(lower, loads), loss_sum(upper, loads));
-    let (low_minutes, high_minutes) = (minutes_sum(lower, loads), minutes_sum(upper, loads));
+    let (low, high) = (Sums::of(lower, loads), Sums::of(upper, loads));
+    let caidi = || enclosure(low.minutes, high.sustained, high.minutes, low.sustained);
     Some(Figures {
-        saifi: enclosure(low, customers, high, customers),
-        saidi: enclosure(low_minutes, customers, high_minutes, customers),
-        caidi: (low != 0).then(|| enclosure(low_minutes, high, high_minutes, low)),
+        saifi: enclosure(low.sustained, customers, high.sustained, customers),
+        saidi: enclosure(low.minutes, customers, high.minutes, customers),
+        caidi: (low.sustained != 0).then(caidi),
+        maifi: enclosure(low.momentary, customers, high.momentary, customers),
     })
 }

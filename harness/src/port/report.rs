@@ -130,6 +130,7 @@ fn write_loads(text: &mut Text, probabilities: &Probabilities, list: &List, load
                 Some(caidi) => write_figure(text, b"CAIDI", &caidi),
                 None => text.push(b"CAIDI none\n"),
             }
+            write_figure(text, b"MAIFI", &figures.maifi);
         }
     }
 }

@@ -9,6 +9,9 @@ pub const MOST_JOINT_STATES: usize = 4096;
 pub const MOST_CUSTOMERS: u32 = 100_000;
 pub const MOST_MINUTES: u32 = 20_000;
 
+/// The longest restore time of a momentary loss, in minutes.
+pub const LONGEST_MOMENTARY: u32 = 5;
+
 /// Certainty, in units.
 pub const ONE: u64 = 1_000_000_000;
 

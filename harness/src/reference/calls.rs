@@ -1,6 +1,6 @@
 //! The library's calls over lent bytes, in the same form: a count or a refusal, and nothing lent touched where refused.
 use super::bounds::{bounded_paths, class_bounds as by_class, load_bounds as of_load, Bounds};
-use super::figures::figures as figures_of;
+use super::figures::{figures as figures_of, Figures};
 use super::image::{read, write, IMAGE_BYTES};
 use super::losses::Losses;
 use super::opening;
@@ -101,12 +101,20 @@ pub fn load_bounds(image: &[u8], load: usize, lower: &mut u64, upper: &mut u64) 
 
 pub fn figures(image: &[u8], places: &mut [u64]) -> Answer {
     let study = sound(image)?;
-    unless(places.len() >= 6, NO_ROOM)?;
-    let three = figures_of(&study, &bounded_paths(&study))?;
-    let stated = [Some(three.saifi), Some(three.saidi), three.caidi];
-    for (bounds, pair) in stated.iter().flatten().zip(places.chunks_mut(2)) {
-        pair[0] = bounds.lower;
-        pair[1] = bounds.upper;
+    unless(places.len() >= 8, NO_ROOM)?;
+    let Figures {
+        saifi,
+        saidi,
+        caidi,
+        maifi,
+    } = figures_of(&study, &bounded_paths(&study))?;
+    let stated = [Some(saifi), Some(saidi), caidi, Some(maifi)];
+    // Each figure has two places of its own, whether or not the others are stated.
+    for (figure, pair) in stated.iter().zip(places.chunks_mut(2)) {
+        if let Some(bounds) = figure {
+            pair[0] = bounds.lower;
+            pair[1] = bounds.upper;
+        }
     }
     Ok(stated.iter().flatten().count())
 }

@@ -28,14 +28,14 @@ impl fmt::Display for Path {
 fn figure_lines(study: &Study, list: &[(Path, Bounds)]) -> String {
     match figures(study, list) {
         Err(number) => format!("INDICES {number}\n"),
-        Ok(three) => {
-            let caidi = match three.caidi {
+        Ok(figures) => {
+            let caidi = match figures.caidi {
                 Some(bounds) => bounds.to_string(),
                 None => "none".to_string(),
             };
             format!(
-                "SAIFI {}\nSAIDI {}\nCAIDI {caidi}\n",
-                three.saifi, three.saidi
+                "SAIFI {}\nSAIDI {}\nCAIDI {caidi}\nMAIFI {}\n",
+                figures.saifi, figures.saidi, figures.maifi
             )
         }
     }

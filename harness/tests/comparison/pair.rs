@@ -246,7 +246,7 @@ impl<'a> Pair<'a> {
 
     pub fn figures(&mut self, random: &mut Random, image: &[u8]) {
         let image = shown(random, image);
-        for room in [room(random, 6), 6] {
+        for room in [room(random, 8), 8] {
             self.compare(
                 &format!("figures into {room} places"),
                 (image.clone(), Lent::words(random, room)),

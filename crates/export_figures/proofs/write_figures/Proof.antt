@@ -1,32 +1,43 @@
--- `export_figures::write_figures` meets its contract: three pieces, one behind the other, the last of which may be empty.
-use Prim.Native.Nat.{_+_, _≤_}
-use mathlib.Core.Path.{refl, _∙_}
-use mathlib.Core.List.{_++_}
+-- `export_figures::write_figures` meets its contract: each figure is written at its own place, as the definition says.
+use Prim.Native.Nat.{_+_}
+use mathlib.Core.Path.{_≡_, ap, _∙_}
 use native.Mathlib.Omega.{arith}
-use lib.ListN.{length}
-use Rattle.lists.proofs.Puts.{due-start, due-more}
-use Rattle.answers.specs.Told.{pairValues, caidiValues, figureValues}
-use Rattle.export_figures.proofs.Figured.{caidi-short}
+use lib.ListN.{length, length-append}
+use Rattle.lists.specs.Rows.{put}
+use Rattle.answers.specs.Told.{pairValues, caidiValues}
+use Rattle.export_figures.specs.Figures.{saidiAt, caidiAt, maifiAt}
 use borrow.Author.Needs.{needs}
 use Rattle.export_figures.proofs.write_figures.Statement.{statement}
 use Rattle.export_figures.proofs.write_figures.Tie as tie
 
+-- ---- the steps behind which each figure is written
+
+abbrev start : tie.After-write-pair → tie.Start
+start c = c .before .before .before
+
+abbrev saifi : tie.After-write-pair2 → tie.After-write-pair
+saifi c = c .before .before .before .before
+
+abbrev saidi : tie.After-write-caidi → tie.After-write-pair2
+saidi c = c .before .before .before .before
+
+abbrev caidi : tie.After-write-pair3 → tie.After-write-caidi
+caidi c = c .before .before .before .before
+
 returns : tie.Need-returns
 returns c =
     let last = c .before .before in
-    let second = last .before .before .before .before in
-    let first = second .before .before .before .before in
-    let start = first .before .before .before in
-    let figures = start .args .figures in
-    let room : 0 + length (figureValues figures) ≤ length (start .args .places .now) = omega (arith, caidi-short (figures .caidi), start .pre) in
-    let saifi =
-    due-more (pairValues (figures .saifi)) (pairValues (figures .saidi) ++ caidiValues (figures .caidi)) (due-start {x = figureValues figures} room)
-    (first .write-pair .ensures) refl in
-    let saidi = due-more (pairValues (figures .saidi)) (caidiValues (figures .caidi)) saifi (second .write-pair2 .ensures) refl in
-    let caidi = last .write-caidi .ensures in
-    (omega (arith, caidi .0), caidi .1 ∙ saidi .same)
+    let third = caidi last in
+    let second = saidi third in
+    let first = saifi second in
+    let figures = start first .args .figures in
+    let stated = length-append (caidiValues (figures .caidi)) (pairValues (figures .maifi)) in
+    let written1 = first .write-pair .ensures in
+    let written2 = second .write-pair2 .ensures ∙ ap (λ d. put d saidiAt (pairValues (figures .saidi))) written1 in
+    let written3 = third .write-caidi .ensures .1 ∙ ap (λ d. put d caidiAt (caidiValues (figures .caidi))) written2 in
+    (omega (arith, third .write-caidi .ensures .0, stated), last .write-pair3 .ensures ∙ ap (λ d. put d maifiAt (pairValues (figures .maifi))) written3)
 
 pub write-figures-spec : {M : Type 1} → statement M
 write-figures-spec =
     tie.close
-    (tie.spec (λ c κs. search needs) (λ c κs. search needs) (λ c κs. search needs) (λ c. search needs) returns)
+    (tie.spec (λ c κs. search needs) (λ c κs. search needs) (λ c κs. search needs) (λ c κs. search needs) (λ c. search needs) returns)

@@ -1,6 +1,7 @@
 -- `indices::figures::figures_of` meets its contract: the sums and the quotients are the callees'.
 use Prim.Native.Nat.{_≤_}
 use native.Mathlib.Omega.{arith}
+use Rattle.indices.specs.Parts.{sustained}
 use Rattle.indices.proofs.BySums.{sums-fit, figures-by-sums}
 use Rattle.indices.proofs.Ordering.{lower-most, loss-ordered}
 use borrow.Author.Needs.{needs}
@@ -17,15 +18,15 @@ caidi-of-requires c κs =
     let low = c .before .sums-of .ensures in
     let high = c .sums-of2 .ensures in
     let start = c .before .before .before in
-    let ordered = loss-ordered (start .pre .1 .1 .0) (start .args .load) in
+    let ordered = loss-ordered (start .pre .1 .1 .0) sustained (start .args .load) in
     (omega (arith, low .loss .is, high .loss .is, ordered), (sums-fit low, sums-fit high))
 
 returns : tie.Need-returns
 returns c =
-    let customers = c .before .before in
-    let sums = customers .before in
+    let stated = c .before .before .before in
+    let sums = stated .before in
     figures-by-sums (sums .before .sums-of .ensures) (sums .sums-of2 .ensures) (sums .before .before .customers-sum .ensures .is)
-    (customers .caidi-of .ensures) (c .before .quotients .ensures) (c .quotients2 .ensures)
+    (stated .caidi-of .ensures) (c .before .before .quotients .ensures) (c .before .quotients2 .ensures) (c .quotients3 .ensures)
 
 pub figures-of-spec : {M : Type 1} → statement M
 figures-of-spec =
@@ -35,6 +36,7 @@ figures-of-spec =
     sums-of-requires
     (λ c κs. search needs)
     caidi-of-requires
+    (λ c κs. search needs)
     (λ c κs. search needs)
     (λ c κs. search needs)
     returns)

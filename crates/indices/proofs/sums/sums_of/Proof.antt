@@ -1,36 +1,54 @@
 -- `indices::sums::sums_of` meets its contract. The sums of the loads below j are added (`Carried`); the loads left fall.
 use borrow.Author.Needs.{needs}
-use Prim.Native.Nat.{_-_}
-use mathlib.Core.Path.{_≡_}
+use Prim.Native.Nat.{ℕ, _-_, _<_, _≤_}
+use mathlib.Core.Path.{_≡_, sym}
 use native.Mathlib.Omega.{arith}
-use lib.ListN.{length}
+use lib.ListN.{length, getD, take}
 use Rattle.rules.specs.Limits.{mostLoads}
+use Rattle.study.specs.Zero.{zeroLoad}
+use Rattle.indices.specs.Losses.{AtMostOne}
 use Rattle.indices.proofs.Carried.{Carried, carried-start, carried-fits, carried-more, carried-done}
+use Rattle.indices.proofs.Front.{front-long, front-at}
 use Rattle.indices.proofs.sums.sums_of.Statement.{statement}
 use Rattle.indices.proofs.sums.sums_of.Tie as tie
 
 abbrev Inv-loop : tie.InvT-loop
-Inv-loop n losses load loads sums₀ j₀ sums j = Carried losses load loads j sums
+Inv-loop n losses load loads sums₀ j₀ sums j = Carried losses (take loads load) j sums
 
 abbrev μ-loop : tie.MeasureT-loop
 μ-loop n losses load loads sums₀ j₀ sums j = loads - j
 
-loop-holds : tie.Need-loop-holds Inv-loop μ-loop
-loop-holds c =
+-- as many loads are in use as are asked for
+long : (c : tie.Start Inv-loop μ-loop) → length (take (c .args .n) (c .args .t2)) ≡ c .args .n
+long c =
     let places : length (c .args .t2) ≡ mostLoads = search needs in
-    carried-start places (c .pre .0) (c .pre .1 .0) (c .pre .1 .1)
+    front-long _ _ places (c .pre .0)
+
+-- the load that a turn reads is one of those
+inside : (c : tie.In-loop Inv-loop μ-loop) → c .before .loop .j < length (take (c .before .before .args .n) (c .before .before .args .t2))
+inside c = rw (long (c .before .before)) (c .loop-test .taken)
+
+read : (c : tie.In-loop Inv-loop μ-loop)
+    → getD (take (c .before .before .args .n) (c .before .before .args .t2)) (c .before .loop .j) zeroLoad
+    ≡ getD (c .before .before .args .t2) (c .before .loop .j) zeroLoad
+read c = front-at (c .before .before .args .t2) _ _ (c .loop-test .taken)
+
+loop-holds : tie.Need-loop-holds Inv-loop μ-loop
+loop-holds c = carried-start (c .pre .1 .0) (rw (long c) (c .pre .1 .1))
 
 mul-l : tie.Need-mul-l Inv-loop μ-loop
 mul-l c = omega arith
 
 array-copy-out-l : tie.Need-array-copy-out-l Inv-loop μ-loop
-array-copy-out-l c = omega (arith, c .before .loop .inv .loss .few)
+array-copy-out-l c = omega (arith, c .before .before .pre .0)
 
 array-read-with-load : tie.Need-array-read-with-load Inv-loop μ-loop
-array-read-with-load c = omega (arith, c .before .loop-test .taken, c .before .before .loop .inv .loss .few)
+array-read-with-load c = omega (arith, c .before .loop-test .taken, c .before .before .before .pre .0)
 
 with-load-requires : tie.Need-with-load-requires Inv-loop μ-loop
-with-load-requires c κs = carried-fits (c .before .before .loop .inv) (c .before .loop-test .taken)
+with-load-requires c κs =
+    let turn = c .before in
+    rw (sym (read turn)) (carried-fits (turn .before .loop .inv) (inside turn))
 
 add-j : tie.Need-add-j Inv-loop μ-loop
 add-j c = omega arith
@@ -39,12 +57,12 @@ loop-less : tie.Need-loop-less Inv-loop μ-loop
 loop-less c = omega (arith, c .before .before .loop-test .taken)
 
 loop-again : tie.Need-loop-again Inv-loop μ-loop
-loop-again c = rw (c .with-load .ensures) (carried-more (c .before .before .before .loop .inv) (c .before .before .loop-test .taken))
+loop-again c =
+    let turn = c .before .before in
+    rw (c .with-load .ensures, sym (read turn)) (carried-more (turn .before .loop .inv) (inside turn))
 
 returns : tie.Need-returns Inv-loop μ-loop
-returns c =
-    let places : length (c .before .before .args .t2) ≡ mostLoads = search needs in
-    carried-done (c .before .loop .inv) places (c .loop-test .left)
+returns c = carried-done (c .before .loop .inv) (rw (long (c .before .before)) (c .loop-test .left))
 
 pub sums-of-spec : {M : Type 1} → statement M
 sums-of-spec =
