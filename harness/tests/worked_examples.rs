@@ -202,3 +202,29 @@ fn largest_sums() {
     assert_eq!(lines(&study, "SAIDI "), ["20000000000000 20000000000000"]);
     assert_eq!(lines(&study, "CAIDI "), ["20000 20000"]);
 }
+
+#[test]
+fn five_minutes_are_short_and_six_are_not() {
+    let front = "02 01 02  02 00E1F505  02 00C2EB0B  02 02 0002 0102";
+    // 10 customers within 5 minutes beside 30 within 6, all lost at 0.28; all 40 are served.
+    let study = format!("{front}  07 00 0A000000 05000000  07 00 1E000000 06000000");
+    assert_eq!(lines(&study, "SAIFI "), ["210000000 210000000"]);
+    assert_eq!(lines(&study, "SAIDI "), ["1260000000 1260000000"]);
+    assert_eq!(lines(&study, "CAIDI "), ["6 6"]);
+    assert_eq!(lines(&study, "MAIFI "), ["70000000 70000000"]);
+    // A load that states no restore time is short; a load without customers changes nothing.
+    let study = format!("{front}  03 00 0A000000  05 00 3C000000");
+    let tail = "SAIFI 0 0\nSAIDI 0 0\nCAIDI none\nMAIFI 280000000 280000000\n";
+    assert!(report_of(&study).ends_with(tail));
+}
+
+#[test]
+fn places_of_caidi_keep_what_they_held() {
+    let short = "02 01 01  02 00E1F505  02 00C2EB0B  02 02 0002 0102  07 00 64000000 05000000";
+    let image = image_of(short);
+    for call in [library::figures, reference::figures] {
+        let mut places = [7; 9];
+        assert_eq!(call(&image, &mut places), Ok(3));
+        assert_eq!(places, [0, 0, 0, 0, 7, 7, 280_000_000, 280_000_000, 7]);
+    }
+}

@@ -154,6 +154,14 @@ fn size(random: &mut Random, most: usize) -> u32 {
     drawn as u32
 }
 
+/// A restore time: often one at which a loss is just short, or just too long for that.
+fn minutes(random: &mut Random) -> u32 {
+    match random.below(5) {
+        0 => random.pick(&[5, 6]),
+        _ => size(random, 20_000),
+    }
+}
+
 fn load(random: &mut Random, draft: &mut Draft, gates: usize, customers: u32, minutes: u32) {
     // Higher gates have more below them.
     let gate = random.below(gates).max(random.below(gates));
@@ -190,11 +198,11 @@ pub fn with_states(random: &mut Random, shape: &Shape, counts: &[u8]) -> Draft {
     let people = random.below(40);
     for j in 0..loads {
         let (customers, minutes) = match people {
-            0..=4 => (0, size(random, 20_000)),
+            0..=4 => (0, minutes(random)),
             5 | 6 => (100_000, 20_000),
             // One customer in all, so that the smallest loss counts.
-            7 | 8 => (u32::from(j == 0), size(random, 20_000)),
-            _ => (size(random, 100_000), size(random, 20_000)),
+            7 | 8 => (u32::from(j == 0), minutes(random)),
+            _ => (size(random, 100_000), minutes(random)),
         };
         load(random, &mut draft, gates, customers, minutes);
     }

@@ -41,7 +41,7 @@ impl Sums {
 }
 
 /// A load that is back within five minutes, or that states no time.
-pub fn is_short(load: &Load) -> bool {
+fn is_short(load: &Load) -> bool {
     load.minutes <= LONGEST_MOMENTARY
 }
 

@@ -15,8 +15,8 @@ const FIRST_SEED: u64 = 0;
 /// More room than the longest word needs.
 const MOST_ROOM: usize = 16;
 
-/// Each refusal must be met this often, or the inputs say too little about it.
-const EACH_REFUSAL: usize = 50;
+/// Each refusal and each kind of figures must be met this often, or the inputs say too little about it.
+const OFTEN: usize = 300;
 
 /// Items that studies have, and others that they lack.
 fn item(random: &mut Random, image: &[u8], count_at: usize) -> usize {
@@ -38,7 +38,7 @@ fn probability(random: &mut Random) -> u32 {
 
 fn size(random: &mut Random, most: u32) -> u32 {
     match random.below(4) {
-        0 => random.pick(&[0, 1, most, most + 1, u32::MAX]),
+        0 => random.pick(&[0, 1, 5, 6, most, most + 1, u32::MAX]),
         1 => random.word(),
         _ => random.below(most as usize + 1) as u32,
     }
@@ -116,8 +116,10 @@ fn assert_enough(tally: &Tally) {
     assert!(tally.sound * 3 >= tally.inputs, "too few sound studies");
     for number in 1..=19 {
         let met = tally.refused[number];
-        assert!(met >= EACH_REFUSAL, "refusal {number} was met {met} times");
+        assert!(met >= OFTEN, "refusal {number} was met {met} times");
     }
+    assert!(tally.unstated >= OFTEN, "too few without CAIDI");
+    assert!(tally.mixed >= OFTEN, "too few with short and other loads");
 }
 
 fn main() {

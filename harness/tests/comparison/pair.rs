@@ -247,12 +247,15 @@ impl<'a> Pair<'a> {
     pub fn figures(&mut self, random: &mut Random, image: &[u8]) {
         let image = shown(random, image);
         for room in [room(random, 8), 8] {
-            self.compare(
+            let both = self.compare(
                 &format!("figures into {room} places"),
                 (image.clone(), Lent::words(random, room)),
                 |(image, lent)| library::figures(image.held(), lent.room()),
                 |(image, lent)| reference::figures(image.held(), lent.room()),
             );
+            if let Ok(stated) = both.answer {
+                self.tally.count_figures(stated, both.lent.1.held());
+            }
         }
     }
 

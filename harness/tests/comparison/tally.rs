@@ -8,6 +8,10 @@ pub struct Tally {
     pub calls: usize,
     /// How often each refusal was answered, by its number.
     pub refused: [usize; 20],
+    /// Figures without CAIDI.
+    pub unstated: usize,
+    /// Figures with losses of short loads beside those of others.
+    pub mixed: usize,
 }
 
 impl Tally {
@@ -17,17 +21,26 @@ impl Tally {
             self.refused[usize::from(number)] += 1;
         }
     }
+
+    /// Takes note of what kind of figures were answered, as many as are stated, in their places.
+    pub fn count_figures(&mut self, stated: usize, places: &[u64]) {
+        let (saifi_upper, maifi_upper) = (places[1], places[7]);
+        self.unstated += usize::from(stated == 3);
+        self.mixed += usize::from(saifi_upper > 0 && maifi_upper > 0);
+    }
 }
 
 impl fmt::Display for Tally {
     fn fmt(&self, line: &mut fmt::Formatter) -> fmt::Result {
         write!(
             line,
-            "{} inputs ({} sound), {} calls alike; refused by number 1 to 19: {:?}",
+            "{} inputs ({} sound), {} calls alike; refused by number 1 to 19: {:?}; figures without CAIDI: {}, of short and other loads: {}",
             self.inputs,
             self.sound,
             self.calls,
-            &self.refused[1..]
+            &self.refused[1..],
+            self.unstated,
+            self.mixed
         )
     }
 }
