@@ -9,9 +9,14 @@ use Rattle.rules.specs.Limits.{mostLoads}
 use Rattle.study.specs.declared.Load.{Load}
 use Rattle.study.specs.Zero.{zeroLoad}
 
+-- place j holds one of the n loads in use
+pub record InUse (load : List Load) (n j : ℕ) : Type 0 where
+  pub inside : j < length (take n load)
+  pub read : getD (take n load) j zeroLoad ≡ getD load j zeroLoad
+
 module _ (load : List Load) (n : ℕ) where
   pub front-long : length load ≡ mostLoads → n ≤ mostLoads → length (take n load) ≡ n
   front-long places few = length-take-le n load (omega (arith, places))
 
-  pub front-at : (j : ℕ) → j < n → getD (take n load) j zeroLoad ≡ getD load j zeroLoad
-  front-at j h = getD-take n load j zeroLoad h
+  pub in-use : length (take n load) ≡ n → (j : ℕ) → j < n → InUse load n j
+  in-use long j h = record { inside = omega (arith, long); read = getD-take n load j zeroLoad h }

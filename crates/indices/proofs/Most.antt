@@ -11,7 +11,7 @@ use Rattle.rules.specs.Limits.{mostCustomers}
 use Rattle.study.specs.declared.Load.{Load}
 use Rattle.study.specs.Zero.{zeroLoad}
 use Rattle.model.specs.Good.{Sizes}
-use Rattle.indices.specs.Figures.{term, loadsSum, customersOf, customersLost, minutesLost, customersSum, lossSum, minutesSum, boundOf}
+use Rattle.indices.specs.Figures.{term, loadsSum, customersServed, customersLost, minutesLost, customersSum, lossSum, minutesSum, boundOf}
 use Rattle.indices.specs.Losses.{AtMostOne}
 use Rattle.indices.specs.Parts.{every}
 use Rattle.indices.specs.Sums.{mostLoss, mostLossMinutes}
@@ -36,8 +36,8 @@ module _ (takesPart : Load → Bool) (loads : List Load) where
   few value most limit = sum-limit (term takesPart value loads) most (length loads) limit
 
   module _ (sizes : Sizes loads) where
-    pub customers-limited : Limited takesPart customersOf mostCustomers loads
-    customers-limited = limited customersOf mostCustomers (sizes .customers)
+    pub customers-limited : Limited takesPart customersServed mostCustomers loads
+    customers-limited = limited customersServed mostCustomers (sizes .customers)
 
     module _ {losses : List ℕ} (most : AtMostOne losses (length loads)) where
       pub loss-limited : Limited takesPart (customersLost (boundOf losses)) mostLoss loads
@@ -58,4 +58,4 @@ module _ (takesPart : Load → Bool) (loads : List Load) where
 
 pub customers-few : (loads : List Load) → Sizes loads → customersSum loads ≤ length loads * mostCustomers
 unfolding customersSum
-customers-few loads sizes = few every loads customersOf mostCustomers (customers-limited every loads sizes)
+customers-few loads sizes = few every loads customersServed mostCustomers (customers-limited every loads sizes)

@@ -27,8 +27,8 @@ unfolding sum
 loadsSum takesPart value loads = sum (term takesPart value loads) (length loads)
 
 -- C, P × C and P × C × M of load j
-abbrev pub customersOf : ℕ → Load → ℕ
-customersOf j l = l .customers
+abbrev pub customersServed : ℕ → Load → ℕ
+customersServed j l = l .customers
 
 abbrev pub customersLost : (ℕ → ℕ) → ℕ → Load → ℕ
 customersLost p j l = p j * l .customers
@@ -39,7 +39,7 @@ minutesLost p j l = p j * l .customers * l .minutes
 -- the sum of C, over all loads
 unfoldable pub customersSum : List Load → ℕ
 unfolding loadsSum
-customersSum = loadsSum every customersOf
+customersSum = loadsSum every customersServed
 
 -- the sum of P × C
 unfoldable pub lossSum : (Load → Bool) → (ℕ → ℕ) → List Load → ℕ

@@ -1,8 +1,7 @@
 -- `export_figures::write_figures` meets its contract: each figure is written at its own place, as the definition says.
-use Prim.Native.Nat.{_+_}
-use mathlib.Core.Path.{_≡_, ap, _∙_}
+use mathlib.Core.Path.{ap, _∙_}
 use native.Mathlib.Omega.{arith}
-use lib.ListN.{length, length-append}
+use lib.ListN.{length-append}
 use Rattle.lists.specs.Rows.{put}
 use Rattle.answers.specs.Told.{pairValues, caidiValues}
 use Rattle.export_figures.specs.Figures.{saidiAt, caidiAt, maifiAt}

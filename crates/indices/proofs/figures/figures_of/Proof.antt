@@ -1,5 +1,4 @@
 -- `indices::figures::figures_of` meets its contract: the sums and the quotients are the callees'.
-use Prim.Native.Nat.{_≤_}
 use native.Mathlib.Omega.{arith}
 use Rattle.indices.specs.Parts.{sustained}
 use Rattle.indices.proofs.BySums.{sums-fit, figures-by-sums}

@@ -1,21 +1,20 @@
 -- `indices::sums::customers_sum` meets its contract. The customers of the loads below j are added (`Summed`); the loads left fall.
 use borrow.Author.Needs.{needs}
-use Prim.Native.Nat.{ℕ, _-_, _<_, _≤_}
+use Prim.Native.Nat.{_-_}
 use mathlib.Core.Path.{_≡_, sym}
 use native.Mathlib.Omega.{arith}
-use lib.ListN.{length, getD, take}
+use lib.ListN.{length, take}
 use Rattle.rules.specs.Limits.{mostLoads, mostCustomers}
-use Rattle.study.specs.Zero.{zeroLoad}
-use Rattle.indices.specs.Figures.{customersOf, customersSum}
+use Rattle.indices.specs.Figures.{customersServed, customersSum}
 use Rattle.indices.specs.Parts.{every}
-use Rattle.indices.proofs.Front.{front-long, front-at}
+use Rattle.indices.proofs.Front.{InUse, front-long, in-use}
 use Rattle.indices.proofs.Most.{customers-limited}
 use Rattle.indices.proofs.Summed.{Summed, summed-start, summed-more, summed-fits, summed-done}
 use Rattle.indices.proofs.sums.customers_sum.Statement.{statement}
 use Rattle.indices.proofs.sums.customers_sum.Tie as tie
 
 abbrev Inv-loop : tie.InvT-loop
-Inv-loop n load loads sum₀ j₀ sum j = Summed every customersOf mostCustomers (take loads load) j sum
+Inv-loop n load loads sum₀ j₀ sum j = Summed every customersServed mostCustomers (take loads load) j sum
 
 abbrev μ-loop : tie.MeasureT-loop
 μ-loop n load loads sum₀ j₀ sum j = loads - j
@@ -26,14 +25,9 @@ long c =
     let places : length (c .args .t1) ≡ mostLoads = search needs in
     front-long _ _ places (c .pre .0)
 
--- the load that a turn reads is one of those
-inside : (c : tie.In-loop Inv-loop μ-loop) → c .before .loop .j < length (take (c .before .before .args .n) (c .before .before .args .t1))
-inside c = rw (long (c .before .before)) (c .loop-test .taken)
-
-read : (c : tie.In-loop Inv-loop μ-loop)
-    → getD (take (c .before .before .args .n) (c .before .before .args .t1)) (c .before .loop .j) zeroLoad
-    ≡ getD (c .before .before .args .t1) (c .before .loop .j) zeroLoad
-read c = front-at (c .before .before .args .t1) _ _ (c .loop-test .taken)
+-- a turn reads one of them
+in-turn : (c : tie.In-loop Inv-loop μ-loop) → InUse (c .before .before .args .t1) (c .before .before .args .n) (c .before .loop .j)
+in-turn c = in-use _ _ (long (c .before .before)) _ (c .loop-test .taken)
 
 loop-holds : tie.Need-loop-holds Inv-loop μ-loop
 loop-holds c = summed-start (c .pre .1 .few) (customers-limited every _ (c .pre .1))
@@ -47,7 +41,7 @@ array-copy-out-l c = omega (arith, c .before .before .pre .0)
 add-sum : tie.Need-add-sum Inv-loop μ-loop
 add-sum c =
     let turn = c .before .before in
-    let fits = rw (read turn) at (summed-fits (turn .before .loop .inv) (inside turn)) in
+    let fits = rw (in-turn turn .read) at (summed-fits (turn .before .loop .inv) (in-turn turn .inside)) in
     record { fits = omega (arith, fits) }
 
 add-j : tie.Need-add-j Inv-loop μ-loop
@@ -59,7 +53,7 @@ loop-less c = omega (arith, c .before .before .loop-test .taken)
 loop-again : tie.Need-loop-again Inv-loop μ-loop
 loop-again c =
     let turn = c .before .before in
-    rw (sym (read turn)) (summed-more (turn .before .loop .inv) (inside turn))
+    rw (sym (in-turn turn .read)) (summed-more (turn .before .loop .inv) (in-turn turn .inside))
 
 returns : tie.Need-returns Inv-loop μ-loop
 unfolding customersSum

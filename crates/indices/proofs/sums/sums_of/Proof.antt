@@ -1,14 +1,12 @@
 -- `indices::sums::sums_of` meets its contract. The sums of the loads below j are added (`Carried`); the loads left fall.
 use borrow.Author.Needs.{needs}
-use Prim.Native.Nat.{ℕ, _-_, _<_, _≤_}
+use Prim.Native.Nat.{_-_}
 use mathlib.Core.Path.{_≡_, sym}
 use native.Mathlib.Omega.{arith}
-use lib.ListN.{length, getD, take}
+use lib.ListN.{length, take}
 use Rattle.rules.specs.Limits.{mostLoads}
-use Rattle.study.specs.Zero.{zeroLoad}
-use Rattle.indices.specs.Losses.{AtMostOne}
 use Rattle.indices.proofs.Carried.{Carried, carried-start, carried-fits, carried-more, carried-done}
-use Rattle.indices.proofs.Front.{front-long, front-at}
+use Rattle.indices.proofs.Front.{InUse, front-long, in-use}
 use Rattle.indices.proofs.sums.sums_of.Statement.{statement}
 use Rattle.indices.proofs.sums.sums_of.Tie as tie
 
@@ -24,14 +22,9 @@ long c =
     let places : length (c .args .t2) ≡ mostLoads = search needs in
     front-long _ _ places (c .pre .0)
 
--- the load that a turn reads is one of those
-inside : (c : tie.In-loop Inv-loop μ-loop) → c .before .loop .j < length (take (c .before .before .args .n) (c .before .before .args .t2))
-inside c = rw (long (c .before .before)) (c .loop-test .taken)
-
-read : (c : tie.In-loop Inv-loop μ-loop)
-    → getD (take (c .before .before .args .n) (c .before .before .args .t2)) (c .before .loop .j) zeroLoad
-    ≡ getD (c .before .before .args .t2) (c .before .loop .j) zeroLoad
-read c = front-at (c .before .before .args .t2) _ _ (c .loop-test .taken)
+-- a turn reads one of them
+in-turn : (c : tie.In-loop Inv-loop μ-loop) → InUse (c .before .before .args .t2) (c .before .before .args .n) (c .before .loop .j)
+in-turn c = in-use _ _ (long (c .before .before)) _ (c .loop-test .taken)
 
 loop-holds : tie.Need-loop-holds Inv-loop μ-loop
 loop-holds c = carried-start (c .pre .1 .0) (rw (long c) (c .pre .1 .1))
@@ -48,7 +41,7 @@ array-read-with-load c = omega (arith, c .before .loop-test .taken, c .before .b
 with-load-requires : tie.Need-with-load-requires Inv-loop μ-loop
 with-load-requires c κs =
     let turn = c .before in
-    rw (sym (read turn)) (carried-fits (turn .before .loop .inv) (inside turn))
+    rw (sym (in-turn turn .read)) (carried-fits (turn .before .loop .inv) (in-turn turn .inside))
 
 add-j : tie.Need-add-j Inv-loop μ-loop
 add-j c = omega arith
@@ -59,7 +52,7 @@ loop-less c = omega (arith, c .before .before .loop-test .taken)
 loop-again : tie.Need-loop-again Inv-loop μ-loop
 loop-again c =
     let turn = c .before .before in
-    rw (c .with-load .ensures, sym (read turn)) (carried-more (turn .before .loop .inv) (inside turn))
+    rw (c .with-load .ensures, sym (in-turn turn .read)) (carried-more (turn .before .loop .inv) (in-turn turn .inside))
 
 returns : tie.Need-returns Inv-loop μ-loop
 returns c = carried-done (c .before .loop .inv) (rw (long (c .before .before)) (c .loop-test .left))

@@ -1,5 +1,4 @@
 -- `indices::sums::with_load` meets its contract, for a short load and for any other: each sum that is made fits, since those asked for do.
-use Prim.Native.Nat.{ℕ}
 use mathlib.Core.Path.{_≡_, sym, subst, _∙_}
 use mathlib.Core.Bool.{true, false}
 use native.Mathlib.Omega.{arith}
