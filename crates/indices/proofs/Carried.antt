@@ -9,7 +9,7 @@ use Rattle.indices.specs.declared.sums.Sums.{Sums}
 use Rattle.indices.specs.Figures.{customersLost, minutesLost, lossSum, minutesSum, boundOf}
 use Rattle.indices.specs.Losses.{AtMostOne}
 use Rattle.indices.specs.Parts.{short, sustained}
-use Rattle.indices.specs.Sums.{mostLoss, mostLossMinutes, withLoad, SumsFit, SumsOf}
+use Rattle.indices.specs.Sums.{mostLoss, mostLossMinutes, plusLoad, SumsFit, SumsOf}
 use Rattle.indices.proofs.Most.{loss-limited, minutes-limited}
 use Rattle.indices.proofs.Summed.{Summed, summed-start, summed-more, summed-fits, summed-done}
 
@@ -28,12 +28,12 @@ module _ {losses : List ℕ} {loads : List Load} where
       }
 
   module _ {j : ℕ} {sums : Sums} (c : Carried losses loads j sums) where
-    pub carried-fits : j < length loads → SumsFit (withLoad sums (getD losses j 0) (getD loads j zeroLoad))
-    unfolding withLoad
+    pub carried-fits : j < length loads → SumsFit (plusLoad sums (getD losses j 0) (getD loads j zeroLoad))
+    unfolding plusLoad
     carried-fits h = record { loss = summed-fits (c .loss) h; minutes = summed-fits (c .minutes) h; momentary = summed-fits (c .momentary) h }
 
-    pub carried-more : j < length loads → Carried losses loads (j + 1) (withLoad sums (getD losses j 0) (getD loads j zeroLoad))
-    unfolding withLoad
+    pub carried-more : j < length loads → Carried losses loads (j + 1) (plusLoad sums (getD losses j 0) (getD loads j zeroLoad))
+    unfolding plusLoad
     carried-more h = record { loss = summed-more (c .loss) h; minutes = summed-more (c .minutes) h; momentary = summed-more (c .momentary) h }
 
     pub carried-done : length loads ≤ j → SumsOf losses loads sums

@@ -5,6 +5,6 @@ pub mod Front
 pub mod Most
 pub mod Ordering
 pub mod Parted
+pub mod PlusLoad
 pub mod Stated
 pub mod Summed
-pub mod WithLoad

@@ -23,11 +23,11 @@ pub record LossesEnclosed (lower upper : List ℕ) (x : ℕ → ℕ) (w n : ℕ)
   pub below : (j : ℕ) → j < n → boundOf lower j * w ≤ one * x j
   pub above : (j : ℕ) → j < n → one * x j ≤ boundOf upper j * w
 
--- two bounds in units enclose a sum over P for each customer served
+-- two bounds, in billionths, enclose a sum over P for each customer served
 abbrev pub EnclosesPerCustomer : Enclosure → ((ℕ → ℕ) → List Load → ℕ) → (ℕ → ℕ) → ℕ → List Load → Type 0
 EnclosesPerCustomer bounds sumOf x w loads = Encloses bounds (one * sumOf x loads) (w * customersSum loads)
 
--- two bounds in whole minutes, where they are stated, enclose the minutes for each interruption, both of the loads that take part
+-- two bounds in whole minutes, where they are stated, enclose the minutes of each interruption: both sums run over the loads that take part
 abbrev pub EnclosesMinutes : Caidi → (Load → Bool) → (ℕ → ℕ) → List Load → Type 0
 EnclosesMinutes figure takesPart x loads =
     (bounds : Enclosure) → figure ≡ Bounds bounds → Encloses bounds (minutesSum takesPart x loads) (lossSum takesPart x loads)

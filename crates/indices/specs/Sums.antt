@@ -23,9 +23,9 @@ pub record SumIs (sum most r : ℕ) : Type 0 where
   pub fits : r ≤ mostLoads * most
 
 -- the sums with one load more, whose loss is bounded so: in each it counts where it takes part
-unfoldable pub withLoad : Sums → ℕ → Load → Sums
+unfoldable pub plusLoad : Sums → ℕ → Load → Sums
 unfolding short sustained
-withLoad sums loss l =
+plusLoad sums loss l =
     record {
       loss = sums .loss + counted (sustained l) (loss * l .customers);
       minutes = sums .minutes + counted (sustained l) (loss * l .customers * l .minutes);

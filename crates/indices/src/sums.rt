@@ -9,7 +9,7 @@ ghost use Rattle.rules.specs.Limits.{mostLoads, mostCustomers};
 ghost use Rattle.model.specs.Good.{Sizes};
 ghost use Rattle.indices.specs.Figures.{customersSum};
 ghost use Rattle.indices.specs.Losses.{AtMostOne};
-ghost use Rattle.indices.specs.Sums.{SumIs, withLoad, SumsFit, SumsOf};
+ghost use Rattle.indices.specs.Sums.{SumIs, plusLoad, SumsFit, SumsOf};
 
 // The customers of the first n loads.
 pub fn customers_sum(load: [Load; LOAD_PLACES], n: u8) -> u64
@@ -36,9 +36,9 @@ pub struct Sums {
 }
 
 // The sums with one load more.
-fn with_load(sums: Sums, loss: u64, l: Load) -> Sums
-    requires { ⌜ SumsFit (withLoad sums loss l) ⌝ }
-    ensures { λ r. ⌜ r ≡ withLoad sums loss l ⌝ }
+fn add_load(sums: Sums, loss: u64, l: Load) -> Sums
+    requires { ⌜ SumsFit (plusLoad sums loss l) ⌝ }
+    ensures { λ r. ⌜ r ≡ plusLoad sums loss l ⌝ }
 {
     let lost = loss * l.customers as u64;
     if is_short(l) {
@@ -71,7 +71,7 @@ pub fn sums_of(losses: [u64; LOAD_PLACES], load: [Load; LOAD_PLACES], n: u8) -> 
     let mut j: usize = 0;
     while j < loads {
         let l = load[j];
-        sums = with_load(sums, losses[j], l);
+        sums = add_load(sums, losses[j], l);
         j = j + 1;
     }
     sums

@@ -35,11 +35,11 @@ mul-l c = omega arith
 array-copy-out-l : tie.Need-array-copy-out-l Inv-loop μ-loop
 array-copy-out-l c = omega (arith, c .before .before .pre .0)
 
-array-read-with-load : tie.Need-array-read-with-load Inv-loop μ-loop
-array-read-with-load c = omega (arith, c .before .loop-test .taken, c .before .before .before .pre .0)
+array-read-add-load : tie.Need-array-read-add-load Inv-loop μ-loop
+array-read-add-load c = omega (arith, c .before .loop-test .taken, c .before .before .before .pre .0)
 
-with-load-requires : tie.Need-with-load-requires Inv-loop μ-loop
-with-load-requires c κs =
+add-load-requires : tie.Need-add-load-requires Inv-loop μ-loop
+add-load-requires c κs =
     let turn = c .before in
     rw (sym (in-turn turn .read)) (carried-fits (turn .before .loop .inv) (in-turn turn .inside))
 
@@ -52,7 +52,7 @@ loop-less c = omega (arith, c .before .before .loop-test .taken)
 loop-again : tie.Need-loop-again Inv-loop μ-loop
 loop-again c =
     let turn = c .before .before in
-    rw (c .with-load .ensures, sym (in-turn turn .read)) (carried-more (turn .before .loop .inv) (in-turn turn .inside))
+    rw (c .add-load .ensures, sym (in-turn turn .read)) (carried-more (turn .before .loop .inv) (in-turn turn .inside))
 
 returns : tie.Need-returns Inv-loop μ-loop
 returns c = carried-done (c .before .loop .inv) (rw (long (c .before .before)) (c .loop-test .left))
@@ -67,8 +67,8 @@ sums-of-spec =
     mul-l
     array-copy-out-l
     (λ c. search needs)
-    array-read-with-load
-    with-load-requires
+    array-read-add-load
+    add-load-requires
     add-j
     loop-less
     loop-again

@@ -8,32 +8,32 @@ use Rattle.rules.specs.Limits.{mostLoads}
 use Rattle.study.specs.declared.Load.{Load}
 use Rattle.indices.specs.declared.sums.Sums.{Sums}
 use Rattle.indices.specs.Parts.{short, sustained}
-use Rattle.indices.specs.Sums.{mostLoss, withLoad, SumsFit}
+use Rattle.indices.specs.Sums.{mostLoss, plusLoad, SumsFit}
 
 module _ (sums : Sums) (loss : ℕ) (l : Load) where
-  abbrev pub withShort : Sums
-  withShort = record { loss = sums .loss; minutes = sums .minutes; momentary = sums .momentary + loss * l .customers }
+  abbrev pub plusShort : Sums
+  plusShort = record { loss = sums .loss; minutes = sums .minutes; momentary = sums .momentary + loss * l .customers }
 
-  abbrev pub withSustained : Sums
-  withSustained =
+  abbrev pub plusSustained : Sums
+  plusSustained =
       record {
         loss = sums .loss + loss * l .customers;
         minutes = sums .minutes + loss * l .customers * l .minutes;
         momentary = sums .momentary;
       }
 
-  pub with-short : true ≡ short l → withLoad sums loss l ≡ withShort
-  unfolding withLoad sustained
-  with-short e = rw (sym e, add-zero (sums .loss), add-zero (sums .minutes)) refl
+  pub plus-short : true ≡ short l → plusLoad sums loss l ≡ plusShort
+  unfolding plusLoad sustained
+  plus-short e = rw (sym e, add-zero (sums .loss), add-zero (sums .minutes)) refl
 
-  pub with-sustained : false ≡ short l → withLoad sums loss l ≡ withSustained
-  unfolding withLoad sustained
-  with-sustained e = rw (sym e, add-zero (sums .momentary)) refl
+  pub plus-sustained : false ≡ short l → plusLoad sums loss l ≡ plusSustained
+  unfolding plusLoad sustained
+  plus-sustained e = rw (sym e, add-zero (sums .momentary)) refl
 
   -- on either side the load's own share fits
-  pub lost-fits : SumsFit (withLoad sums loss l) → loss * l .customers ≤ mostLoads * mostLoss
+  pub lost-fits : SumsFit (plusLoad sums loss l) → loss * l .customers ≤ mostLoads * mostLoss
   lost-fits fit = go (short l) refl
     where
       go : (b : Bool) → b ≡ short l → loss * l .customers ≤ mostLoads * mostLoss
-      go true e = omega (arith, subst SumsFit (with-short e) fit .momentary)
-      go false e = omega (arith, subst SumsFit (with-sustained e) fit .loss)
+      go true e = omega (arith, subst SumsFit (plus-short e) fit .momentary)
+      go false e = omega (arith, subst SumsFit (plus-sustained e) fit .loss)
