@@ -1,15 +1,17 @@
 -- The figures enclose the quotients of the published formulas. What carries it: the bounds of each load enclose its exact probability, and the
 -- figures do so for any bounds that do; a call answers figures only of a sound study, whose model is good, and only where there are customers.
-use mathlib.Core.Path.{_≡_, sym, ap, subst, _∙_}
+use mathlib.Core.Path.{_≡_, refl, sym, ap, subst, _∙_}
 use native.Mathlib.Nat.{one-le-pow}
 use native.Mathlib.Omega.{arith}
 use lib.ListN.{length}
+use borrow.Author.Tests.{le-leb, lt-leb}
 use Rattle.units.specs.One.{one}
 use Rattle.model.specs.Good.{Good}
 use Rattle.model.specs.Model.{Model, components}
 use Rattle.accuracy.specs.Accuracy.{wholeOf}
 use Rattle.indices.specs.Enclosed.{LossesEnclosed}
 use Rattle.indices.specs.Figures.{customersLost, lossSum}
+use Rattle.indices.specs.Parts.{short}
 use Rattle.indices.proofs.Enclosed.{saifi-encloses, saidi-encloses, caidi-encloses, maifi-encloses}
 use Rattle.indices.proofs.Parted.{sums-parted}
 use Rattle.rules.proofs.Kept.{list-last}
@@ -24,7 +26,7 @@ use Rattle.evaluation.specs.Figures.{modelFigures}
 use Rattle.evaluation.proofs.LossOrder.{lower-at, upper-at}
 use Rattle.loss_calls.specs.Figures.{customersOf, figuresFault, figuresGiven}
 use Rattle.demands.specs.Calls.{figures as forFigures}
-use Rattle.demands.specs.Demand2.{exactLost, FiguresEnclose, LossesParted, ModelFiguresEnclose, FiguresAnswered}
+use Rattle.demands.specs.Demand2.{exactLost, FiguresEnclose, ShortByMinutes, LossesParted, ModelFiguresEnclose, FiguresAnswered}
 use Rattle.demands.proofs.Bounds.{losses-within}
 use Rattle.demands.proofs.Finished.{finished}
 
@@ -44,6 +46,10 @@ model-figures-enclose m good customers =
       caidi-encloses = caidi-encloses (m .loads) (losses-enclosed m good);
       maifi-encloses = maifi-encloses (m .loads) (losses-enclosed m good) customers;
     }
+
+pub short-by-minutes : ShortByMinutes
+unfolding short
+short-by-minutes = record { short-load = λ l h. le-leb (l .minutes) 5 h; other-load = λ l h. lt-leb (l .minutes) 5 h; none-stated = refl }
 
 pub losses-parted : LossesParted
 unfolding lossSum

@@ -11,6 +11,7 @@ use Rattle.units.specs.Within.{Within}
 use Rattle.rules.specs.Limits.{never}
 use Rattle.study.specs.declared.Load.{Load}
 use Rattle.study.specs.declared.Study.{Study}
+use Rattle.study.specs.Absent.{absentLoad}
 use Rattle.study.specs.Joint.{stateCounts}
 use Rattle.study.specs.Places.{gateAt, loadAt}
 use Rattle.answers.specs.declared.bounds.BoundsAnswer.the-variants.{Bounds}
@@ -26,7 +27,7 @@ use Rattle.model.specs.Good.{Good}
 use Rattle.model.specs.Model.{Model, components, pathsOf}
 use Rattle.accuracy.specs.Accuracy.{exactOf, wholeOf, pathDistance, totalDistance}
 use Rattle.indices.specs.Figures.{customersSum, lossSum, minutesSum}
-use Rattle.indices.specs.Enclosed.{EnclosesPerCustomer, EnclosesMinutes}
+use Rattle.indices.specs.Enclosed.{EnclosesPerCustomer, EnclosesPerInterruption}
 use Rattle.indices.specs.Parts.{short, sustained, every}
 use Rattle.soundness.specs.Sound.{Sound}
 use Rattle.fault_tree.specs.Truth.{gateTrue, gateTruths}
@@ -97,8 +98,14 @@ LossWithin m j lower upper =
 pub record FiguresEnclose (m : Model) (figures : Figures) : Type 0 where
   pub saifi-encloses : EnclosesPerCustomer (figures .saifi) (lossSum sustained) (exactLost m) (wholeOf m) (m .loads)
   pub saidi-encloses : EnclosesPerCustomer (figures .saidi) (minutesSum sustained) (exactLost m) (wholeOf m) (m .loads)
-  pub caidi-encloses : EnclosesMinutes (figures .caidi) sustained (exactLost m) (m .loads)
+  pub caidi-encloses : EnclosesPerInterruption (figures .caidi) sustained (exactLost m) (m .loads)
   pub maifi-encloses : EnclosesPerCustomer (figures .maifi) (lossSum short) (exactLost m) (wholeOf m) (m .loads)
+
+-- A load is short by its restore time alone: five minutes or less, and so where none is stated.
+pub record ShortByMinutes : Type 0 where
+  pub short-load : (l : Load) → l .minutes ≤ 5 → short l ≡ true
+  pub other-load : (l : Load) → 5 < l .minutes → short l ≡ false
+  pub none-stated : short absentLoad ≡ true
 
 -- Each load counts on one side and only one, so that the sums of P × C behind SAIFI and MAIFI make the sum over all loads.
 abbrev pub LossesParted : Type 0

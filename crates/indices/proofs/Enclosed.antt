@@ -15,7 +15,7 @@ use Rattle.study.specs.declared.Load.{Load}
 use Rattle.study.specs.Zero.{zeroLoad}
 use Rattle.answers.specs.declared.bounds.Enclosure.{Enclosure}
 use Rattle.indices.specs.Figures.{loadsSum, customersSum, lossSum, minutesSum, boundOf, quotients, figuresOf}
-use Rattle.indices.specs.Enclosed.{Encloses, LossesEnclosed, EnclosesPerCustomer, EnclosesMinutes}
+use Rattle.indices.specs.Enclosed.{Encloses, LossesEnclosed, EnclosesPerCustomer, EnclosesPerInterruption}
 use Rattle.indices.specs.Parts.{short, sustained}
 use Rattle.indices.proofs.Stated.{stated-some, stated-bounds}
 
@@ -100,7 +100,7 @@ module _ {lower upper : List ℕ} {x : ℕ → ℕ} {w : ℕ} (loads : List Load
     unfolding figuresOf
     maifi-encloses = over-exact (customersSum loads) some (enclosed .whole) (loss-between short)
 
-  pub caidi-encloses : EnclosesMinutes (figuresOf lower upper loads .caidi) sustained x loads
+  pub caidi-encloses : EnclosesPerInterruption (figuresOf lower upper loads .caidi) sustained x loads
   unfolding figuresOf
   caidi-encloses bounds stated =
       subst (λ (b : Enclosure). Encloses b (minutesSum sustained x loads) (lossSum sustained x loads)) (stated-bounds _ _ _ _ stated)

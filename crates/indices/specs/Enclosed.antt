@@ -27,7 +27,7 @@ pub record LossesEnclosed (lower upper : List ℕ) (x : ℕ → ℕ) (w n : ℕ)
 abbrev pub EnclosesPerCustomer : Enclosure → ((ℕ → ℕ) → List Load → ℕ) → (ℕ → ℕ) → ℕ → List Load → Type 0
 EnclosesPerCustomer bounds sumOf x w loads = Encloses bounds (one * sumOf x loads) (w * customersSum loads)
 
--- two bounds in whole minutes, where they are stated, enclose the minutes of each interruption: both sums run over the loads that take part
-abbrev pub EnclosesMinutes : Caidi → (Load → Bool) → (ℕ → ℕ) → List Load → Type 0
-EnclosesMinutes figure takesPart x loads =
+-- two bounds in whole minutes, where they are stated, enclose the minutes for each customer interrupted, over the loads that take part
+abbrev pub EnclosesPerInterruption : Caidi → (Load → Bool) → (ℕ → ℕ) → List Load → Type 0
+EnclosesPerInterruption figure takesPart x loads =
     (bounds : Enclosure) → figure ≡ Bounds bounds → Encloses bounds (minutesSum takesPart x loads) (lossSum takesPart x loads)

@@ -71,6 +71,12 @@ perCustomer sumOf lower upper loads =
 unfoldable pub caidi : ℕ → ℕ → ℕ → ℕ → Caidi
 caidi lossLow lossHigh minutesLow minutesHigh = cond (eqb lossLow 0) NotStated (Bounds (quotients minutesLow lossHigh minutesHigh lossLow))
 
+-- the minutes for each customer interrupted, over the loads that take part
+abbrev pub perInterruption : (Load → Bool) → List ℕ → List ℕ → List Load → Caidi
+perInterruption takesPart lower upper loads =
+    caidi (lossSum takesPart (boundOf lower) loads) (lossSum takesPart (boundOf upper) loads) (minutesSum takesPart (boundOf lower) loads)
+    (minutesSum takesPart (boundOf upper) loads)
+
 -- the figures from lower and upper bounds for the loss of each load
 unfoldable pub figuresOf : List ℕ → List ℕ → List Load → Figures
 unfolding short sustained customersSum lossSum minutesSum caidi
@@ -78,8 +84,6 @@ figuresOf lower upper loads =
     record {
       saifi = perCustomer (lossSum sustained) lower upper loads;
       saidi = perCustomer (minutesSum sustained) lower upper loads;
-      caidi =
-          caidi (lossSum sustained (boundOf lower) loads) (lossSum sustained (boundOf upper) loads) (minutesSum sustained (boundOf lower) loads)
-          (minutesSum sustained (boundOf upper) loads);
+      caidi = perInterruption sustained lower upper loads;
       maifi = perCustomer (lossSum short) lower upper loads;
     }

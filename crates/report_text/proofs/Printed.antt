@@ -10,7 +10,7 @@ use Rattle.units.specs.Rounding.{quotientDown, quotientUp}
 use Rattle.study.specs.declared.Load.{Load}
 use Rattle.answers.specs.declared.figures.Caidi.the-variants.{Bounds, NotStated}
 use Rattle.model.specs.Good.{Sizes}
-use Rattle.indices.specs.Figures.{lossSum, minutesSum, boundOf, quotients, perCustomer, caidi, figuresOf}
+use Rattle.indices.specs.Figures.{lossSum, minutesSum, boundOf, quotients, perCustomer, caidi, perInterruption, figuresOf}
 use Rattle.indices.specs.Losses.{AtMostOne, LossBounds}
 use Rattle.indices.specs.Parts.{short, sustained}
 use Rattle.indices.proofs.Most.{customers-few, loss-few, minutes-few}
@@ -48,8 +48,7 @@ module _ (loads : List Load) (sizes : Sizes loads) (lower upper : List ℕ) (bou
       quotients-printable _ _ _ _ (omega (arith, minutes-few sustained loads sizes low, sizes .few))
       (omega (arith, minutes-few sustained loads sizes (bounds .uppers), customers-few loads sizes, sizes .few))
 
-  caidi-printable : CaidiPrintable (figuresOf lower upper loads .caidi)
-  unfolding figuresOf
+  caidi-printable : CaidiPrintable (perInterruption sustained lower upper loads)
   caidi-printable =
       stated-printable (lossSum sustained (boundOf lower) loads) (lossSum sustained (boundOf upper) loads) (minutesSum sustained (boundOf lower) loads)
       (minutesSum sustained (boundOf upper) loads) (omega (arith, minutes-few sustained loads sizes low, sizes .few))
