@@ -1,20 +1,16 @@
 -- What follows where each lower bound is at most its upper one: it is at most one too, and so is the lower sum of P × C at most the upper one.
 use Prim.Native.Nat.{ℕ, _≤_}
-use mathlib.Core.Bool.{Bool, true, false}
+use mathlib.Core.Bool.{Bool}
 use mathlib.Core.List.{List}
 use native.Mathlib.Nat.{mul-le-mul-right, min-le-left}
 use native.Mathlib.Omega.{arith}
 use lib.ListN.{length, getD, take, length-take}
-use Rattle.lists.specs.Counting.{counted}
 use Rattle.lists.proofs.SumBelow.{sum-most}
+use Rattle.lists.proofs.SumOver.{counted-ordered}
 use Rattle.study.specs.declared.Load.{Load}
 use Rattle.study.specs.Zero.{zeroLoad}
 use Rattle.indices.specs.Figures.{loadsSum, lossSum, boundOf}
 use Rattle.indices.specs.Losses.{AtMostOne, LossBounds}
-
-counted-ordered : {m n : ℕ} (b : Bool) → m ≤ n → counted b m ≤ counted b n
-counted-ordered true h = h
-counted-ordered false h = omega arith
 
 module _ {lower upper : List ℕ} {n : ℕ} (bounds : LossBounds lower upper n) where
   pub lower-most : AtMostOne lower n

@@ -1,20 +1,14 @@
 -- Each load takes part on one side and only one: a sum over the sustained loads and one over the short ones make the sum over all.
 use Prim.Native.Nat.{ℕ, _+_}
 use mathlib.Core.Path.{_≡_, sym, _∙_}
-use mathlib.Core.Bool.{Bool, true, false, not}
 use mathlib.Core.List.{List}
-use native.Mathlib.Omega.{arith}
 use lib.ListN.{length, getD}
-use Rattle.lists.specs.Counting.{counted}
 use Rattle.lists.proofs.SumBelow.{sum-added, sum-alike}
+use Rattle.lists.proofs.SumOver.{counted-parted}
 use Rattle.study.specs.declared.Load.{Load}
 use Rattle.study.specs.Zero.{zeroLoad}
 use Rattle.indices.specs.Figures.{term, loadsSum}
 use Rattle.indices.specs.Parts.{short, sustained, every}
-
-counted-parted : (b : Bool) (n : ℕ) → counted (not b) n + counted b n ≡ n
-counted-parted true n = omega arith
-counted-parted false n = omega arith
 
 pub sums-parted : (value : ℕ → Load → ℕ) (loads : List Load)
     → loadsSum sustained value loads + loadsSum short value loads ≡ loadsSum every value loads

@@ -1,7 +1,7 @@
 -- Laws of sums over the elements of a list: each by induction over the list.
 use Prim.Native.Nat.{ℕ, suc, _+_, _*_, _≤_}
 use mathlib.Core.Path.{_≡_, refl, sym, ap₂, _∙_}
-use mathlib.Core.Bool.{Bool, true, false, cond}
+use mathlib.Core.Bool.{Bool, true, false, not, cond}
 use mathlib.Core.List.{List, [], _∷_, _++_, map}
 use native.Mathlib.Nat.{mul-zero}
 use native.Mathlib.Omega.{arith}
@@ -17,6 +17,15 @@ counted-none false = refl
 pub counted-most : (b : Bool) (n : ℕ) → counted b n ≤ n
 counted-most true n = omega arith
 counted-most false n = omega arith
+
+pub counted-ordered : {m n : ℕ} (b : Bool) → m ≤ n → counted b m ≤ counted b n
+counted-ordered true h = h
+counted-ordered false h = omega arith
+
+-- it counts on one side or on the other
+pub counted-parted : (b : Bool) (n : ℕ) → counted (not b) n + counted b n ≡ n
+counted-parted true n = omega arith
+counted-parted false n = omega arith
 
 pub counted-scaled : (b : Bool) (k n : ℕ) → counted b (k * n) ≡ k * counted b n
 counted-scaled true k n = refl
