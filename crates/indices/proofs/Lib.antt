@@ -5,6 +5,5 @@ pub mod Front
 pub mod Most
 pub mod Ordering
 pub mod Parted
-pub mod PlusLoad
 pub mod Stated
 pub mod Summed

@@ -1,4 +1,5 @@
 // The sums that the figures divide: of C over all loads, and for one bound P of each load's loss, of P × C and P × C × M over those that take part.
+use crate::parts::counted;
 use crate::parts::is_short;
 use rules::LOAD_PLACES;
 use study::Load;
@@ -41,17 +42,12 @@ fn add_load(sums: Sums, loss: u64, l: Load) -> Sums
     ensures { λ r. ⌜ r ≡ plusLoad sums loss l ⌝ }
 {
     let lost = loss * l.customers as u64;
-    if is_short(l) {
-        return Sums {
-            loss: sums.loss,
-            minutes: sums.minutes,
-            momentary: sums.momentary + lost,
-        };
-    }
+    let short = is_short(l);
+    let sustained = counted(!short, lost);
     Sums {
-        loss: sums.loss + lost,
-        minutes: sums.minutes + lost * l.minutes as u64,
-        momentary: sums.momentary,
+        loss: sums.loss + sustained,
+        minutes: sums.minutes + sustained * l.minutes as u64,
+        momentary: sums.momentary + counted(short, lost),
     }
 }
 
