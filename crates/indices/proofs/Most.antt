@@ -1,11 +1,10 @@
 -- How large the sums over loads are at most: so many terms, none of which is above its limit, since a load that takes no part adds nothing.
-use Prim.Native.Nat.{ℕ, zero, suc, _*_, _<_, _≤_}
+use Prim.Native.Nat.{ℕ, _*_, _<_, _≤_}
 use mathlib.Core.Bool.{Bool}
 use mathlib.Core.List.{List}
 use native.Mathlib.Nat.{mul-le-mul, le-trans}
-use native.Mathlib.Omega.{arith}
 use lib.ListN.{length, getD}
-use Rattle.lists.specs.Counting.{sum}
+use Rattle.lists.proofs.SumBelow.{sum-limit}
 use Rattle.lists.proofs.SumOver.{counted-most}
 use Rattle.rules.specs.Limits.{mostCustomers}
 use Rattle.study.specs.declared.Load.{Load}
@@ -15,12 +14,6 @@ use Rattle.indices.specs.Figures.{term, loadsSum, customersServed, custo
 use Rattle.indices.specs.Losses.{AtMostOne}
 use Rattle.indices.specs.Parts.{every}
 use Rattle.indices.specs.Sums.{mostLoss, mostLossMinutes}
-
--- so many terms of at most so much
-sum-limit : (f : ℕ → ℕ) (most n : ℕ) → ((k : ℕ) → k < n → f k ≤ most) → sum f n ≤ n * most
-unfolding sum
-sum-limit f most zero each = omega arith
-sum-limit f most (suc n) each = omega (arith, sum-limit f most n (λ k h. each k (omega arith)), each n (omega arith))
 
 -- no term of a sum over these loads is above the limit
 abbrev pub Limited : (Load → Bool) → (ℕ → Load → ℕ) → ℕ → List Load → Type 0

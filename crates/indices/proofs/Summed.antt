@@ -8,6 +8,7 @@ use native.Mathlib.Numerals.{add-one}
 use native.Mathlib.Omega.{arith}
 use lib.ListN.{length}
 use Rattle.lists.specs.Counting.{sum}
+use Rattle.lists.proofs.SumBelow.{sum-limit}
 use Rattle.rules.specs.Limits.{mostLoads}
 use Rattle.study.specs.declared.Load.{Load}
 use Rattle.indices.specs.Figures.{term, loadsSum}
@@ -19,27 +20,21 @@ pub record Summed (takesPart : Load → Bool) (value : ℕ → Load → ℕ) (mo
   pub limit : Limited takesPart value most loads
   pub inside : j ≤ length loads
   pub summed : s ≡ sum (term takesPart value loads) j
-  pub below : s ≤ j * most
 
 module _ {takesPart : Load → Bool} {value : ℕ → Load → ℕ} {most : ℕ} {loads : List Load} where
   pub summed-start : length loads ≤ mostLoads → Limited takesPart value most loads → Summed takesPart value most loads 0 0
   unfolding sum
-  summed-start few limit = record { few = few; limit = limit; inside = omega arith; summed = refl; below = omega arith }
+  summed-start few limit = record { few = few; limit = limit; inside = omega arith; summed = refl }
 
   module _ {j s : ℕ} (c : Summed takesPart value most loads j s) where
     most-sum : s ≤ mostLoads * most
-    most-sum = omega (arith, c .below, mul-le-mul-right most (c .inside), mul-le-mul-right most (c .few))
+    most-sum =
+        let limit = sum-limit (term takesPart value loads) most j (λ k h. c .limit k (omega (arith, c .inside))) in
+        omega (arith, c .summed, limit, mul-le-mul-right most (c .inside), mul-le-mul-right most (c .few))
 
     pub summed-more : j < length loads → Summed takesPart value most loads (j + 1) (s + term takesPart value loads j)
     unfolding sum
-    summed-more h =
-        record {
-          few = c .few;
-          limit = c .limit;
-          inside = omega arith;
-          summed = rw (add-one, c .summed) refl;
-          below = omega (arith, c .below, c .limit j h);
-        }
+    summed-more h = record { few = c .few; limit = c .limit; inside = omega arith; summed = rw (add-one, c .summed) refl }
 
     pub summed-done : length loads ≤ j → SumIs (loadsSum takesPart value loads) most s
     unfolding loadsSum

@@ -21,6 +21,12 @@ unfolding sum
 sum-most f g zero most = omega arith
 sum-most f g (suc n) most = omega (arith, sum-most f g n (λ k h. most k (omega arith)), most n (omega arith))
 
+-- so many terms of at most so much
+pub sum-limit : (f : ℕ → ℕ) (most n : ℕ) → ((k : ℕ) → k < n → f k ≤ most) → sum f n ≤ n * most
+unfolding sum
+sum-limit f most zero each = omega arith
+sum-limit f most (suc n) each = omega (arith, sum-limit f most n (λ k h. each k (omega arith)), each n (omega arith))
+
 -- no term is above the sum
 pub term-most : (f : ℕ → ℕ) (n k : ℕ) → k < n → f k ≤ sum f n
 unfolding sum
