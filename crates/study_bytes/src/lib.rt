@@ -1,0 +1,1 @@
+// What bytes a study is written to: definitions, and no code.
