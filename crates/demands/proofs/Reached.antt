@@ -15,10 +15,12 @@ pub reached-sound : ReachedSound
 reached-sound t (opened bytes done) = opened-sound bytes done
 reached-sound t (edited e u r) = either e u (λ a b. Sound (a .study)) (changed-sound e u) (λ some. reached-sound u r)
 
+-- an edit keeps the places of every array
 changed-shaped : (e : Edit) (t : Study) → Shaped t → Shaped (changed e t)
-changed-shaped (probabilities i p1 p2 p3) t shaped = record { components = simp length-set (shaped .components); loads = shaped .loads }
-changed-shaped (customers j n) t shaped = record { components = shaped .components; loads = simp length-set (shaped .loads) }
-changed-shaped (minutes j n) t shaped = record { components = shaped .components; loads = simp length-set (shaped .loads) }
+changed-shaped (probabilities i p1 p2 p3) t s =
+    record { components = simp length-set (s .components); gates = s .gates; loads = s .loads; gate = s .gate }
+changed-shaped (customers j n) t s = record { components = s .components; gates = s .gates; loads = simp length-set (s .loads); gate = s .gate }
+changed-shaped (minutes j n) t s = record { components = s .components; gates = s .gates; loads = simp length-set (s .loads); gate = s .gate }
 
 reached-shaped : (t : Study) → Reached t → Shaped t
 reached-shaped t (opened bytes done) = opened-shaped bytes

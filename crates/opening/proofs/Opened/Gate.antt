@@ -1,5 +1,5 @@
--- A gate record that is read is sound. What carries it: tests and gate inputs fill their places from the front, each once, since the map's
--- bits are read upwards and only bits 0 to 2 stand.
+-- A gate record that is read is sound and has all its places. What carries it: tests and gate inputs fill their places from the front, each once, since
+-- the map's bits are read upwards and only bits 0 to 2 stand.
 use Prim.Native.Nat.{ℕ, _+_, _^_, _<_, _≤_}
 use mathlib.Core.Path.{_≡_, refl, sym, subst}
 use mathlib.Core.List.{List}
@@ -21,8 +21,14 @@ use Rattle.gate_record.specs.Gate.{threshold, inputsByte, test, tests, input, i
 use Rattle.study.specs.declared.Gate.{Gate}
 use Rattle.study.specs.Absent.{absentGate}
 use Rattle.study.specs.Inputs.{inputCount}
+use Rattle.study.specs.Places.{ShapedGate}
 use Rattle.study.specs.Zero.{zeroGate}
 use Rattle.soundness.specs.Sound.{SoundGate}
+
+-- a gate that keeps a rule, and has all its places
+pub record WholeGate (Kept : Gate → Type 0) (g : Gate) : Type 0 where
+  pub kept : Kept g
+  pub shaped : ShapedGate g
 
 abbrev IsZero : ℕ → Type 0
 IsZero n = n ≡ 0
@@ -208,7 +214,7 @@ module _ (counts : List ℕ) (number : ℕ) where
       let two : k ≡ 2 = omega (arith, bit-meant 3 k meant, eqb-false k 0 not0, eqb-false k 1 not1) in
       rw two (inputs-sound g (rw two at s))))
 
-  pub gate-sound : Gives (gate counts number) (SoundGate counts number)
+  pub gate-sound : Gives (gate counts number) (WholeGate (SoundGate counts number))
   unfolding gate
   gate-sound =
       gives-then (gives-fields SoFar gateMaps (gateField counts number) absentGate start field-sound passed)
@@ -216,15 +222,20 @@ module _ (counts : List ℕ) (number : ℕ) where
       let tests = s .tests-kept in
       let inputs = s .inputs-kept in
       gives-judge (thresholdFault (inputCount g) (g .threshold))
-      (λ kept.
+      (λ within.
       gives-return
       (record {
-        tests = tests .count;
-        gates = inputs .count;
-        component = tests .filled .components .below;
-        mask = tests .filled .fit;
-        input = inputs .filled .below;
-        threshold = kept;
-        behind =
-            record { component = tests .filled .components .behind; mask = tests .filled .masks .behind; input = inputs .filled .behind };
+        kept =
+            record {
+              tests = tests .count;
+              gates = inputs .count;
+              component = tests .filled .components .below;
+              mask = tests .filled .fit;
+              input = inputs .filled .below;
+              threshold = within;
+              behind =
+                  record { component = tests .filled .components .behind; mask = tests .filled .masks .behind; input = inputs .filled .behind };
+            };
+        shaped =
+            record { component = tests .filled .components .long; mask = tests .filled .masks .long; input = inputs .filled .long };
       })))

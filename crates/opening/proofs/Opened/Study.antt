@@ -3,8 +3,9 @@
 use Prim.Native.Nat.{ℕ, _+_, _*_, _<_}
 use mathlib.Core.Path.{_≡_, refl, sym, subst}
 use mathlib.Core.List.{List, [], _∷_}
+use native.Mathlib.Decide.{decLt}
 use native.Mathlib.Omega.{arith}
-use lib.ListN.{take, getD-replicate}
+use lib.ListN.{getD, take, getD-replicate}
 use Rattle.lists.specs.Product.{product}
 use Rattle.lists.proofs.Filled.{Filled, filled-none, filled-more}
 use Rattle.rules.specs.Breach.{refuse}
@@ -17,17 +18,18 @@ use Rattle.answers.specs.Answered.{answered}
 use Rattle.opening.specs.Opening.{count, componentAfter, componentRecord, gateRecord, loadRecord, placing, records, study, refusedOpening, answer, opened}
 use Rattle.opening.proofs.Places.{joint-placed}
 use Rattle.study.specs.declared.Component.{Component}
+use Rattle.study.specs.declared.Gate.{Gate}
 use Rattle.study.specs.declared.Load.{Load}
 use Rattle.study.specs.declared.Study.{Study}
 use Rattle.answers.specs.declared.outcome.Outcome.the-variants.{Done}
 use Rattle.study.specs.Joint.{states}
-use Rattle.study.specs.Places.{Shaped, noGate}
+use Rattle.study.specs.Places.{Shaped, ShapedGate, noGate}
 use Rattle.study.specs.Zero.{zeroComponent, zeroGate, zeroLoad, noComponents, noGates, noLoads, zeroStudy}
 use Rattle.soundness.specs.Sound.{SoundComponent, SoundGate, UnusedGate, SoundLoad, Sound}
 use Rattle.opening.specs.Laws.{OpenedSound, OpenedShaped}
 use Rattle.opening.proofs.Answers.{is-refused, left, left-over, not-both}
 use Rattle.opening.proofs.Opened.Component.{component-sound}
-use Rattle.opening.proofs.Opened.Gate.{gate-sound}
+use Rattle.opening.proofs.Opened.Gate.{WholeGate, gate-sound}
 use Rattle.opening.proofs.Opened.Load.{load-sound}
 
 count-sound : (most : ℕ) → Gives (count most) (λ (n : ℕ). countFault most n ≡ 0)
@@ -84,24 +86,39 @@ component-placed i cs below s =
 
 -- ---- gates
 
-zero-unused : UnusedGate zeroGate
+zero-unused : WholeGate UnusedGate zeroGate
 unfolding zeroGate
 zero-unused =
     record {
-      threshold = refl;
-      tests = refl;
-      gates = refl;
-      behind =
+      kept =
           record {
-            component = λ j from less. getD-replicate mostTests j 0 0 less;
-            mask = λ j from less. getD-replicate mostTests j 0 0 less;
-            input = λ j from less. getD-replicate mostGateInputs j 0 0 less;
+            threshold = refl;
+            tests = refl;
+            gates = refl;
+            behind =
+                record {
+                  component = λ j from less. getD-replicate mostTests j 0 0 less;
+                  mask = λ j from less. getD-replicate mostTests j 0 0 less;
+                  input = λ j from less. getD-replicate mostGateInputs j 0 0 less;
+                };
           };
+      shaped = record { component = refl; mask = refl; input = refl };
     }
 
-no-gates : (counts : List ℕ) → Filled (SoundGate counts) UnusedGate noGate mostGates 0 noGates
+abbrev GatesFilled : List ℕ → ℕ → List Gate → Type 0
+GatesFilled counts = Filled (λ (i : ℕ). WholeGate (SoundGate counts i)) (WholeGate UnusedGate) noGate mostGates
+
+no-gates : (counts : List ℕ) → GatesFilled counts 0 noGates
 unfolding noGates
-no-gates counts = filled-none refl (λ k h. subst UnusedGate (sym (getD-replicate mostGates k zeroGate noGate h)) zero-unused)
+no-gates counts = filled-none refl (λ k h. subst (WholeGate UnusedGate) (sym (getD-replicate mostGates k zeroGate noGate h)) zero-unused)
+
+-- a gate has all its places, whether a record uses it or not
+gates-shaped : (counts : List ℕ) (gates : ℕ) (gs : List Gate) → GatesFilled counts gates gs → (i : ℕ) → i < mostGates → ShapedGate (getD gs i noGate)
+gates-shaped counts gates gs filled i inside = go (decLt i gates)
+  where
+    go : Dec (i < gates) → ShapedGate (getD gs i noGate)
+    go (yes used) = filled .below i used .shaped
+    go (no unused) = filled .behind i (omega arith) inside .shaped
 
 -- ---- loads
 
@@ -129,7 +146,7 @@ records-sound components gates loads c g l =
     (λ cs components-sound.
     let counts = take components (states cs) in
     gives-then
-    (records-filled (SoundGate counts) UnusedGate noGate mostGates (gateRecord counts) gates noGates g (no-gates counts) (λ i gs. gate-sound counts i))
+    (records-filled _ _ noGate mostGates (gateRecord counts) gates noGates g (no-gates counts) (λ i gs. gate-sound counts i))
     (λ gs gates-sound.
     gives-then (records-filled _ _ zeroLoad mostLoads (loadRecord gates) loads noLoads l (no-loads gates) (λ j ls. load-sound gates))
     (λ ls loads-sound.
@@ -143,12 +160,18 @@ records-sound components gates loads c g l =
             component = components-sound .filled .below;
             no-component = components-sound .filled .behind;
             width = components-sound .width;
-            gate = gates-sound .below;
-            no-gate = gates-sound .behind;
+            gate = λ i below. gates-sound .below i below .kept;
+            no-gate = λ i from inside. gates-sound .behind i from inside .kept;
             load = loads-sound .below;
             no-load = loads-sound .behind;
           };
-      shaped = record { components = components-sound .filled .long; loads = loads-sound .long };
+      shaped =
+          record {
+            components = components-sound .filled .long;
+            gates = gates-sound .long;
+            loads = loads-sound .long;
+            gate = gates-shaped counts gates gs gates-sound;
+          };
     }))))
 
 study-sound : Gives study Whole
@@ -170,8 +193,8 @@ unfolding opened
 opened-sound bytes done = answer-sound (study bytes) (held study-sound bytes) done
 
 zero-shaped : Shaped zeroStudy
-unfolding zeroStudy noComponents noLoads
-zero-shaped = record { components = refl; loads = refl }
+unfolding zeroStudy noComponents noGates noLoads
+zero-shaped = record { components = refl; gates = refl; loads = refl; gate = gates-shaped [] 0 noGates (no-gates []) }
 
 answer-shaped : (r : Read Study) → Held Whole r → Shaped (answer r .study)
 unfolding answer refuse refusedOpening answered
