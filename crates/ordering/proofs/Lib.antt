@@ -1,0 +1,5 @@
+pub mod Pairs
+pub mod Rises
+pub mod Sorted
+pub mod Steps
+pub mod Unique
