@@ -1,0 +1,4 @@
+pub mod Checked
+pub mod Fronts
+pub mod InOrder
+pub mod Rows

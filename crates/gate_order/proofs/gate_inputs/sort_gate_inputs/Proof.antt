@@ -1,0 +1,50 @@
+-- `gate_order::gate_inputs::sort_gate_inputs` meets its contract: the front parts of the places that are lent are the gate inputs, with no masks (`Fronts`),
+-- and come back sorted.
+use mathlib.Core.Path.{_≡_, ap, _∙_}
+use mathlib.Core.List.{List}
+use lib.ListN.{length, take}
+use borrow.Author.Needs.{needs}
+use Rattle.ordering.specs.Inputs.{paired}
+use Rattle.rules.specs.Limits.{mostGateInputs}
+use Rattle.gate_order.proofs.Fronts.{front-long, fronts-long, inputs-front, numbers-front}
+use Rattle.gate_order.proofs.gate_inputs.sort_gate_inputs.Statement.{statement}
+use Rattle.gate_order.proofs.gate_inputs.sort_gate_inputs.Tie as tie
+
+slice-aggregate-sort : tie.Need-slice-aggregate-sort
+slice-aggregate-sort c = front-long _ mostGateInputs _ (c .before .before .within .ensures) (c .before .before .before .args .input) (search needs)
+
+slice-aggregate-sort-2 : tie.Need-slice-aggregate-sort-2
+slice-aggregate-sort-2 c = front-long _ mostGateInputs _ (c .before .before .before .within .ensures) (c .before .before .no-masks .result) (search needs)
+
+sort-requires : tie.Need-sort-requires
+sort-requires c κs =
+    let counted = c .before .before .before in
+    fronts-long _ mostGateInputs _ (counted .within .ensures) (counted .before .args .input) (c .before .before .no-masks .result) (search needs) (search needs)
+
+returns : tie.Need-returns
+returns c =
+    let sorts = c .before .before in
+    let unmasked = sorts .before .before .before in
+    let counted = unmasked .before in
+    let input = counted .before .args .input in
+    let masks = unmasked .no-masks .result in
+    let within = counted .within .ensures in
+    let long : length input ≡ mostGateInputs = search needs in
+    let long′ : length masks ≡ mostGateInputs = search needs in
+    let same =
+    ap (λ (l : List _). paired (take (counted .within .result) input) (take (counted .within .result) l)) (unmasked .no-masks .ensures)
+    ∙ inputs-front _ _ within input long in
+    numbers-front _ mostGateInputs _ within input masks _ _ _ long long′ same (sorts .sort .ensures)
+
+pub sort-gate-inputs-spec : {M : Type 1} → statement M
+sort-gate-inputs-spec =
+    tie.close
+    (tie.spec
+    (λ c κs. search needs)
+    (λ c κs. search needs)
+    (λ c. search needs)
+    slice-aggregate-sort
+    (λ c. search needs)
+    slice-aggregate-sort-2
+    sort-requires
+    returns)

@@ -1,0 +1,62 @@
+-- The order of a gate's inputs: tests ascend by component, then by mask, and gate inputs ascend. Unused places stay behind them.
+use Prim.Native.Nat.{ℕ}
+use mathlib.Core.List.{List, map}
+use lib.ListN.{take, replicate}
+use Rattle.lists.specs.Rows.{put}
+use Rattle.ordering.specs.Inputs.{Input, paired, numbers, masks, Ascending, sorted, ascends}
+use Rattle.rules.specs.Breach.{first}
+use Rattle.rules.specs.Limits.{mostGateInputs}
+use Rattle.rules.specs.Table.{unsoundFault}
+use Rattle.study.specs.declared.Gate.{Gate}
+use Rattle.study.specs.declared.Study.{Study}
+
+-- the tests of a gate, as they stand
+abbrev pub testsOf : Gate → List Input
+testsOf g = take (g .tests) (paired (g .component) (g .mask))
+
+-- its gate inputs, as they stand
+abbrev pub unmasked : ℕ → Input
+unmasked n = record { number = n; mask = 0 }
+
+abbrev pub gateInputsOf : Gate → List Input
+gateInputsOf g = take (g .gates) (map unmasked (g .input))
+
+-- the masks of gate inputs, as a row beside them
+unfoldable pub noMasks : List ℕ
+noMasks = replicate mostGateInputs 0
+
+-- the inputs of a gate stand in order
+pub record InOrder (g : Gate) : Type 0 where
+  pub tests : Ascending (testsOf g)
+  pub gate-inputs : Ascending (gateInputsOf g)
+
+-- a gate with its inputs in order; the places behind them are as they were
+unfoldable pub inOrder : Gate → Gate
+unfolding put paired sorted
+inOrder g =
+    record {
+      threshold = g .threshold;
+      tests = g .tests;
+      component = put (g .component) 0 (numbers (sorted (testsOf g)));
+      mask = put (g .mask) 0 (masks (sorted (testsOf g)));
+      gates = g .gates;
+      input = put (g .input) 0 (numbers (sorted (gateInputsOf g)));
+    }
+
+-- a study with the inputs of each gate in order
+unfoldable pub ordered : Study → Study
+unfolding inOrder
+ordered t =
+    record {
+      components = t .components;
+      gates = t .gates;
+      loads = t .loads;
+      component = t .component;
+      gate = map inOrder (t .gate);
+      load = t .load;
+    }
+
+-- 16 for a gate whose inputs are out of order
+unfoldable pub orderFault : Gate → ℕ
+unfolding paired ascends
+orderFault g = first (unsoundFault (ascends (testsOf g))) (unsoundFault (ascends (gateInputsOf g)))

@@ -1,0 +1,38 @@
+// The gate inputs of a gate: numbers of gates, beside masks of 0.
+use crate::within;
+use ordering::ascends;
+use ordering::sort;
+use rules::INPUT_PLACES;
+ghost use mathlib.Core.Path.{_≡_};
+ghost use mathlib.Core.List.{map};
+ghost use lib.ListN.{take};
+ghost use Rattle.lists.specs.Rows.{put};
+ghost use Rattle.ordering.specs.Inputs.{numbers, sorted, ascends as Inputs·ascends};
+ghost use Rattle.gate_order.specs.Order.{unmasked, noMasks};
+
+// A row of masks for all places.
+fn no_masks() -> [u8; INPUT_PLACES]
+    ensures { λ r. ⌜ r ≡ noMasks ⌝ }
+{
+    [0; INPUT_PLACES]
+}
+
+// The places with the first so many gate inputs in order.
+pub fn sort_gate_inputs(count: u8, input: [u8; INPUT_PLACES]) -> [u8; INPUT_PLACES]
+    ensures { λ r. ⌜ r ≡ put input 0 (numbers (sorted (take count (map unmasked input)))) ⌝ }
+{
+    let n = within(count, INPUT_PLACES);
+    let mut sorted = input;
+    let mut masks = no_masks();
+    sort(&mut sorted[..n], &mut masks[..n]);
+    sorted
+}
+
+// Whether the first so many gate inputs are in order.
+pub fn gate_inputs_ascend(count: u8, input: [u8; INPUT_PLACES]) -> bool
+    ensures { λ r. ⌜ r ≡ Inputs·ascends (take count (map unmasked input)) ⌝ }
+{
+    let n = within(count, INPUT_PLACES);
+    let masks = no_masks();
+    ascends(&input[..n], &masks[..n])
+}
