@@ -78,7 +78,7 @@ sizeFault most n = refuse 14 (ltb most n)
 abbrev pub leftFault : ℕ → ℕ
 leftFault bytes = refuse 15 (ltb 0 bytes)
 
--- 16 unsound: an opened study that breaks a rule above, or holds anything but 0 in a place that no record uses
+-- 16 unsound: an opened study that breaks a rule above, has the inputs of a gate out of order, or holds anything but 0 in a place that no record uses
 abbrev pub unsoundFault : Bool → ℕ
 unsoundFault sound = refuse 16 (not sound)
 

@@ -21,6 +21,8 @@ use Rattle.study.specs.Edits.{withProbabilities}
 use Rattle.study.specs.Joint.{stateCounts}
 use Rattle.study.specs.Places.{componentAt, gateAt, loadAt}
 use Rattle.study.specs.Zero.{zeroComponent, zeroLoad}
+use Rattle.gate_order.specs.Order.{InOrder}
+use Rattle.gate_order.proofs.Checked.{order-kept, order-none, none-ordered}
 use Rattle.soundness.specs.Sound.{SoundComponent, ZeroBehind, SoundGate, UnusedGate, SoundLoad, Sound}
 use Rattle.soundness.specs.Check.{probabilitiesFault, componentFault, unusedComponentFault, componentPlaceFault, componentsFault}
 use Rattle.soundness.specs.Check.{testPlaceFault, testsFault, inputPlaceFault, gateInputsFault, inputPlacesFault}
@@ -72,14 +74,16 @@ record SoundInputs (counts : List ℕ) (i : ℕ) (g : Gate) : Type 0 where
   mask : (j : ℕ) → j < g .tests → maskFault (getD counts (getD (g .component) j 0) 0) (getD (g .mask) j 0) ≡ 0
   input : (j : ℕ) → j < g .gates → aheadFault i (getD (g .input) j 0) ≡ 0
   behind : ZeroBehind g
+  order : InOrder g
 
 module _ (counts : List ℕ) (i : ℕ) (g : Gate) where
   inputs-kept : g .tests ≤ mostTests → g .gates ≤ mostGateInputs → inputPlacesFault counts i g ≡ 0 → SoundInputs counts i g
   unfolding inputPlacesFault testsFault testPlaceFault gateInputsFault inputPlaceFault
   inputs-kept tests-most gates-most e =
-      let both = first-kept _ _ e in
-      let tests = places-kept (g .tests) mostTests _ _ tests-most (both .left) in
-      let inputs = places-kept (g .gates) mostGateInputs _ _ gates-most (both .right) in
+      let front = list-kept _ _ e in
+      let back = both-kept _ _ (front .right) in
+      let tests = places-kept (g .tests) mostTests _ _ tests-most (front .left) in
+      let inputs = places-kept (g .gates) mostGateInputs _ _ gates-most (back .left) in
       record {
         component = λ j less. first-kept _ _ (tests .in-use j less) .left;
         mask = λ j less. first-kept _ _ (tests .in-use j less) .right;
@@ -90,21 +94,29 @@ module _ (counts : List ℕ) (i : ℕ) (g : Gate) where
               mask = λ j from less. unused-fields _ _ 0 0 (tests .behind j from less) .field2;
               input = λ j from less. unused-fields _ 0 0 0 (inputs .behind j from less) .field1;
             };
+        order = order-kept g (back .right);
       }
 
   inputs-none : SoundInputs counts i g → inputPlacesFault counts i g ≡ 0
   unfolding inputPlacesFault testsFault testPlaceFault gateInputsFault inputPlaceFault
   inputs-none s =
-      first-none _ _
+      list-none _ _
       (places-none (g .tests) mostTests _ _
       (record {
         in-use = λ j less. first-none _ _ (s .component j less) (s .mask j less);
         behind = λ j from less. unused-none _ _ 0 0 (s .behind .component j from less) (s .behind .mask j from less) refl refl;
       }))
+      (list-none _ _
       (places-none (g .gates) mostGateInputs _ _
       (record { in-use = s .input; behind = λ j from less. unused-none _ 0 0 0 (s .behind .input j from less) refl refl refl }))
+      (list-none _ _ (order-none g (s .order)) none-none))
 
-  gate-kept : gateFault counts i g ≡ 0 → SoundGate counts i g
+  -- a gate in use keeps its rules, and its inputs stand in order
+  record Ordered : Type 0 where
+    rules : SoundGate counts i g
+    order : InOrder g
+
+  gate-kept : gateFault counts i g ≡ 0 → Ordered
   unfolding gateFault voteFault
   gate-kept e =
       let both = first-kept _ _ e in
@@ -113,20 +125,24 @@ module _ (counts : List ℕ) (i : ℕ) (g : Gate) where
       let tests-most = input-count-kept mostTests (g .tests) (tests .left) in
       let inputs = inputs-kept tests-most (input-count-kept mostGateInputs (g .gates) (gates .left)) (both .right) in
       record {
-        tests = tests .left;
-        gates = gates .left;
-        component = inputs .component;
-        mask = inputs .mask;
-        input = inputs .input;
-        threshold = gates .right;
-        behind = inputs .behind;
+        rules =
+            record {
+              tests = tests .left;
+              gates = gates .left;
+              component = inputs .component;
+              mask = inputs .mask;
+              input = inputs .input;
+              threshold = gates .right;
+              behind = inputs .behind;
+            };
+        order = inputs .order;
       }
 
-  gate-none : SoundGate counts i g → gateFault counts i g ≡ 0
+  gate-none : SoundGate counts i g → InOrder g → gateFault counts i g ≡ 0
   unfolding gateFault voteFault
-  gate-none s =
+  gate-none s order =
       first-none _ _ (list-none _ _ (s .tests) (list-none _ _ (s .gates) (list-none _ _ (s .threshold) none-none)))
-      (inputs-none (record { component = s .component; mask = s .mask; input = s .input; behind = s .behind }))
+      (inputs-none (record { component = s .component; mask = s .mask; input = s .input; behind = s .behind; order = order }))
 
   no-gate-kept : unusedGateFault counts i g ≡ 0 → UnusedGate g
   unfolding unusedGateFault
@@ -146,6 +162,7 @@ module _ (counts : List ℕ) (i : ℕ) (g : Gate) where
         mask = λ j less. absurd (omega arith);
         input = λ j less. absurd (omega arith);
         behind = u .behind;
+        order = none-ordered g (u .tests) (u .gates);
       }))
 
 -- ---- loads
@@ -192,7 +209,8 @@ check-refuses t e =
       component = λ i less. component-kept (componentAt t i) (component .in-use i less);
       no-component = λ i from less. no-component-kept (componentAt t i) (component .behind i from less);
       width = width .left;
-      gate = λ i less. gate-kept (stateCounts t) i (gateAt t i) (gate .in-use i less);
+      gate = λ i less. gate-kept (stateCounts t) i (gateAt t i) (gate .in-use i less) .rules;
+      order = λ i less. gate-kept (stateCounts t) i (gateAt t i) (gate .in-use i less) .order;
       no-gate = λ i from less. no-gate-kept (stateCounts t) i (gateAt t i) (gate .behind i from less);
       load = λ j less. load-kept (t .gates) (loadAt t j) (load .in-use j less);
       no-load = λ j from less. no-load-kept (loadAt t j) (load .behind j from less);
@@ -210,7 +228,7 @@ check-accepts t s =
     let gate =
     places-none _ mostGates _ _
     (record {
-      in-use = λ i less. gate-none (stateCounts t) i (gateAt t i) (s .gate i less);
+      in-use = λ i less. gate-none (stateCounts t) i (gateAt t i) (s .gate i less) (s .order i less);
       behind = λ i from less. no-gate-none (stateCounts t) i (gateAt t i) (s .no-gate i from less);
     }) in
     let load =

@@ -18,6 +18,7 @@ use Rattle.study.specs.Inputs.{inputCount}
 use Rattle.study.specs.Joint.{stateCounts}
 use Rattle.study.specs.Places.{noGate}
 use Rattle.study.specs.Zero.{zeroComponent, zeroLoad}
+use Rattle.gate_order.specs.Order.{orderFault}
 
 -- probabilities of states 1 to 3 of a component with so many states: 5 for one above 0 of a state that it lacks, then 6
 unfoldable pub probabilitiesFault : ℕ → ℕ → ℕ → ℕ → ℕ
@@ -58,9 +59,13 @@ inputPlaceFault i gates j input = inUse gates j (aheadFault i input) (unusedFaul
 unfoldable pub gateInputsFault : ℕ → ℕ → List ℕ → ℕ
 gateInputsFault i gates input = firstOf (λ (j : ℕ). inputPlaceFault i gates j (getD input j 0)) mostGateInputs 0
 
--- the places of the inputs of gate i
+-- the places of the inputs of gate i, and then their order
 unfoldable pub inputPlacesFault : List ℕ → ℕ → Gate → ℕ
-inputPlacesFault counts i g = first (testsFault counts (g .tests) (g .component) (g .mask)) (gateInputsFault i (g .gates) (g .input))
+unfolding orderFault
+inputPlacesFault counts i g =
+    firstBreach (
+    testsFault counts (g .tests) (g .component) (g .mask) ∷ gateInputsFault i (g .gates) (g .input) ∷ orderFault g ∷ []
+    )
 
 -- how a gate votes: its counts of inputs and its threshold
 unfoldable pub voteFault : Gate → ℕ

@@ -1,5 +1,5 @@
--- A sound study: every rule of the format is kept, and every place that no record uses holds 0. The rules are the rows of the refusal table
--- by which opening refuses. A study that is not sound is refused with 16.
+-- A sound study: every rule of the format is kept, the inputs of each gate stand in order, and every place that no record uses holds 0. The rules are the
+-- rows of the refusal table by which opening refuses. A study that is not sound is refused with 16.
 use Prim.Native.Nat.{ℕ, _<_, _≤_}
 use mathlib.Core.Path.{_≡_}
 use mathlib.Core.List.{List}
@@ -16,6 +16,7 @@ use Rattle.study.specs.Inputs.{inputCount}
 use Rattle.study.specs.Joint.{stateCounts}
 use Rattle.study.specs.Places.{componentAt, gateAt, loadAt}
 use Rattle.study.specs.Zero.{zeroComponent, zeroLoad}
+use Rattle.gate_order.specs.Order.{InOrder}
 
 pub record SoundComponent (c : Component) : Type 0 where
   pub states : statesFault (c .states) ≡ 0
@@ -63,6 +64,8 @@ pub record Sound (t : Study) : Type 0 where
   pub no-component : (i : ℕ) → t .components ≤ i → i < mostComponents → componentAt t i ≡ zeroComponent
   pub width : widthFault (product (stateCounts t)) ≡ 0
   pub gate : (i : ℕ) → i < t .gates → SoundGate (stateCounts t) i (gateAt t i)
+  -- tests by component, then by mask, and gate inputs by number
+  pub order : (i : ℕ) → i < t .gates → InOrder (gateAt t i)
   pub no-gate : (i : ℕ) → t .gates ≤ i → i < mostGates → UnusedGate (gateAt t i)
   pub load : (j : ℕ) → j < t .loads → SoundLoad (t .gates) (loadAt t j)
   pub no-load : (j : ℕ) → t .loads ≤ j → j < mostLoads → loadAt t j ≡ zeroLoad

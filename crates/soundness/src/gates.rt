@@ -1,6 +1,7 @@
 // The gate places of a study.
 use crate::inputs::gate_inputs_fault;
 use crate::inputs::tests_fault;
+use gate_order::order_fault;
 use rules::GATE_PLACES;
 use rules::MOST_GATE_INPUTS;
 use rules::MOST_TESTS;
@@ -13,10 +14,24 @@ use rules::unused_fault;
 use study::Gate;
 use study::input_count;
 ghost use mathlib.Core.Path.{_≡_};
-ghost use Rattle.soundness.specs.Check.{gatePlaceFault, gatesFault};
+ghost use Rattle.soundness.specs.Check.{inputPlacesFault, gatePlaceFault, gatesFault};
 
-// The first breach of gate place i of a study with n gates; `counts` has the state count of each component. The places of its inputs are judged
-// whether it is in use or not.
+// The first breach among the places of the inputs of gate i, and then of their order.
+fn input_places_fault(counts: &[u8], i: usize, g: Gate) -> u8
+    ensures { λ r. ⌜ r ≡ inputPlacesFault (now (counts .entry)) i g ⌝ }
+{
+    let component = g.component;
+    let mask = g.mask;
+    let input = g.input;
+    first_of_three(
+        tests_fault(counts, g.tests, component, mask),
+        gate_inputs_fault(i, g.gates, input),
+        order_fault(g),
+    )
+}
+
+// The first breach of gate place i of a study with n gates; `counts` has the state count of each component. Its inputs are judged whether it is in
+// use or not.
 fn gate_place_fault(counts: &[u8], n: u8, i: usize, g: Gate) -> u8
     ensures { λ r. ⌜ r ≡ gatePlaceFault (now (counts .entry)) n i g ⌝ }
 {
@@ -26,14 +41,7 @@ fn gate_place_fault(counts: &[u8], n: u8, i: usize, g: Gate) -> u8
         threshold_fault(input_count(g), g.threshold),
     );
     let unused = unused_fault(g.threshold as u32, g.tests as u32, g.gates as u32, 0);
-    let component = g.component;
-    let mask = g.mask;
-    let input = g.input;
-    let inputs = first(
-        tests_fault(counts, g.tests, component, mask),
-        gate_inputs_fault(i, g.gates, input),
-    );
-    first(in_use(n, i, used, unused), inputs)
+    first(in_use(n, i, used, unused), input_places_fault(counts, i, g))
 }
 
 // The first breach among the gate places.
