@@ -95,6 +95,10 @@ module _ (g : Gate) (fits : Fits g) where
             ∙ fits .shaped .input;
       }
 
+  pub in-order-fits : Fits (inOrder g)
+  unfolding inOrder
+  in-order-fits = record { shaped = in-order-shaped; tests = fits .tests; gates = fits .gates }
+
   -- ---- a gate in order stays as it is
 
   pub in-order-still : InOrder g → inOrder g ≡ g

@@ -8,12 +8,13 @@ use rules::GATE_PLACES;
 use rules::first;
 use rules::unsound_fault;
 use study::Gate;
+use study::Study;
 use tests::sort_tests;
 use tests::tests_ascend;
 ghost use Prim.Native.Nat.{min};
 ghost use mathlib.Core.Path.{_≡_};
 ghost use mathlib.Core.List.{map};
-ghost use Rattle.gate_order.specs.Order.{inOrder, orderFault};
+ghost use Rattle.gate_order.specs.Order.{inOrder, ordered as Order·ordered, orderFault};
 
 // As many places as a count says, and no more than there are.
 fn within(count: u8, places: usize) -> usize
@@ -48,7 +49,7 @@ fn in_order(g: Gate) -> Gate
 }
 
 // The gates with their inputs in order.
-pub fn gates_in_order(gate: [Gate; GATE_PLACES]) -> [Gate; GATE_PLACES]
+fn gates_in_order(gate: [Gate; GATE_PLACES]) -> [Gate; GATE_PLACES]
     ensures { λ r. ⌜ r ≡ map inOrder gate ⌝ }
 {
     let mut sorted = gate;
@@ -59,6 +60,17 @@ pub fn gates_in_order(gate: [Gate; GATE_PLACES]) -> [Gate; GATE_PLACES]
         i = i + 1;
     }
     sorted
+}
+
+// The study with the inputs of each gate in order.
+pub fn ordered(study: Study) -> Study
+    ensures { λ r. ⌜ r ≡ Order·ordered study ⌝ }
+{
+    let unsorted = study.gate;
+    let mut t = study;
+    let gate = gates_in_order(unsorted);
+    t.gate = gate;
+    t
 }
 
 // 16 where the inputs of a gate are out of order.

@@ -1,6 +1,6 @@
 -- What opening answers where a reading is refused, and where it is not.
 use Prim.Native.Nat.{ℕ, suc}
-use mathlib.Core.Path.{_≡_, refl, ap}
+use mathlib.Core.Path.{_≡_, refl, ap, _∙_}
 use mathlib.Core.List.{List, [], _∷_}
 use native.Mathlib.Nat.{zero-lt-suc}
 use native.Mathlib.Omega.{arith}
@@ -10,6 +10,7 @@ use Rattle.rules.specs.Breach.{refuse}
 use Rattle.rules.specs.Table.{leftFault}
 use Rattle.reading.specs.Reader.{Read, Reader, Reads, refused, got, andThen, asRead}
 use Rattle.study.specs.declared.Study.{Study}
+use Rattle.gate_order.specs.Order.{ordered}
 use Rattle.answers.specs.Answered.{answered}
 use Rattle.answers.specs.declared.outcome.Outcome.the-variants.{Done, Refused}
 use Rattle.opening.specs.Opening.{answer, refusedOpening}
@@ -32,9 +33,9 @@ module _ {left : ℕ} (t : Study) (rest : List ℕ) (rule : left ≡ leftFault (
   unfolding answer answered
   answer-left some = rw (← rule, ne-eqb left 0 some)
 
-  pub answer-ended : left ≡ 0 → record { outcome = Done; study = t } ≡ answer (got t rest)
+  pub answer-ended : {u : Study} → u ≡ ordered t → left ≡ 0 → record { outcome = Done; study = u } ≡ answer (got t rest)
   unfolding answer answered
-  answer-ended none = rw (← rule, eq-eqb left 0 none)
+  answer-ended {u} sorted none = ap (λ (v : Study). record { outcome = Done; study = v }) sorted ∙ rw (← rule, eq-eqb left 0 none)
 
 -- ---- by what was read
 

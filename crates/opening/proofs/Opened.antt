@@ -2,4 +2,5 @@
 pub mod Component
 pub mod Gate
 pub mod Load
+pub mod Order
 pub mod Study

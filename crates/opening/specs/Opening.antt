@@ -1,4 +1,5 @@
--- Opening a study: the three counts, then the component, gate and load records, then the end of the bytes.
+-- Opening a study: the three counts, then the component, gate and load records, then the end of the bytes. A study is read as the bytes give it, and
+-- answered with the inputs of its gates in order.
 use Prim.Native.Nat.{ℕ, _*_, _≤_}
 use mathlib.Core.List.{List}
 use lib.ListN.{length, take, set}
@@ -18,6 +19,7 @@ use Rattle.answers.specs.declared.outcome.Outcome.the-variants.{Done, Refused}
 use Rattle.answers.specs.declared.outcome.StudyAnswer.{StudyAnswer}
 use Rattle.study.specs.Joint.{states}
 use Rattle.study.specs.Zero.{noComponents, noGates, noLoads, zeroStudy}
+use Rattle.gate_order.specs.Order.{ordered}
 
 -- one of the first three bytes
 unfoldable pub count : ℕ → Reader ℕ
@@ -65,6 +67,7 @@ records components gates loads = do
   ls ← repeat (placing (loadRecord gates)) loads noLoads
   return (record { components = components; gates = gates; loads = loads; component = cs; gate = gs; load = ls })
 
+-- a study as the bytes give it
 unfoldable pub study : Reader Study
 study = do
   components ← count mostComponents
@@ -76,11 +79,20 @@ study = do
 unfoldable pub refusedOpening : ℕ → StudyAnswer
 refusedOpening n = record { outcome = Refused n; study = zeroStudy }
 
--- the answer to a reading; the end is judged last
+-- the answer to a reading; the end is judged last, and then the inputs of each gate are put in order
 unfoldable pub answer : Read Study → StudyAnswer
-unfolding answered
+unfolding answered ordered
 answer (refused n) = refusedOpening n
-answer (got t rest) = answered refusedOpening (leftFault (length rest)) (record { outcome = Done; study = t })
+answer (got t rest) = answered refusedOpening (leftFault (length rest)) (record { outcome = Done; study = ordered t })
+
+-- the study of a reading as the bytes give it, before its inputs are put in order; of zeros where the reading is refused
+unfoldable pub given : Read Study → Study
+given (refused n) = zeroStudy
+given (got t rest) = t
+
+unfoldable pub asGiven : List ℕ → Study
+unfolding given
+asGiven bytes = given (study bytes)
 
 -- what opening answers
 unfoldable pub opened : List ℕ → StudyAnswer

@@ -6,6 +6,7 @@ mod loads;
 use answers::Outcome;
 use answers::StudyAnswer;
 use components::read_components;
+use gate_order::ordered;
 use gates::read_gates;
 use loads::read_loads;
 use reading::ByteRead;
@@ -49,7 +50,7 @@ fn refused_opening(number: u8) -> StudyAnswer
     }
 }
 
-// The answer once every record is read: the bytes must end at this place.
+// The answer once every record is read: the bytes must end at this place, and the inputs of each gate are put in order.
 fn ended(bytes: &[u8], at: usize, study: Study) -> StudyAnswer
     ensures { λ r. ⌜ r ≡ answer (got study (drop at (now (bytes .entry)))) ⌝ }
 {
@@ -57,6 +58,7 @@ fn ended(bytes: &[u8], at: usize, study: Study) -> StudyAnswer
     if left != 0 {
         return refused_opening(left);
     }
+    let study = ordered(study);
     StudyAnswer {
         outcome: Outcome::Done,
         study,

@@ -15,7 +15,7 @@ use Rattle.rules.proofs.Kept.{range-kept}
 use Rattle.reading.specs.Reader.{Read, Reader, refused, got, byte, repeat}
 use Rattle.reading.proofs.Held.{Held, Gives, held, gives-then, gives-judge, gives-judged, gives-return, gives-repeat}
 use Rattle.answers.specs.Answered.{answered}
-use Rattle.opening.specs.Opening.{count, componentAfter, componentRecord, gateRecord, loadRecord, placing, records, study, refusedOpening, answer, opened}
+use Rattle.opening.specs.Opening.{count, componentAfter, componentRecord, gateRecord, loadRecord, placing, records, study, refusedOpening, answer, opened, given, asGiven}
 use Rattle.opening.proofs.Places.{joint-placed}
 use Rattle.study.specs.declared.Component.{Component}
 use Rattle.study.specs.declared.Gate.{Gate}
@@ -25,12 +25,14 @@ use Rattle.answers.specs.declared.outcome.Outcome.the-variants.{Done}
 use Rattle.study.specs.Joint.{states}
 use Rattle.study.specs.Places.{Shaped, ShapedGate, noGate}
 use Rattle.study.specs.Zero.{zeroComponent, zeroGate, zeroLoad, noComponents, noGates, noLoads, zeroStudy}
+use Rattle.gate_order.specs.Order.{ordered}
 use Rattle.soundness.specs.Sound.{SoundComponent, SoundGate, UnusedGate, SoundLoad, Sound}
 use Rattle.opening.specs.Laws.{OpenedSound, OpenedShaped}
 use Rattle.opening.proofs.Answers.{is-refused, left, left-over, not-both}
 use Rattle.opening.proofs.Opened.Component.{component-sound}
 use Rattle.opening.proofs.Opened.Gate.{WholeGate, gate-sound}
 use Rattle.opening.proofs.Opened.Load.{load-sound}
+use Rattle.opening.proofs.Opened.Order.{Given, ordered-rules, ordered-order, ordered-unused, ordered-shaped}
 
 count-sound : (most : ℕ) → Gives (count most) (λ (n : ℕ). countFault most n ≡ 0)
 unfolding count
@@ -131,14 +133,14 @@ no-loads gates = filled-none refl (λ k h. getD-replicate mostLoads k zeroLoad z
 
 -- ---- the study
 
--- a sound study with all its places
+-- a study as the bytes give it, which is sound once it is put in order
 record Whole (t : Study) : Type 0 where
-  is-sound : Sound t
-  shaped : Shaped t
+  given : Given t
+  is-sound : Sound (ordered t)
 
 records-sound : (components gates loads : ℕ) → countFault mostComponents components ≡ 0 → countFault mostGates gates ≡ 0 → countFault mostLoads loads ≡ 0
     → Gives (records components gates loads) Whole
-unfolding records
+unfolding records ordered
 records-sound components gates loads c g l =
     gives-then
     (gives-repeat ComponentsSoFar (placing componentRecord) components noComponents
@@ -150,8 +152,22 @@ records-sound components gates loads c g l =
     (λ gs gates-sound.
     gives-then (records-filled _ _ zeroLoad mostLoads (loadRecord gates) loads noLoads l (no-loads gates) (λ j ls. load-sound gates))
     (λ ls loads-sound.
+    let t : Study = record { components = components; gates = gates; loads = loads; component = cs; gate = gs; load = ls } in
+    let given : Given t =
+    record {
+      shaped =
+          record {
+            components = components-sound .filled .long;
+            gates = gates-sound .long;
+            loads = loads-sound .long;
+            gate = gates-shaped counts gates gs gates-sound;
+          };
+      gate = λ i below. gates-sound .below i below .kept;
+      no-gate = λ i from inside. gates-sound .behind i from inside .kept;
+    } in
     gives-return
     (record {
+      given = given;
       is-sound =
           record {
             components = c;
@@ -160,17 +176,11 @@ records-sound components gates loads c g l =
             component = components-sound .filled .below;
             no-component = components-sound .filled .behind;
             width = components-sound .width;
-            gate = λ i below. gates-sound .below i below .kept;
-            no-gate = λ i from inside. gates-sound .behind i from inside .kept;
+            gate = λ i below. ordered-rules t given i below (room mostGates gates g below);
+            order = λ i below. ordered-order t given i (room mostGates gates g below);
+            no-gate = ordered-unused t given;
             load = loads-sound .below;
             no-load = loads-sound .behind;
-          };
-      shaped =
-          record {
-            components = components-sound .filled .long;
-            gates = gates-sound .long;
-            loads = loads-sound .long;
-            gate = gates-shaped counts gates gs gates-sound;
           };
     }))))
 
@@ -199,9 +209,30 @@ zero-shaped = record { components = refl; gates = refl; loads = refl; gate = gat
 answer-shaped : (r : Read Study) → Held Whole r → Shaped (answer r .study)
 unfolding answer refuse refusedOpening answered
 answer-shaped (refused n) h = zero-shaped
-answer-shaped (got t []) h = h .shaped
+answer-shaped (got t []) h = ordered-shaped t (h .given)
 answer-shaped (got t (b ∷ rest)) h = rw (left-over t b rest) zero-shaped
 
 pub opened-shaped : OpenedShaped
 unfolding opened
 opened-shaped bytes = answer-shaped (study bytes) (held study-sound bytes)
+
+-- ---- as the bytes give it
+
+answer-given : (r : Read Study) → Held Whole r → answer r .outcome ≡ Done → Given (given r)
+unfolding answer given
+answer-given (refused n) h e = absurd (not-both n (cc (is-refused n)))
+answer-given (got t rest) h e = h .given
+
+pub opened-given : (bytes : List ℕ) → opened bytes .outcome ≡ Done → Given (asGiven bytes)
+unfolding opened asGiven
+opened-given bytes done = answer-given (study bytes) (held study-sound bytes) done
+
+answer-ordered : (r : Read Study) → answer r .outcome ≡ Done → answer r .study ≡ ordered (given r)
+unfolding answer given refuse answered
+answer-ordered (refused n) e = absurd (not-both n (cc (is-refused n)))
+answer-ordered (got t []) e = refl
+answer-ordered (got t (b ∷ rest)) e = absurd (not-both 15 (cc (left t b rest)))
+
+pub opened-ordered : (bytes : List ℕ) → opened bytes .outcome ≡ Done → opened bytes .study ≡ ordered (asGiven bytes)
+unfolding opened asGiven
+opened-ordered bytes done = answer-ordered (study bytes) done

@@ -1,0 +1,69 @@
+-- What putting the inputs of a gate in order keeps: whatever holds of each input, and what stands behind them.
+use Prim.Native.Nat.{ℕ, _+_, _<_, _≤_}
+use mathlib.Core.Path.{_≡_, refl, sym, ap, subst, _∙_}
+use mathlib.Core.List.{map}
+use native.Mathlib.Omega.{arith}
+use lib.ListN.{length, getD, take, length-map}
+use lib.Seq.{getD-take}
+use Rattle.lists.proofs.Elements.{Every}
+use Rattle.lists.proofs.Fronts.{put-behind}
+use Rattle.lists.proofs.Maps.{getD-map-inside}
+use Rattle.ordering.specs.Inputs.{Input, noInput, paired, numbers, masks, sorted}
+use Rattle.ordering.proofs.Pairs.{getD-paired}
+use Rattle.ordering.proofs.Sorted.{sorted-long, sorted-every}
+use Rattle.study.specs.declared.Gate.{Gate}
+use Rattle.gate_order.specs.Order.{unmasked, testsOf, gateInputsOf, inOrder}
+use Rattle.gate_order.proofs.InOrder.{Fits, tests-long, gate-inputs-long, tests-sorted, gate-inputs-sorted, in-order-fits}
+
+-- test j of a gate
+abbrev pub testAt : Gate → ℕ → Input
+testAt g j = record { number = getD (g .component) j 0; mask = getD (g .mask) j 0 }
+
+module _ (g : Gate) (fits : Fits g) (j : ℕ) where
+  pub test-at : j < g .tests → getD (testsOf g) j noInput ≡ testAt g j
+  test-at below =
+      getD-take (g .tests) (paired (g .component) (g .mask)) j noInput below
+      ∙ getD-paired (g .component) (g .mask) j (fits .shaped .component ∙ sym (fits .shaped .mask))
+
+  pub gate-input-at : j < g .gates → getD (gateInputsOf g) j noInput ≡ unmasked (getD (g .input) j 0)
+  gate-input-at below =
+      getD-take (g .gates) (map unmasked (g .input)) j noInput below
+      ∙ getD-map-inside unmasked (g .input) j 0 noInput (omega (arith, fits .shaped .input, fits .gates))
+
+module _ (P : Input → Type 0) (g : Gate) (fits : Fits g) where
+  pub tests-every : ((j : ℕ) → j < g .tests → P (testAt g j)) → (j : ℕ) → j < g .tests → P (testAt (inOrder g) j)
+  unfolding inOrder
+  tests-every each j below =
+      let rows : Every P noInput (testsOf g) =
+      λ k inside. let less : k < g .tests = omega (arith, tests-long g fits) in subst P (sym (test-at g fits k less)) (each k less) in
+      let sorts = sorted-every P (testsOf g) rows in
+      let inside : j < length (sorted (testsOf g)) = omega (arith, below, sorted-long (testsOf g), tests-long g fits) in
+      subst P (ap (λ (row : _). getD row j noInput) (sym (tests-sorted g fits)) ∙ test-at (inOrder g) (in-order-fits g fits) j below) (sorts j inside)
+
+  pub gate-inputs-every : ((j : ℕ) → j < g .gates → P (unmasked (getD (g .input) j 0))) → (j : ℕ) → j < g .gates → P (unmasked (getD (inOrder g .input) j 0))
+  unfolding inOrder
+  gate-inputs-every each j below =
+      let rows : Every P noInput (gateInputsOf g) =
+      λ k inside. let less : k < g .gates = omega (arith, gate-inputs-long g fits) in subst P (sym (gate-input-at g fits k less)) (each k less) in
+      let sorts = sorted-every P (gateInputsOf g) rows in
+      let inside : j < length (sorted (gateInputsOf g)) = omega (arith, below, sorted-long (gateInputsOf g), gate-inputs-long g fits) in
+      subst P (ap (λ (row : _). getD row j noInput) (sym (gate-inputs-sorted g fits)) ∙ gate-input-at (inOrder g) (in-order-fits g fits) j below) (sorts j inside)
+
+module _ (g : Gate) (fits : Fits g) (j : ℕ) where
+  pub component-behind : g .tests ≤ j → getD (inOrder g .component) j 0 ≡ getD (g .component) j 0
+  unfolding inOrder
+  component-behind from =
+      put-behind (g .component) (numbers (sorted (testsOf g))) j
+      (omega (arith, length-map (sorted (testsOf g)) (λ (a : Input). a .number), sorted-long (testsOf g), tests-long g fits))
+
+  pub mask-behind : g .tests ≤ j → getD (inOrder g .mask) j 0 ≡ getD (g .mask) j 0
+  unfolding inOrder
+  mask-behind from =
+      put-behind (g .mask) (masks (sorted (testsOf g))) j
+      (omega (arith, length-map (sorted (testsOf g)) (λ (a : Input). a .mask), sorted-long (testsOf g), tests-long g fits))
+
+  pub input-behind : g .gates ≤ j → getD (inOrder g .input) j 0 ≡ getD (g .input) j 0
+  unfolding inOrder
+  input-behind from =
+      put-behind (g .input) (numbers (sorted (gateInputsOf g))) j
+      (omega (arith, length-map (sorted (gateInputsOf g)) (λ (a : Input). a .number), sorted-long (gateInputsOf g), gate-inputs-long g fits))
