@@ -1,16 +1,18 @@
 -- Case A has its report, and a refused study its line, by computation over the definitions.
 use mathlib.Core.Path.{refl}
 use Rattle.lists.specs.Counting.{sumOver}
-use Rattle.lists.specs.Rows.{joined}
+use Rattle.lists.specs.Rows.{put, joined}
 use Rattle.lists.specs.Run.{each}
 use Rattle.lists.specs.Tabulate.{tabulate}
 use Rattle.units.specs.Rounding.{quotientDown, quotientUp}
+use Rattle.ordering.specs.Inputs.{paired, placed, sorted}
 use Rattle.rules.specs.Breach.{refuse, outside}
 use Rattle.text.specs.Lines.{field, numberLine, boundsEnd, boundsLine, itemLine}
 use Rattle.text.specs.Numbers.{decimalWithin, decimal}
 use Rattle.words.specs.Words.{refusalWords, refusalWord}
 use Rattle.study.specs.Absent.{absentGate}
 use Rattle.study.specs.Zero.{zeroStudy}
+use Rattle.gate_order.specs.Order.{inOrder, ordered}
 use Rattle.reading.specs.Fields.{mapByte}
 use Rattle.reading.specs.Reader.{byte, word}
 use Rattle.component_record.specs.Component.{stateCount, probability, componentField, component}
@@ -36,6 +38,7 @@ unfolding each refuse outside byte word mapByte
     threshold inputsByte test tests gateField gate
     lossGate size customers minutes loadField load
     count componentAfter componentRecord records study answered answer opened
+    put paired placed sorted inOrder ordered
     absentGate zeroStudy
     modelOf pathsOf probabilityTable total classBorne tabulate figuresBy quotientDown quotientUp
     sumOver joined field numberLine boundsEnd boundsLine itemLine decimalWithin decimal

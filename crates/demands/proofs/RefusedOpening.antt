@@ -9,6 +9,7 @@ use Rattle.rules.specs.Breach.{refuse, outside}
 use Rattle.rules.specs.Table.{leftFault}
 use Rattle.study.specs.declared.Study.{Study}
 use Rattle.study.specs.Zero.{zeroStudy}
+use Rattle.gate_order.specs.Order.{ordered}
 use Rattle.answers.specs.Answered.{answered}
 use Rattle.answers.specs.declared.outcome.Outcome.the-variants.{Done, Refused}
 use Rattle.reading.specs.Reader.{Read, refused, got}
@@ -26,7 +27,7 @@ either-zeros false t breach n is = refl
 refused-zeros : (r : Read Study) (n : ℕ) → answer r .outcome ≡ Refused n → answer r .study ≡ zeroStudy
 unfolding answer answered refusedOpening
 refused-zeros (refused m) n is = refl
-refused-zeros (got t rest) n is = either-zeros (eqb (leftFault (length rest)) 0) t (leftFault (length rest)) n is
+refused-zeros (got t rest) n is = either-zeros (eqb (leftFault (length rest)) 0) (ordered t) (leftFault (length rest)) n is
 
 -- no components is fewer than one
 no-components : Sound zeroStudy → ⊥

@@ -5,11 +5,12 @@ use mathlib.Core.Path.{_≡_, refl, sym, ap, subst, _∙_}
 use mathlib.Core.List.{List, [], _∷_}
 use mathlib.Core.Option.{none, some}
 use lib.ListN.{length}
-use Rattle.lists.specs.Rows.{joined}
+use Rattle.lists.specs.Rows.{put, joined}
 use Rattle.lists.specs.Run.{each}
 use Rattle.lists.specs.Tabulate.{tabulate}
 use Rattle.lists.proofs.Tabulated.{getD-tabulate, length-tabulate}
 use Rattle.units.specs.Rounding.{quotientDown, quotientUp}
+use Rattle.ordering.specs.Inputs.{paired, placed, sorted}
 use Rattle.rules.specs.Breach.{refuse, outside, firstBreach}
 use Rattle.rules.specs.Table.{unsoundFault}
 use Rattle.rules.proofs.Kept.{list-none, none-none, front-kept, list-last}
@@ -17,6 +18,7 @@ use Rattle.rules.proofs.Rows.{room-none, item-none}
 use Rattle.study.specs.declared.Study.{Study}
 use Rattle.study.specs.Absent.{absentGate}
 use Rattle.study.specs.Zero.{zeroStudy}
+use Rattle.gate_order.specs.Order.{inOrder, ordered}
 use Rattle.entries.specs.Entries.{classPlaces, classBorne}
 use Rattle.model.specs.Model.{Model, pathsOf, probabilityTable}
 use Rattle.probability.specs.Bounds.{total}
@@ -140,6 +142,7 @@ unfolding each refuse outside byte word mapByte
     threshold inputsByte test tests gateField gate
     lossGate size customers minutes loadField load
     count componentAfter componentRecord records study answered answer opened
+    put paired placed sorted inOrder ordered
     absentGate zeroStudy votes opens listing
     modelOf pathsOf probabilityTable pathBounds total classBorne tabulate figuresBy quotientDown quotientUp
 worked-examples = (
