@@ -12,6 +12,9 @@
 /* The bytes of a study's image; a slice with fewer is refused by 16, and bytes behind them are never touched. */
 #define GRID_STUDY_BYTES 2087
 
+/* Room for any study that is written: no longer one opens. */
+#define GRID_LONGEST_STUDY 2023
+
 /* Room for any list of paths: 4,096 entries of 13 bytes. */
 #define GRID_LIST_BYTES 53248
 
@@ -31,7 +34,8 @@
 extern "C" {
 #endif
 
-/* Opens the bytes of a study and writes its image at the front of `study`. Answers 0. Refused by 1 to 15, then 18. */
+/* Opens the bytes of a study and writes its image at the front of `study`, where the tests of a gate ascend by component, then by mask, and its
+ * gate inputs ascend. Answers 0. Refused by 1 to 15, then 18. */
 int64_t grid_open(const uint8_t *bytes, size_t bytes_len, uint8_t *study, size_t study_len);
 
 /* Sets the probabilities of states 1 to 3 of a component. Answers 0. Refused by 16, 17, 5, 6. */
@@ -42,6 +46,10 @@ int64_t grid_set_customers(uint8_t *study, size_t study_len, size_t load, uint32
 
 /* Sets the restore time of a load in minutes. Answers 0. Refused by 16, 17, 14. */
 int64_t grid_set_minutes(uint8_t *study, size_t study_len, size_t load, uint32_t minutes);
+
+/* Writes a study at the front of `bytes`, which open to the same study again. A field that holds its absent value is not written. Answers the
+ * number of bytes. Refused by 16, 18. */
+int64_t grid_write(const uint8_t *study, size_t study_len, uint8_t *bytes, size_t bytes_len);
 
 /* Lists the paths at the front of `buffer`: for each a byte per component, its state or 255 for blank, then the class.
  * Answers the number of paths. Refused by 16, 18. */

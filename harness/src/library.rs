@@ -3,6 +3,9 @@
 /// The bytes of a study's image.
 pub const STUDY_BYTES: usize = 2087;
 
+/// The bytes of the longest study that is written.
+pub const LONGEST_STUDY: usize = 2023;
+
 /// A result, or the number of the refusal table by which the call was refused.
 pub type Answer<T> = Result<T, u8>;
 
@@ -18,6 +21,7 @@ extern "C" {
     ) -> i64;
     fn grid_set_customers(study: *mut u8, size: usize, load: usize, customers: u32) -> i64;
     fn grid_set_minutes(study: *mut u8, size: usize, load: usize, minutes: u32) -> i64;
+    fn grid_write(study: *const u8, size: usize, bytes: *mut u8, room: usize) -> i64;
     fn grid_list_paths(study: *const u8, size: usize, buffer: *mut u8, room: usize) -> i64;
     fn grid_path_bounds(
         study: *const u8,
@@ -77,6 +81,11 @@ pub fn set_customers(study: &mut [u8], load: usize, customers: u32) -> Answer<us
 /// Sets the restore time of a load. Refused by 16, 17, 14.
 pub fn set_minutes(study: &mut [u8], load: usize, minutes: u32) -> Answer<usize> {
     answer(unsafe { grid_set_minutes(study.as_mut_ptr(), study.len(), load, minutes) })
+}
+
+/// Writes a study out as bytes, and answers how many they are. Refused by 16, 18.
+pub fn write(study: &[u8], bytes: &mut [u8]) -> Answer<usize> {
+    answer(unsafe { grid_write(study.as_ptr(), study.len(), bytes.as_mut_ptr(), bytes.len()) })
 }
 
 /// Lists the paths at the front of a buffer, and answers how many there are. Refused by 16, 18.
