@@ -1,24 +1,32 @@
 //! The library's calls over lent bytes, in the same form: a count or a refusal, and nothing lent touched where refused.
 use super::bounds::{bounded_paths, class_bounds as by_class, load_bounds as of_load, Bounds};
 use super::figures::{figures as figures_of, Figures};
-use super::image::{read, write, IMAGE_BYTES};
+use super::image::{self, IMAGE_BYTES};
 use super::losses::Losses;
 use super::opening;
 use super::paths::paths;
 use super::refusals::*;
 use super::report::report as report_of;
 use super::study::*;
+use super::writing;
 
 type Answer = Result<usize, u8>;
 
 /// The study of an image, or 16.
 fn sound(image: &[u8]) -> Result<Study, u8> {
-    read(image).ok_or(UNSOUND)
+    image::read(image).ok_or(UNSOUND)
 }
 
 /// The image anew: what stands behind it stays.
 fn put(study: &Study, image: &mut [u8]) {
-    image[..IMAGE_BYTES].copy_from_slice(&write(study));
+    image[..IMAGE_BYTES].copy_from_slice(&image::write(study));
+}
+
+/// All of it at the front of a buffer, or nothing.
+fn hand_over(whole: &[u8], buffer: &mut [u8]) -> Answer {
+    unless(buffer.len() >= whole.len(), NO_ROOM)?;
+    buffer[..whole.len()].copy_from_slice(whole);
+    Ok(whole.len())
 }
 
 pub fn open(bytes: &[u8], image: &mut [u8]) -> Answer {
@@ -57,6 +65,10 @@ pub fn set_minutes(image: &mut [u8], load: usize, minutes: u32) -> Answer {
     edited.minutes = minutes;
     put(&study, image);
     Ok(0)
+}
+
+pub fn write(image: &[u8], bytes: &mut [u8]) -> Answer {
+    hand_over(&writing::write(&sound(image)?), bytes)
 }
 
 pub fn list_paths(image: &[u8], buffer: &mut [u8]) -> Answer {
@@ -123,17 +135,10 @@ pub fn loads_lost(class: u8) -> Answer {
     Ok((0..8).filter(|load| class & (1 << load) != 0).count())
 }
 
-/// A text at the front of a buffer, whole or not at all.
-fn hand_over(whole: &str, text: &mut [u8]) -> Answer {
-    unless(text.len() >= whole.len(), NO_ROOM)?;
-    text[..whole.len()].copy_from_slice(whole.as_bytes());
-    Ok(whole.len())
-}
-
 pub fn report(bytes: &[u8], text: &mut [u8]) -> Answer {
-    hand_over(&report_of(bytes), text)
+    hand_over(report_of(bytes).as_bytes(), text)
 }
 
 pub fn refusal_word(number: u8, text: &mut [u8]) -> Answer {
-    hand_over(word(number), text)
+    hand_over(word(number).as_bytes(), text)
 }

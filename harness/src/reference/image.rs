@@ -134,8 +134,8 @@ fn read_load(place: &[u8], gates: usize) -> Option<Load> {
     })
 }
 
-/// The study of an image, unless a rule is broken or a place that no record uses holds something.
-pub fn read(image: &[u8]) -> Option<Study> {
+/// The study of an image, unless a rule is broken or a place that no record uses holds something; the inputs of its gates may stand in any order.
+pub fn read_in_any_order(image: &[u8]) -> Option<Study> {
     let image = image.get(..IMAGE_BYTES)?;
     let counts = [image[0], image[1], image[2]].map(usize::from);
     rule((1..=MOST_COMPONENTS).contains(&counts[0]))?;
@@ -161,4 +161,11 @@ pub fn read(image: &[u8]) -> Option<Study> {
         gates,
         loads,
     })
+}
+
+/// The study of a sound image.
+pub fn read(image: &[u8]) -> Option<Study> {
+    let study = read_in_any_order(image)?;
+    rule(study.gates.iter().all(Gate::is_in_order))?;
+    Some(study)
 }

@@ -1,4 +1,4 @@
-//! The second implementation: every call once more, from the scope paper alone, in the plainest way that gives the answer.
+//! The second implementation: every call once more, from the papers alone, in the plainest way that gives the answer.
 //! It goes over joint states one by one and is slow. Nothing here was taken from the proved code or from the port.
 pub mod bounds;
 pub mod calls;
@@ -10,3 +10,4 @@ pub mod paths;
 pub mod refusals;
 pub mod report;
 pub mod study;
+pub mod writing;

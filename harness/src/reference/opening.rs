@@ -1,4 +1,4 @@
-//! Opening: the fields from left to right, and the first breach met.
+//! Opening: the fields from left to right, and the first breach met; then the inputs of each gate in order.
 use super::refusals::*;
 use super::study::*;
 
@@ -129,8 +129,8 @@ fn load(unread: &mut Unread, gates: usize) -> Result<Load, u8> {
     Ok(load)
 }
 
-/// The study that the bytes hold, or the number of the first breach.
-pub fn open(bytes: &[u8]) -> Result<Study, u8> {
+/// The study as the bytes give it, or the number of the first breach.
+pub fn given(bytes: &[u8]) -> Result<Study, u8> {
     let mut unread = Unread(bytes);
     let component_count = unread.count(MOST_COMPONENTS)?;
     let gate_count = unread.count(MOST_GATES)?;
@@ -151,5 +151,15 @@ pub fn open(bytes: &[u8]) -> Result<Study, u8> {
         study.loads.push(load(&mut unread, gate_count)?);
     }
     unless(unread.0.is_empty(), LEFT_OVER)?;
+    Ok(study)
+}
+
+/// The study that the bytes open to, or the number of the first breach.
+pub fn open(bytes: &[u8]) -> Result<Study, u8> {
+    let mut study = given(bytes)?;
+    for gate in &mut study.gates {
+        gate.tests.sort();
+        gate.gates.sort();
+    }
     Ok(study)
 }

@@ -19,7 +19,8 @@ pub struct Component {
     pub failed: [u32; 3],
 }
 
-#[derive(Clone, Debug, PartialEq)]
+/// Tests rank by component, then by mask.
+#[derive(Clone, Debug, PartialEq, Eq, PartialOrd, Ord)]
 pub struct Test {
     pub component: u8,
     pub mask: u8,
@@ -59,6 +60,13 @@ impl Component {
             0 => ONE - Component::failed_together(self.failed),
             _ => u128::from(self.failed[usize::from(state) - 1]),
         }
+    }
+}
+
+impl Gate {
+    /// Whether its tests ascend, and its gate inputs; an input that is there twice stands beside itself.
+    pub fn is_in_order(&self) -> bool {
+        self.tests.is_sorted() && self.gates.is_sorted()
     }
 }
 
