@@ -115,10 +115,43 @@ fn at_limit(random: &mut Random, image: &mut [u8]) {
     }
 }
 
-/// The image with one or more bytes altered.
+/// Whether the inputs of a gate at two places can be told apart.
+type Differ = fn(&[u8], usize, usize) -> bool;
+
+/// Exchanges two inputs of a gate, so that nothing but their order is wrong: tests of two components, tests of one component, or gate inputs.
+fn disorder(random: &mut Random, image: &mut [u8]) {
+    // Where in a gate the number of such inputs stands, and where the first of them; a test's mask stands 12 places behind its component.
+    let (count, first, differ): (usize, usize, Differ) = match random.below(3) {
+        0 => (1, 2, |image, j, k| image[j] != image[k]),
+        1 => (1, 2, |image, j, k| {
+            image[j] == image[k] && image[j + 12] != image[k + 12]
+        }),
+        _ => (26, 27, |image, j, k| image[j] != image[k]),
+    };
+    let mut pairs = Vec::new();
+    for gate in 0..usize::from(image[GATE]) {
+        let at = record(GATE, gate);
+        let places = at + first..at + first + usize::from(image[at + count]);
+        for k in places.clone() {
+            let before = (places.start..k).filter(|&j| differ(image, j, k));
+            pairs.extend(before.map(|j| (j, k)));
+        }
+    }
+    if pairs.is_empty() {
+        return;
+    }
+    let (j, k) = random.pick(&pairs);
+    image.swap(j, k);
+    let are_tests = count == 1;
+    if are_tests {
+        image.swap(j + 12, k + 12);
+    }
+}
+
+/// A sound image with one or more bytes altered.
 pub fn altered(random: &mut Random, image: &[u8]) -> Vec<u8> {
     let mut other = image.to_vec();
-    match random.below(12) {
+    match random.below(16) {
         0 => {
             let at = random.below(3);
             other[at] = near(random, other[at]);
@@ -131,6 +164,7 @@ pub fn altered(random: &mut Random, image: &[u8]) -> Vec<u8> {
         3 => odd_state_count(random, &mut other),
         4 => widen(random, &mut other),
         5 | 6 => at_limit(random, &mut other),
+        7..=10 => disorder(random, &mut other),
         _ => {
             let kind = random.below(3);
             let at = used(random, &other, kind) + random.below(KINDS[kind].1);

@@ -107,38 +107,73 @@ fn how_many(random: &mut Random, most: usize) -> usize {
     }
 }
 
+/// Leaves inputs as they were drawn, or has them ascend, or fall, or some stand again in place of others.
+fn arrange<T: Copy + Ord>(random: &mut Random, inputs: &mut [T]) {
+    match random.below(8) {
+        0 => inputs.sort(),
+        1 | 2 => inputs.sort_by(|one, other| other.cmp(one)),
+        3 | 4 => {
+            for j in 1..inputs.len() {
+                if random.once_in(2) {
+                    inputs[j] = inputs[random.below(j)];
+                }
+            }
+        }
+        _ => {}
+    }
+}
+
+fn tests(random: &mut Random, draft: &mut Draft, counts: &[u8], count: usize) {
+    let mut drawn = Vec::new();
+    for _ in 0..count {
+        let component = random.below(counts.len());
+        drawn.push((component, mask(random, counts[component])));
+    }
+    arrange(random, &mut drawn);
+    draft.byte(Role::TestCount, count as u8);
+    for (component, mask) in drawn {
+        let states = counts[component];
+        draft.byte(Role::TestComponent, component as u8);
+        draft.byte(Role::TestMask { states }, mask);
+    }
+}
+
+fn gate_inputs(random: &mut Random, draft: &mut Draft, own: u8, count: usize) {
+    let mut drawn = Vec::new();
+    for _ in 0..count {
+        drawn.push(random.below(usize::from(own)) as u8);
+    }
+    arrange(random, &mut drawn);
+    draft.byte(Role::InputCount, count as u8);
+    for input in drawn {
+        draft.byte(Role::Input { own }, input);
+    }
+}
+
 fn gate(random: &mut Random, draft: &mut Draft, counts: &[u8], own: u8) {
-    let inputs = match own {
+    let input_count = match own {
         0 => 0,
         _ => how_many(random, 31),
     };
-    let tests = how_many(random, 12).max(usize::from(inputs == 0));
-    let all = tests + inputs;
+    let test_count = how_many(random, 12).max(usize::from(input_count == 0));
+    let all = test_count + input_count;
     let threshold = match random.below(3) {
         0 => 1,
         1 => all,
         _ => random.between(1, all),
     };
     let with_threshold = given(random, threshold as u32, 1);
-    let map = u8::from(with_threshold) | u8::from(tests > 0) << 1 | u8::from(inputs > 0) << 2;
+    let (with_tests, with_inputs) = (test_count > 0, input_count > 0);
+    let map = u8::from(with_threshold) | u8::from(with_tests) << 1 | u8::from(with_inputs) << 2;
     draft.byte(Role::GateMap, map);
     if with_threshold {
         draft.byte(Role::Threshold { inputs: all as u8 }, threshold as u8);
     }
-    if tests > 0 {
-        draft.byte(Role::TestCount, tests as u8);
-        for _ in 0..tests {
-            let component = random.below(counts.len());
-            let states = counts[component];
-            draft.byte(Role::TestComponent, component as u8);
-            draft.byte(Role::TestMask { states }, mask(random, states));
-        }
+    if with_tests {
+        tests(random, draft, counts, test_count);
     }
-    if inputs > 0 {
-        draft.byte(Role::InputCount, inputs as u8);
-        for _ in 0..inputs {
-            draft.byte(Role::Input { own }, random.below(usize::from(own)) as u8);
-        }
+    if with_inputs {
+        gate_inputs(random, draft, own, input_count);
     }
 }
 

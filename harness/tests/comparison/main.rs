@@ -1,6 +1,7 @@
 //! Compares every call of the proved library with the second implementation, on generated inputs: sound, damaged and altered studies.
 //! The words behind `cargo test --test comparison --` may be another number of inputs, and another first seed.
 mod lent;
+mod orders;
 mod pair;
 mod tally;
 
@@ -15,7 +16,7 @@ const FIRST_SEED: u64 = 0;
 /// More room than the longest word needs.
 const MOST_ROOM: usize = 16;
 
-/// Each refusal and each kind of figures must be met this often, or the inputs say too little about it.
+/// Each refusal, each kind of figures and each kind of order must be met this often, or the inputs say too little about it.
 const OFTEN: usize = 300;
 
 /// Items that studies have, and others that they lack.
@@ -76,6 +77,7 @@ fn compare_questions(pair: &mut Pair, random: &mut Random, image: &[u8]) {
     let load = item(random, image, 2);
     pair.load_bounds(random, image, load);
     pair.figures(random, image);
+    pair.write(random, image);
 }
 
 fn compare_input(tally: &mut Tally, seed: u64) {
@@ -95,7 +97,8 @@ fn compare_input(tally: &mut Tally, seed: u64) {
         for _ in 0..2 {
             let altered = generate::altered(random, &edited);
             compare_questions(&mut pair, random, &altered);
-            compare_edits(&mut pair, random, &altered);
+            let edited = compare_edits(&mut pair, random, &altered);
+            pair.write(random, &edited);
         }
     }
 }
@@ -114,12 +117,19 @@ fn compare_words(tally: &mut Tally, seed: u64) {
 /// Whether the inputs met enough of what can happen.
 fn assert_enough(tally: &Tally) {
     assert!(tally.sound * 3 >= tally.inputs, "too few sound studies");
+    let often = |met: usize, what: &str| assert!(met >= OFTEN, "{what}: met {met} times");
     for number in 1..=19 {
-        let met = tally.refused[number];
-        assert!(met >= OFTEN, "refusal {number} was met {met} times");
+        often(tally.refused[number], &format!("refusal {number}"));
     }
-    assert!(tally.unstated >= OFTEN, "too few without CAIDI");
-    assert!(tally.mixed >= OFTEN, "too few with short and other loads");
+    often(tally.unstated, "without CAIDI");
+    often(tally.mixed, "short and other loads");
+    often(tally.given.least(), "inputs given out of order");
+    often(tally.falling, "inputs given in falling order");
+    often(tally.repeated, "inputs given twice");
+    often(tally.disordered.least(), "images out of order alone");
+    often(tally.written, "written");
+    often(tally.not_written[16], "not written by 16");
+    often(tally.not_written[18], "not written by 18");
 }
 
 fn main() {

@@ -1,10 +1,12 @@
 //! One input under both implementations: each call is made twice on equal space, and everything must be alike afterwards.
+mod saving;
+
 use crate::lent::{room, Lent};
 use crate::tally::Tally;
 use harness::generate::Random;
 use harness::library::{self, STUDY_BYTES};
 use harness::reference::calls as reference;
-use harness::reference::{image, losses::Losses, paths, report};
+use harness::reference::{image, losses::Losses, opening, paths, report};
 use harness::studies::to_hexadecimal;
 use std::fmt::Debug;
 
@@ -97,7 +99,9 @@ impl<'a> Pair<'a> {
             opened = (both.answer, both.lent.held().to_vec());
         }
         let (answer, image) = opened;
-        self.tally.sound += usize::from(answer.is_ok());
+        if let Ok(study) = opening::given(bytes) {
+            self.tally.count_sound(&study);
+        }
         if answer.is_err() && random.once_in(2) {
             return (false, vec![0; STUDY_BYTES]);
         }

@@ -1,4 +1,7 @@
 //! What was compared, counted.
+use crate::orders::{has_falling, has_repeats, Disorder};
+use harness::reference::image;
+use harness::reference::study::Study;
 use std::fmt;
 
 #[derive(Default)]
@@ -12,6 +15,15 @@ pub struct Tally {
     pub unstated: usize,
     /// Figures with losses of short loads beside those of others.
     pub mixed: usize,
+    /// Sound studies whose bytes give inputs out of order, in falling order, and twice.
+    pub given: Disorder,
+    pub falling: usize,
+    pub repeated: usize,
+    /// How often a study was written, and how often that was refused, by number.
+    pub written: usize,
+    pub not_written: [usize; 20],
+    /// Images that break no rule but that of order.
+    pub disordered: Disorder,
 }
 
 impl Tally {
@@ -19,6 +31,28 @@ impl Tally {
         self.calls += 1;
         if let Err(number) = answer {
             self.refused[usize::from(number)] += 1;
+        }
+    }
+
+    /// Takes note of a sound study as its bytes give it.
+    pub fn count_sound(&mut self, study: &Study) {
+        self.sound += 1;
+        self.given.count(study);
+        self.falling += usize::from(has_falling(study));
+        self.repeated += usize::from(has_repeats(study));
+    }
+
+    /// Takes note of an image that is to be written.
+    pub fn count_image(&mut self, image: &[u8]) {
+        if let Some(study) = image::read_in_any_order(image) {
+            self.disordered.count(&study);
+        }
+    }
+
+    pub fn count_write(&mut self, answer: Result<usize, u8>) {
+        match answer {
+            Ok(_) => self.written += 1,
+            Err(number) => self.not_written[usize::from(number)] += 1,
         }
     }
 
@@ -32,7 +66,7 @@ impl Tally {
 
 impl fmt::Display for Tally {
     fn fmt(&self, line: &mut fmt::Formatter) -> fmt::Result {
-        write!(
+        writeln!(
             line,
             "{} inputs ({} sound), {} calls alike; refused by number 1 to 19: {:?}; figures without CAIDI: {}, of short and other loads: {}",
             self.inputs,
@@ -41,6 +75,16 @@ impl fmt::Display for Tally {
             &self.refused[1..],
             self.unstated,
             self.mixed
+        )?;
+        writeln!(
+            line,
+            "sound studies with inputs out of order by {}; in falling order: {}, twice: {}",
+            self.given, self.falling, self.repeated
+        )?;
+        write!(
+            line,
+            "{} times written and opened again, refused by 16: {}, by 18: {}; images out of order alone, by {}",
+            self.written, self.not_written[16], self.not_written[18], self.disordered
         )
     }
 }
