@@ -1,4 +1,5 @@
-//! Opens a study: bytes to places, or the number of the first breach.
+//! Opens a study: bytes to places, or the number of the first breach; then the inputs of each gate in order.
+use super::ordering::put_in_order;
 use super::study::*;
 
 struct Reader<'a> {
@@ -51,7 +52,7 @@ fn bit(map: u8, k: u8) -> bool {
 
 fn read_component(reader: &mut Reader, component: &mut Component) -> Result<(), u8> {
     let map = reader.map(4)?;
-    component.states = 2;
+    component.states = TWO_STATES;
     if bit(map, 0) {
         component.states = reader.byte()?;
         if !(2..=4).contains(&component.states) {
@@ -113,7 +114,7 @@ fn read_inputs(reader: &mut Reader, own: usize, gate: &mut Gate) -> Result<(), u
 
 fn read_gate(reader: &mut Reader, counts: &[u8], own: usize, gate: &mut Gate) -> Result<(), u8> {
     let map = reader.map(3)?;
-    gate.threshold = 1;
+    gate.threshold = OR;
     if bit(map, 0) {
         gate.threshold = reader.byte()?;
     }
@@ -170,5 +171,6 @@ pub fn open(bytes: &[u8]) -> Result<Study, u8> {
     if reader.at < bytes.len() {
         return Err(15);
     }
+    study.gate.iter_mut().for_each(put_in_order);
     Ok(study)
 }

@@ -150,9 +150,5 @@ pub fn report(bytes: &[u8], lent: &mut [u8]) -> Result<usize, u8> {
         Ok(study) => write_study(&mut text, &study),
         Err(refusal) => write_refusal(&mut text, refusal),
     }
-    let report = text.written();
-    lent.get_mut(..report.len())
-        .ok_or(18)?
-        .copy_from_slice(report);
-    Ok(report.len())
+    text.hand_over(lent)
 }

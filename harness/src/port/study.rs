@@ -15,17 +15,23 @@ pub const LONGEST_MOMENTARY: u32 = 5;
 /// Certainty, in units.
 pub const ONE: u64 = 1_000_000_000;
 
+/// The state count of a component that gives none.
+pub const TWO_STATES: u8 = 2;
+
+/// The threshold of a gate that gives none: one input is enough.
+pub const OR: u8 = 1;
+
 /// The loss gate of a load that is never lost.
 pub const NEVER: u8 = 255;
 
-#[derive(Clone, Copy, Default)]
+#[derive(Clone, Copy, Default, PartialEq)]
 pub struct Component {
     pub states: u8,
     /// The probabilities of states 1 to 3.
     pub failed: [u32; 3],
 }
 
-#[derive(Clone, Copy, Default)]
+#[derive(Clone, Copy, Default, PartialEq)]
 pub struct Gate {
     pub threshold: u8,
     pub tests: u8,
@@ -35,7 +41,7 @@ pub struct Gate {
     pub input: [u8; INPUT_PLACES],
 }
 
-#[derive(Clone, Copy, Default)]
+#[derive(Clone, Copy, Default, PartialEq)]
 pub struct Load {
     pub gate: u8,
     pub customers: u32,

@@ -1,30 +1,12 @@
-//! A buffer of text that grows at its end.
+//! The page that a report is composed on.
+use super::page::Page;
 
 /// Room for the longest report.
 const TEXT_BYTES: usize = 180_224;
 
-pub struct Text {
-    bytes: [u8; TEXT_BYTES],
-    size: usize,
-}
+pub type Text = Page<TEXT_BYTES>;
 
 impl Text {
-    pub fn new() -> Text {
-        Text {
-            bytes: [0; TEXT_BYTES],
-            size: 0,
-        }
-    }
-
-    pub fn written(&self) -> &[u8] {
-        &self.bytes[..self.size]
-    }
-
-    pub fn push(&mut self, words: &[u8]) {
-        self.bytes[self.size..self.size + words.len()].copy_from_slice(words);
-        self.size += words.len();
-    }
-
     pub fn number(&mut self, n: u64) {
         let mut digits = [0; 20];
         let mut from = digits.len();
