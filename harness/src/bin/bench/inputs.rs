@@ -1,7 +1,12 @@
 //! The studies that are timed.
+use harness::library::{self, STUDY_BYTES};
+use harness::port;
 use harness::reference::opening::open;
 use harness::reference::study::joint_state_count;
 use harness::studies::from_hexadecimal;
+
+/// Room for any report.
+pub const REPORT_BYTES: usize = 180_224;
 
 pub struct Input {
     pub name: String,
@@ -12,6 +17,22 @@ impl Input {
     pub fn joint_states(&self) -> usize {
         let study = open(&self.bytes).expect("a sound study");
         joint_state_count(&study.components)
+    }
+
+    /// The number in the first line of its report.
+    pub fn paths(&self) -> usize {
+        let mut text = vec![0; REPORT_BYTES];
+        let size = port::report(&self.bytes, &mut text).expect("room for any report");
+        let report = String::from_utf8_lossy(&text[..size]);
+        let number = report.split_whitespace().nth(1);
+        number.and_then(|n| n.parse().ok()).unwrap_or(0)
+    }
+
+    /// Its image, once opened.
+    pub fn image(&self) -> Vec<u8> {
+        let mut image = vec![0; STUDY_BYTES];
+        library::open(&self.bytes, &mut image).expect("a sound study");
+        image
     }
 }
 

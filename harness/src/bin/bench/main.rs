@@ -1,29 +1,11 @@
-//! Times the proved report beside its port to plain Rust, on the same studies in the same run. Build with --release.
+//! Times the proved calls beside their port to plain Rust, on the same studies in the same run. Build with --release.
 mod inputs;
 mod timing;
 
-use inputs::Input;
+use harness::library::{self, LONGEST_STUDY, STUDY_BYTES};
+use harness::port;
+use inputs::{Input, REPORT_BYTES};
 use timing::{side_by_side, Times};
-
-fn print_row(input: &Input) {
-    let Some(Times {
-        proved,
-        port,
-        paths,
-    }) = side_by_side(&input.bytes)
-    else {
-        println!("{:<22} the two reports differ", input.name);
-        return;
-    };
-    let ratio = proved / port;
-    println!(
-        "{:<22} {:>6} {:>12} {:>6} {proved:>12.2} {port:>12.2} {ratio:>7.2}",
-        input.name,
-        input.bytes.len(),
-        input.joint_states(),
-        paths,
-    );
-}
 
 fn print_head(title: &str) {
     println!("\n{title}");
@@ -33,16 +15,51 @@ fn print_head(title: &str) {
     );
 }
 
+fn print_row(input: &Input, times: Option<Times>) {
+    let Some(Times { proved, port }) = times else {
+        println!("{:<22} the two differ", input.name);
+        return;
+    };
+    let ratio = proved / port;
+    println!(
+        "{:<22} {:>6} {:>12} {:>6} {proved:>12.2} {port:>12.2} {ratio:>7.2}",
+        input.name,
+        input.bytes.len(),
+        input.joint_states(),
+        input.paths(),
+    );
+}
+
+fn report(input: &Input) {
+    let calls = [library::report, port::report];
+    print_row(input, side_by_side(calls, &input.bytes, REPORT_BYTES));
+}
+
+fn open(input: &Input) {
+    let calls = [library::open, port::open];
+    print_row(input, side_by_side(calls, &input.bytes, STUDY_BYTES));
+}
+
+fn write(input: &Input) {
+    let calls = [library::write, port::write];
+    print_row(input, side_by_side(calls, &input.image(), LONGEST_STUDY));
+}
+
 fn main() {
     println!(
-        "Microseconds for one report: the median of {} batches, taken in turn.",
+        "Microseconds for one call: the median of {} batches, taken in turn.",
         timing::BATCHES
     );
     println!(
         "The lent buffer is not cleared between calls; each call clears the buffers it works on."
     );
-    print_head("Studies");
-    inputs::studies().iter().for_each(print_row);
-    print_head("Growth: two-state components, four loads on voting gates");
-    inputs::growing().iter().for_each(print_row);
+    let studies = inputs::studies();
+    print_head("Reports");
+    studies.iter().for_each(report);
+    print_head("Opening, which puts the inputs of gates in order");
+    studies.iter().for_each(open);
+    print_head("Writing");
+    studies.iter().for_each(write);
+    print_head("Growth of reports: two-state components, four loads on voting gates");
+    inputs::growing().iter().for_each(report);
 }

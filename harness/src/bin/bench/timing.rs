@@ -1,5 +1,4 @@
 //! Two calls timed in turn, so that both meet the same machine.
-use harness::{library, port};
 use std::hint::black_box;
 use std::time::{Duration, Instant};
 
@@ -9,45 +8,39 @@ pub const BATCHES: usize = 15;
 /// About how long a batch is to last.
 const BATCH: Duration = Duration::from_millis(8);
 
-/// Room for any report.
-const REPORT_BYTES: usize = 180_224;
+type Answer = Result<usize, u8>;
 
-type Report = fn(&[u8], &mut [u8]) -> Result<usize, u8>;
+/// A call that makes something of the given bytes in the lent ones.
+type Call = fn(&[u8], &mut [u8]) -> Answer;
 
-/// Microseconds for one report of each, and the number of paths that it starts with.
+/// Microseconds for one call of each.
 pub struct Times {
     pub proved: f64,
     pub port: f64,
-    pub paths: usize,
 }
 
-fn written(report: Report, bytes: &[u8], text: &mut [u8]) -> Vec<u8> {
-    let size = report(bytes, text).expect("room for any report");
-    text[..size].to_vec()
+/// What a call answers, and what it leaves in so many lent bytes.
+fn made(call: Call, given: &[u8], room: usize) -> (Answer, Vec<u8>) {
+    let mut lent = vec![0; room];
+    let answer = call(given, &mut lent);
+    (answer, lent)
 }
 
-/// The number in the first line of a report.
-fn paths(report: &[u8]) -> usize {
-    let text = String::from_utf8_lossy(report);
-    let number = text.split_whitespace().nth(1);
-    number.and_then(|n| n.parse().ok()).unwrap_or(0)
-}
-
-/// Microseconds for each of so many reports.
-fn batch(report: Report, calls: u32, bytes: &[u8], text: &mut [u8]) -> f64 {
+/// Microseconds for each of so many calls.
+fn batch(call: Call, calls: u32, given: &[u8], lent: &mut [u8]) -> f64 {
     let start = Instant::now();
     for _ in 0..calls {
-        let answer = report(black_box(bytes), black_box(&mut *text));
+        let answer = call(black_box(given), black_box(&mut *lent));
         let _ = black_box(answer);
     }
     start.elapsed().as_secs_f64() * 1e6 / f64::from(calls)
 }
 
 /// How many calls fill a batch; the first ones also warm up.
-fn calls_for(report: Report, bytes: &[u8], text: &mut [u8]) -> u32 {
+fn calls_for(call: Call, given: &[u8], lent: &mut [u8]) -> u32 {
     let mut calls = 1;
     loop {
-        let each = batch(report, calls, bytes, text);
+        let each = batch(call, calls, given, lent);
         if each * f64::from(calls) >= BATCH.as_secs_f64() * 1e6 / 2.0 {
             return calls;
         }
@@ -60,23 +53,21 @@ fn median(mut times: Vec<f64>) -> f64 {
     times[times.len() / 2]
 }
 
-/// None where the two write different reports.
-pub fn side_by_side(bytes: &[u8]) -> Option<Times> {
-    let (proved, port): (Report, Report) = (library::report, port::report);
-    let text = &mut vec![0; REPORT_BYTES];
-    let due = written(port, bytes, text);
-    if written(proved, bytes, text) != due {
+/// A proved call beside its port; None where they do not make the same of what is given.
+pub fn side_by_side(both: [Call; 2], given: &[u8], room: usize) -> Option<Times> {
+    let [proved, port] = both;
+    if made(proved, given, room) != made(port, given, room) {
         return None;
     }
-    let calls = [proved, port].map(|report| calls_for(report, bytes, text));
+    let lent = &mut vec![0; room];
+    let calls = both.map(|call| calls_for(call, given, lent));
     let (mut proved_times, mut port_times) = (Vec::new(), Vec::new());
     for _ in 0..BATCHES {
-        proved_times.push(batch(proved, calls[0], bytes, text));
-        port_times.push(batch(port, calls[1], bytes, text));
+        proved_times.push(batch(proved, calls[0], given, lent));
+        port_times.push(batch(port, calls[1], given, lent));
     }
     Some(Times {
         proved: median(proved_times),
         port: median(port_times),
-        paths: paths(&due),
     })
 }
