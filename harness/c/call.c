@@ -1,4 +1,5 @@
-/* Calls the library from C: opens a study of two components, prints its SAIFI and MAIFI, and what an edit and a study are refused by. */
+/* Calls the library from C: opens a study of two components, prints its SAIFI and MAIFI, what an edit and a study are refused by, and the bytes
+ * of the study once edited. */
 #include "grid.h"
 
 #include <inttypes.h>
@@ -22,6 +23,26 @@ static void print_refusal(int64_t answer)
     printf("REFUSED %" PRId64 " %.*s\n", -answer, (int)size, (const char *)word);
 }
 
+/* Edits the study, writes it out and prints its bytes: component 1 fails no more, and the load has 250 customers. */
+static int print_edited(uint8_t *study, size_t study_len)
+{
+    uint8_t saved[GRID_LONGEST_STUDY];
+    int64_t size;
+
+    if (grid_set_probabilities(study, study_len, 1, 0, 0, 0) != 0)
+        return 1;
+    if (grid_set_customers(study, study_len, 0, 250) != 0)
+        return 1;
+    size = grid_write(study, study_len, saved, sizeof saved);
+    if (size < 0)
+        return 1;
+    printf("SAVED");
+    for (int64_t k = 0; k < size; k++)
+        printf(" %02X", saved[k]);
+    printf("\n");
+    return 0;
+}
+
 int main(void)
 {
     uint8_t study[GRID_STUDY_BYTES];
@@ -35,5 +56,5 @@ int main(void)
     printf("MAIFI %" PRIu64 " %" PRIu64 "\n", figures[6], figures[7]);
     print_refusal(grid_set_probabilities(study, sizeof study, 0, 1000000001, 0, 0));
     print_refusal(grid_open(bytes, sizeof bytes - 1, study, sizeof study));
-    return 0;
+    return print_edited(study, sizeof study);
 }
