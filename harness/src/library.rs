@@ -6,6 +6,9 @@ pub const STUDY_BYTES: usize = 2087;
 /// The bytes of the longest study that is written.
 pub const LONGEST_STUDY: usize = 2023;
 
+/// Room for any report.
+pub const REPORT_BYTES: usize = 180_224;
+
 /// A result, or the number of the refusal table by which the call was refused.
 pub type Answer<T> = Result<T, u8>;
 

@@ -2,6 +2,10 @@
 use std::fs;
 use std::path::{Path, PathBuf};
 
+/// Two components, which fail at 0.1 and 0.2, and one load, which is lost when either fails.
+pub const CASE_A: &str =
+    "02 01 01  02 00E1F505  02 00C2EB0B  02 02 0002 0102  07 00 64000000 3C000000";
+
 /// A study of the folder `studies`, and the report that stands beside it.
 pub struct Written {
     pub name: String,

@@ -1,12 +1,9 @@
 //! The port that the benchmark times must be right as well: its reports, images and written studies agree with the second implementation's.
 use harness::generate::{self, Random};
-use harness::library::{LONGEST_STUDY, STUDY_BYTES};
+use harness::library::{LONGEST_STUDY, REPORT_BYTES, STUDY_BYTES};
 use harness::port;
 use harness::reference::calls as reference;
 use harness::studies::to_hexadecimal;
-
-/// Room for any report.
-const REPORT_BYTES: usize = 180_224;
 
 type Answer = Result<usize, u8>;
 type Call = fn(&[u8], &mut [u8]) -> Answer;

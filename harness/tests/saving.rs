@@ -1,14 +1,9 @@
 //! Opened studies written out as bytes: what is written, worked out by hand, and studies that save alike.
 use harness::generate::{twins, Random};
-use harness::library::{self, LONGEST_STUDY, STUDY_BYTES};
+use harness::library::{self, LONGEST_STUDY, REPORT_BYTES, STUDY_BYTES};
 use harness::reference::calls as reference;
 use harness::reference::image::read_in_any_order;
-use harness::studies::{self, from_hexadecimal, to_hexadecimal};
-
-const CASE_A: &str = "02 01 01  02 00E1F505  02 00C2EB0B  02 02 0002 0102  07 00 64000000 3C000000";
-
-/// Room for any report.
-const REPORT_BYTES: usize = 180_224;
+use harness::studies::{self, from_hexadecimal, to_hexadecimal, CASE_A};
 
 fn image_of(bytes: &[u8]) -> Vec<u8> {
     let mut image = vec![0; STUDY_BYTES];

@@ -1,9 +1,7 @@
 //! The worked examples and the places where opening is easily got wrong, with answers worked out by hand.
 use harness::library::{self, STUDY_BYTES};
 use harness::reference::{calls as reference, report};
-use harness::studies::from_hexadecimal;
-
-const CASE_A: &str = "02 01 01  02 00E1F505  02 00C2EB0B  02 02 0002 0102  07 00 64000000 3C000000";
+use harness::studies::{from_hexadecimal, CASE_A};
 
 /// The report, on which both implementations must agree.
 fn report_of(study: &str) -> String {

@@ -1,12 +1,9 @@
 //! The studies that are timed.
-use harness::library::{self, STUDY_BYTES};
+use harness::library::{self, REPORT_BYTES, STUDY_BYTES};
 use harness::port;
 use harness::reference::opening::open;
 use harness::reference::study::joint_state_count;
 use harness::studies::from_hexadecimal;
-
-/// Room for any report.
-pub const REPORT_BYTES: usize = 180_224;
 
 pub struct Input {
     pub name: String,

@@ -2,9 +2,9 @@
 mod inputs;
 mod timing;
 
-use harness::library::{self, LONGEST_STUDY, STUDY_BYTES};
+use harness::library::{self, LONGEST_STUDY, REPORT_BYTES, STUDY_BYTES};
 use harness::port;
-use inputs::{Input, REPORT_BYTES};
+use inputs::Input;
 use timing::{side_by_side, Times};
 
 fn print_head(title: &str) {
