@@ -3,3 +3,4 @@ pub mod Fronts
 pub mod InOrder
 pub mod Kept
 pub mod Rows
+pub mod Summed

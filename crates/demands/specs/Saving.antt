@@ -1,0 +1,97 @@
+-- Saving: what is written opens to that very study, nothing shorter does, and studies that differ in the order of inputs alone are saved alike.
+use Prim.Native.Nat.{ℕ, _<_, _≤_}
+use mathlib.Core.Path.{_≡_}
+use mathlib.Core.Bool.{Bool}
+use mathlib.Core.List.{List}
+use lib.ListN.{length, take}
+use Rattle.ordering.specs.Inputs.{Alike}
+use Rattle.rules.specs.Limits.{longestStudy, mostGates}
+use Rattle.study.specs.declared.Gate.{Gate}
+use Rattle.study.specs.declared.Study.{Study}
+use Rattle.study.specs.Places.{Shaped, ShapedGate, gateAt}
+use Rattle.gate_order.specs.Order.{testsOf, gateInputsOf, InOrder, inOrder}
+use Rattle.study_bytes.specs.Written.{studyBytes}
+use Rattle.answers.specs.declared.counts.CountAnswer.the-variants.{Count}
+use Rattle.answers.specs.declared.outcome.Outcome.the-variants.{Done}
+use Rattle.soundness.specs.Sound.{ZeroBehind, Sound}
+use Rattle.opening.specs.Opening.{asGiven, opened}
+use Rattle.writing.specs.Saving.{studyWritten, bufferWritten}
+use Rattle.fault_tree.specs.Truth.{gateTrue, gateTruths}
+use Rattle.study_model.specs.Model.{modelOf}
+use Rattle.demands.specs.Edits.{Reached}
+
+-- ---- the round trip
+
+-- bytes open to a study
+abbrev pub OpensTo : List ℕ → Study → Type 0
+OpensTo bytes t = opened bytes ≡ record { outcome = Done; study = t }
+
+-- For every sound study, what is written opens to that very study: what is due by the format, what a call that was not refused left in the lent buffer,
+-- and so whatever study the calls hand out, opened and edited any number of times.
+pub record WrittenOpens : Type 0 where
+  pub due : (t : Study) → Shaped t → Sound t → OpensTo (studyBytes t) t
+  pub written : (t : Study) → Shaped t → (buffer : List ℕ) (n : ℕ) → studyWritten t buffer ≡ Count n → OpensTo (take n (bufferWritten t buffer)) t
+  pub reached : (t : Study) → Reached t → OpensTo (studyBytes t) t
+
+-- some bytes open to a study
+pub record Opens (t : Study) : Type 0 where
+  pub bytes : List ℕ
+  pub opens : OpensTo bytes t
+
+-- A study is sound exactly when some bytes open to it. Every value of the struct is shaped.
+pub record SoundIffOpens : Type 0 where
+  pub opens : (t : Study) → Shaped t → Sound t → Opens t
+  pub is-sound : (t : Study) → Opens t → Sound t
+  pub is-shaped : (t : Study) → Opens t → Shaped t
+
+-- No bytes that open to a study are fewer than those written for it, and those are at most 2,023.
+pub record Shortest : Type 0 where
+  pub fewest : (bytes : List ℕ) (t : Study) → OpensTo bytes t → length (studyBytes t) ≤ length bytes
+  pub longest : (t : Study) → Sound t → length (studyBytes t) ≤ longestStudy
+
+-- ---- order
+
+-- two gates hold the same inputs, in whatever order
+pub record SameInputs (g h : Gate) : Type 0 where
+  pub threshold : g .threshold ≡ h .threshold
+  pub tests : g .tests ≡ h .tests
+  pub gates : g .gates ≡ h .gates
+  pub same-tests : Alike (testsOf g) (testsOf h)
+  pub same-gate-inputs : Alike (gateInputsOf g) (gateInputsOf h)
+
+-- two studies are the same but for the order of inputs within their gates
+pub record SameButOrder (t u : Study) : Type 0 where
+  pub components : t .components ≡ u .components
+  pub gates : t .gates ≡ u .gates
+  pub loads : t .loads ≡ u .loads
+  pub component : t .component ≡ u .component
+  pub load : t .load ≡ u .load
+  pub gate : (i : ℕ) → i < mostGates → SameInputs (gateAt t i) (gateAt u i)
+
+-- the inputs of each gate stand in order, and the places behind them hold 0
+abbrev pub AllInOrder : Study → Type 0
+AllInOrder t = (i : ℕ) → i < mostGates → InOrder (gateAt t i) × ZeroBehind (gateAt t i)
+
+-- Opening a row of bytes gives the study that the bytes give, but for the order of inputs within its gates; there they stand in order; and no other
+-- study is both.
+pub record Sorted (bytes : List ℕ) : Type 0 where
+  pub same : SameButOrder (opened bytes .study) (asGiven bytes)
+  pub in-order : AllInOrder (opened bytes .study)
+  pub no-other : (t : Study) → Shaped t → SameButOrder t (asGiven bytes) → AllInOrder t → t ≡ opened bytes .study
+
+abbrev pub OpenedSorted : Type 0
+OpenedSorted = (bytes : List ℕ) → opened bytes .outcome ≡ Done → Sorted bytes
+
+-- Byte rows that open, and give the same study but for the order of inputs within gates, open to the same study and are written to the same bytes; and
+-- no others are.
+pub record SavesAlike : Type 0 where
+  pub same-study : (a b : List ℕ) → opened a .outcome ≡ Done → opened b .outcome ≡ Done → SameButOrder (asGiven a) (asGiven b) → opened a .study ≡ opened b .study
+  pub same-bytes : (a b : List ℕ) → opened a .outcome ≡ Done → opened b .outcome ≡ Done → SameButOrder (asGiven a) (asGiven b)
+      → studyBytes (opened a .study) ≡ studyBytes (opened b .study)
+  pub no-others : (a b : List ℕ) → opened a .outcome ≡ Done → opened b .outcome ≡ Done → studyBytes (opened a .study) ≡ studyBytes (opened b .study)
+      → SameButOrder (asGiven a) (asGiven b)
+
+-- Putting inputs in order changes no gate's truth in any joint state, whatever the gates below it are; so no truth of a study that opens; and so nothing
+-- of the model, from which the list, the bounds, the figures and the report follow.
+pub record TruthKept : Type 0 where
+  pub of-gate : (t : Study) → Sound t → (i : ℕ) → i < t .gates → (x : List ℕ) (holds : ℕ → Bool) → gateTrue (inOrder (gateAt t i)) x holds ≡ gateTrue (gateAt t i) x holds
