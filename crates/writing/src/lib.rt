@@ -1,0 +1,4 @@
+// Writes a study as bytes that open to it, at the front of a lent buffer.
+mod components;
+mod fields;
+mod loads;
