@@ -2,15 +2,43 @@
 use Prim.Native.Nat.{ℕ, zero, suc, _+_, _-_, _*_, _≤_}
 use mathlib.Core.Path.{_≡_, refl, sym, ap, _∙_}
 use mathlib.Core.Bool.{Bool, true, false}
-use mathlib.Core.List.{List, [], _∷_, _++_}
+use mathlib.Core.List.{List, [], _∷_, _++_, append-nil, append-assoc}
 use native.Mathlib.Nat.{zero-mul}
 use native.Mathlib.Omega.{arith}
 use lib.Dec.{ltb}
 use lib.ListN.{length, getD, take, drop, length-append, List·getD-append}
-use lib.Seq.{take-at, drop-at, take-all, take-append-add, getD-append-add}
+use lib.Seq.{take-at, drop-at, take-all, take-append-add, getD-append-add, getD-take, length-take-le}
 use borrow.Author.Tests.{ltb-true, ltb-false}
+use Rattle.lists.specs.Counting.{sum}
 use Rattle.lists.specs.Rows.{joined}
+use Rattle.lists.specs.Tabulate.{tabulate}
 use Rattle.lists.proofs.Elements.{Every}
+use Rattle.lists.proofs.Tabulated.{tabulated}
+
+-- one row more
+pub joined-last : (rows : List (List ℕ)) (row : List ℕ) → joined (rows ++ (row ∷ [])) ≡ joined rows ++ row
+unfolding joined
+joined-last [] row = append-nil row
+joined-last (first ∷ rows) row = ap (λ (l : List ℕ). first ++ l) (joined-last rows row) ∙ sym (append-assoc first (joined rows) row)
+
+-- rows that are the values of a function are as long as they are together
+pub joined-sum : (f : ℕ → List ℕ) (n : ℕ) → length (joined (tabulate f n)) ≡ sum (λ (k : ℕ). length (f k)) n
+unfolding joined tabulate sum
+joined-sum f zero = refl
+joined-sum f (suc n) =
+    ap length (joined-last (tabulate f n) (f n)) ∙ length-append (joined (tabulate f n)) (f n) ∙ ap (λ (k : ℕ). k + length (f n)) (joined-sum f n)
+
+-- the first numbers of a list, each a row of its own
+ones-joined : (f : ℕ → ℕ) (n : ℕ) → joined (tabulate (λ (k : ℕ). f k ∷ []) n) ≡ tabulate f n
+unfolding joined tabulate
+ones-joined f zero = refl
+ones-joined f (suc n) =
+    joined-last (tabulate (λ (k : ℕ). f k ∷ []) n) (f n ∷ []) ∙ ap (λ (l : List ℕ). l ++ (f n ∷ [])) (ones-joined f n)
+
+pub joined-ones : (l : List ℕ) (n : ℕ) → n ≤ length l → joined (tabulate (λ (k : ℕ). getD l k 0 ∷ []) n) ≡ take n l
+joined-ones l n inside =
+    ones-joined (λ (k : ℕ). getD l k 0) n
+    ∙ sym (tabulated (λ (k : ℕ). getD l k 0) n (take n l) 0 (length-take-le n l inside) (λ k less. getD-take n l k 0 less))
 
 -- rows that all have the same length
 pub joined-long : (width : ℕ) (rows : List (List ℕ)) → Every (λ (row : List ℕ). length row ≡ width) [] rows → length (joined rows) ≡ length rows * width
