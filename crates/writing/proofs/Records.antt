@@ -2,11 +2,12 @@
 use Prim.Native.Nat.{ℕ, _+_, _*_, _≤_}
 use mathlib.Core.Path.{_≡_, refl}
 use mathlib.Core.Bool.{Bool, false}
-use mathlib.Core.List.{List, [], _∷_}
+use mathlib.Core.List.{List, [], _∷_, append-nil}
 use native.Mathlib.Omega.{arith}
 use lib.ListN.{length}
 use Rattle.lists.specs.Counting.{truth}
 use Rattle.lists.specs.Rows.{joined}
+use Rattle.lists.proofs.Puts.{Due, due-start, due-more, due-done, due-end}
 use Rattle.text.specs.Writing.{Room, Wrote}
 use Rattle.text.proofs.Pieces.{Pieces, pieces-start, pieces-done}
 use Rattle.study_bytes.specs.Written.{byteOf, mapOf, recordBytes}
@@ -36,3 +37,21 @@ module _ (fields : List (List ℕ)) {d₀ : List ℕ} {at : ℕ} where
   pub record-done : {d : List ℕ} {k p : ℕ} → Pieces (recordPieces fields) d₀ at k d p → length (recordPieces fields) ≤ k → Wrote d₀ at (recordBytes fields) d p
   unfolding recordBytes joined
   record-done w h = pieces-done w h
+
+-- ---- a byte, and what stands behind it
+
+module _ {d : List ℕ} {at n : ℕ} {x : List ℕ} (room : Room d at (n ∷ x)) where
+  pub first-room : Room d at (byteOf n)
+  first-room = record { fits = omega (arith, room .fits) }
+
+  module _ {d′ : List ℕ} {p : ℕ} (first : Wrote d at (byteOf n) d′ p) where
+    due : Due d at (n ∷ x) d′ p x
+    due = due-more (byteOf n) x (due-start (room .fits)) (first .holds) (first .behind)
+
+    pub rest-room : Room d′ p x
+    rest-room = record { fits = due .room }
+
+    pub byte-then : {d″ : List ℕ} {q : ℕ} → Wrote d′ p x d″ q → Wrote d at (n ∷ x) d″ q
+    byte-then {d″} {q} rest =
+        let all : Due d at (n ∷ x) d″ q [] = due-more x [] (rw append-nil due) (rest .holds) (rest .behind) in
+        record { holds = due-done all; behind = due-end all }
