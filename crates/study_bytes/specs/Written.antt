@@ -56,11 +56,17 @@ abbrev pub inputBytes : Gate → ℕ → List ℕ
 inputBytes g j = byteOf (getD (g .input) j 0)
 
 -- the tests, and the gate inputs, go behind their count
+abbrev pub testsBytes : Gate → List ℕ
+testsBytes g = g .tests ∷ joined (tabulate (testBytes g) (g .tests))
+
+abbrev pub inputsBytes : Gate → List ℕ
+inputsBytes g = g .gates ∷ joined (tabulate (inputBytes g) (g .gates))
+
 abbrev pub gateFields : Gate → List (List ℕ)
 gateFields g =
     field (absentGate .threshold) (g .threshold) (byteOf (g .threshold))
-    ∷ field (absentGate .tests) (g .tests) (g .tests ∷ joined (tabulate (testBytes g) (g .tests)))
-    ∷ field (absentGate .gates) (g .gates) (g .gates ∷ joined (tabulate (inputBytes g) (g .gates)))
+    ∷ field (absentGate .tests) (g .tests) (testsBytes g)
+    ∷ field (absentGate .gates) (g .gates) (inputsBytes g)
     ∷ []
 
 abbrev pub loadFields : Load → List (List ℕ)
