@@ -1,1 +1,1 @@
-// What bytes a study is written to: definitions, and no code.
+// What bytes a study is written to: definitions and their laws, and no code.

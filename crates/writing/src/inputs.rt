@@ -4,12 +4,11 @@ use crate::fields::write_byte;
 use study::Gate;
 use text::copy;
 ghost use Prim.Native.Nat.{_<_, _≤_};
-ghost use mathlib.Core.List.{_∷_};
 ghost use Rattle.lists.specs.Rows.{joined};
 ghost use Rattle.lists.specs.Tabulate.{tabulate};
 ghost use Rattle.rules.specs.Limits.{mostTests, mostGateInputs};
 ghost use Rattle.text.specs.Writing.{Room, Wrote};
-ghost use Rattle.study_bytes.specs.Written.{field, testBytes, inputBytes};
+ghost use Rattle.study_bytes.specs.Written.{field, testBytes, inputBytes, testsBytes, inputsBytes};
 
 // Writes test j of a gate.
 fn write_test(out: &mut [u8], at: usize, g: Gate, j: usize) -> usize
@@ -50,8 +49,8 @@ fn write_inputs(out: &mut [u8], at: usize, g: Gate) -> usize
 // Writes the field of a gate's tests: their count, and each.
 pub fn tests_field(out: &mut [u8], at: usize, absent: u8, g: Gate) -> usize
     requires { ⌜ g .tests ≤ mostTests ⌝ }
-    requires { ⌜ Room (now out) at (field absent (g .tests) (g .tests ∷ joined (tabulate (testBytes g) (g .tests)))) ⌝ }
-    ensures { λ r. ⌜ Wrote (now (out .entry)) at (field absent (g .tests) (g .tests ∷ joined (tabulate (testBytes g) (g .tests)))) (now (out .exit)) r ⌝ }
+    requires { ⌜ Room (now out) at (field absent (g .tests) (testsBytes g)) ⌝ }
+    ensures { λ r. ⌜ Wrote (now (out .entry)) at (field absent (g .tests) (testsBytes g)) (now (out .exit)) r ⌝ }
 {
     if is_given(absent as u32, g.tests as u32) {
         let first = write_byte(out, at, g.tests);
@@ -63,8 +62,8 @@ pub fn tests_field(out: &mut [u8], at: usize, absent: u8, g: Gate) -> usize
 // Writes the field of a gate's gate inputs: their count, and each.
 pub fn inputs_field(out: &mut [u8], at: usize, absent: u8, g: Gate) -> usize
     requires { ⌜ g .gates ≤ mostGateInputs ⌝ }
-    requires { ⌜ Room (now out) at (field absent (g .gates) (g .gates ∷ joined (tabulate (inputBytes g) (g .gates)))) ⌝ }
-    ensures { λ r. ⌜ Wrote (now (out .entry)) at (field absent (g .gates) (g .gates ∷ joined (tabulate (inputBytes g) (g .gates)))) (now (out .exit)) r ⌝ }
+    requires { ⌜ Room (now out) at (field absent (g .gates) (inputsBytes g)) ⌝ }
+    ensures { λ r. ⌜ Wrote (now (out .entry)) at (field absent (g .gates) (inputsBytes g)) (now (out .exit)) r ⌝ }
 {
     if is_given(absent as u32, g.gates as u32) {
         let first = write_byte(out, at, g.gates);

@@ -2,7 +2,7 @@
 use mathlib.Core.Path.{_∙_}
 use Rattle.study.specs.Absent.{absentComponent}
 use Rattle.study_bytes.proofs.Fields.{byte-bit, number-bit}
-use Rattle.writing.proofs.Records.{map-of-four}
+use Rattle.writing.proofs.Maps.{map-of-four}
 use borrow.Author.Needs.{needs}
 use Rattle.writing.proofs.components.component_map.Statement.{statement}
 use Rattle.writing.proofs.components.component_map.Tie as tie

@@ -1,7 +1,5 @@
 -- `writing::fields::map_of` meets its contract: each of four bits is at most 1, so that their sum fits.
-use Prim.Native.Nat.{_≤_}
 use native.Mathlib.Omega.{arith}
-use Rattle.lists.specs.Counting.{truth}
 use Rattle.lists.proofs.Sums.{truth-most}
 use borrow.Author.Needs.{needs}
 use Rattle.writing.proofs.fields.map_of.Statement.{statement}

@@ -1,11 +1,8 @@
 -- `writing::gates::gate_map` meets its contract: a bit stands where its field is given.
 use mathlib.Core.Path.{_∙_}
-use Rattle.lists.specs.Rows.{joined}
-use Rattle.lists.specs.Tabulate.{tabulate}
 use Rattle.study.specs.Absent.{absentGate}
-use Rattle.study_bytes.specs.Written.{testBytes, inputBytes}
 use Rattle.study_bytes.proofs.Fields.{field-bit, byte-bit}
-use Rattle.writing.proofs.Records.{map-of-three}
+use Rattle.writing.proofs.Maps.{map-of-three}
 use borrow.Author.Needs.{needs}
 use Rattle.writing.proofs.gates.gate_map.Statement.{statement}
 use Rattle.writing.proofs.gates.gate_map.Tie as tie
@@ -25,8 +22,8 @@ returns c =
     c .map-of .ensures
     ∙ map-of-three
     (byte-bit (absentGate .threshold) (g .threshold) (rw absent at (threshold .is-given .ensures)))
-    (field-bit (absentGate .tests) (g .tests) (rw absent at (tests .is-given2 .ensures)) (g .tests) (joined (tabulate (testBytes g) (g .tests))))
-    (field-bit (absentGate .gates) (g .gates) (rw absent at (c .before .is-given3 .ensures)) (g .gates) (joined (tabulate (inputBytes g) (g .gates))))
+    (field-bit (absentGate .tests) (g .tests) (rw absent at (tests .is-given2 .ensures)) (g .tests) _)
+    (field-bit (absentGate .gates) (g .gates) (rw absent at (c .before .is-given3 .ensures)) (g .gates) _)
 
 pub gate-map-spec : {M : Type 1} → statement M
 gate-map-spec =

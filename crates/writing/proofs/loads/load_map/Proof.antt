@@ -2,7 +2,7 @@
 use mathlib.Core.Path.{_∙_}
 use Rattle.study.specs.Absent.{absentLoad}
 use Rattle.study_bytes.proofs.Fields.{byte-bit, number-bit}
-use Rattle.writing.proofs.Records.{map-of-three}
+use Rattle.writing.proofs.Maps.{map-of-three}
 use borrow.Author.Needs.{needs}
 use Rattle.writing.proofs.loads.load_map.Statement.{statement}
 use Rattle.writing.proofs.loads.load_map.Tie as tie
