@@ -13,7 +13,7 @@ use Rattle.lists.specs.Run.{each}
 use Rattle.lists.specs.Bits.{digit, bit}
 use Rattle.rules.specs.Table.{short, strayFault}
 use Rattle.rules.proofs.Kept.{refuse-kept}
-use Rattle.reading.specs.Reader.{Read, refused, got, Reader, andThen, return, judge, byte, turn, repeat, _>>=_, _>>_}
+use Rattle.reading.specs.Reader.{Read, refused, got, Reader, andThen, return, judge, byte, word, turn, repeat, _>>=_, _>>_}
 use Rattle.reading.specs.Fields.{fieldAt, mapBits, mapByte, fieldsByMap}
 
 -- what one reading ends in
@@ -66,6 +66,16 @@ module _ {R : ℕ → Type 0} where
       go : (bytes : List ℕ) → length bytes ≡ n → EndsIn R (λ (b left : ℕ). n ≡ suc left) (byte bytes)
       go [] e = none (sym e)
       go (b ∷ rest) e = sym e
+
+  pub ends-word : (n : ℕ) → (n < 4 → R short) → Ends R n word (λ (w left : ℕ). n ≡ 4 + left)
+  unfolding word
+  ends-word n few =
+      ends-then (ends-byte n (λ none. few (omega arith)))
+      (λ b0 n1 e1.
+      ends-then (ends-byte n1 (λ none. few (omega arith)))
+      (λ b1 n2 e2.
+      ends-then (ends-byte n2 (λ none. few (omega arith)))
+      (λ b2 n3 e3. ends-then (ends-byte n3 (λ none. few (omega arith))) (λ b3 left e. ends-return (omega arith)))))
 
   -- a breach is judged, and where there is none the reading goes on
   pub ends-judge : {A : Type 0} {n : ℕ} {P : A → ℕ → Type 0} {m : Reader A} (breach : ℕ) → ((breach ≡ 0 → ⊥) → R breach) → (breach ≡ 0 → Ends R n m P)

@@ -10,7 +10,7 @@ use Rattle.rules.specs.Table.{short}
 use Rattle.rules.proofs.Kept.{Within, range-kept}
 use Rattle.reading.specs.Reader.{Reader, return, judge, byte, word, repeat, _>>=_, _>>_}
 use Rattle.reading.specs.Fields.{mapBits, fieldsByMap}
-use Rattle.reading.proofs.Ends.{Ends, ends-then, ends-return, ends-weaker, ends-byte, ends-judge, ends-repeat, ends-fields}
+use Rattle.reading.proofs.Ends.{Ends, ends-then, ends-return, ends-weaker, ends-byte, ends-word, ends-judge, ends-repeat, ends-fields}
 
 -- a refusal by one of the rows 1 to 15; by 1 only where `Short` holds
 pub record Refusal (Short : Type 0) (number : ℕ) : Type 0 where
@@ -99,8 +99,7 @@ module _ {Short : Type 0} where
       takes-weaker (omega arith) (takes-then here (λ a. takes-judge (rule a) (judged a) (takes-return (f a))))
 
   pub takes-word : Takes Short 4 word
-  unfolding word
-  takes-word = takes-then takes-byte (λ b0. takes-then takes-byte (λ b1. takes-then takes-byte (λ b2. takes-then takes-byte (λ b3. takes-return _))))
+  takes-word = record { takes = λ n few. ends-weaker (λ w left e. omega arith) (ends-word n (λ less. too-few (few less))) }
 
   pub takes-repeat : {A : Type 0} {k : ℕ} (step : ℕ → A → Reader A) (turns : ℕ) (a : A) → ((i : ℕ) (a : A) → Takes Short k (step i a))
       → Takes Short (turns * k) (repeat step turns a)
