@@ -1,0 +1,2 @@
+-- What is written is read back, record by record.
+pub mod Load
