@@ -58,13 +58,13 @@ module _ {A : Type 0} (read : ℕ → A → Reader A) (k : ℕ) where
   pub field-none : {a b : A} → b ≡ a → FieldBack read k a [] b
   field-none {a} {b} same = record { back = λ map e. rw (e, same) (back-return a) }
 
-  -- a field that holds its absent value, or is read from its bytes
-  pub field-back : {a b : A} (absent value n : ℕ) (x : List ℕ) → (value ≡ absent → b ≡ a) → ((value ≡ absent → ⊥) → Back (read k a) (n ∷ x) b)
-      → FieldBack read k a (field absent value (n ∷ x)) b
-  field-back {a} {b} absent value n x same differs = go (eqb value absent) refl
+  -- A field that holds its absent value, or is read from its bytes; `put` says what record has a value there.
+  pub field-back : (put : ℕ → A) (absent value : ℕ) {n : ℕ} {x : List ℕ} → ((value ≡ absent → ⊥) → Back (read k (put absent)) (n ∷ x) (put value))
+      → FieldBack read k (put absent) (field absent value (n ∷ x)) (put value)
+  field-back put absent value {n} {x} differs = go (eqb value absent) refl
     where
-      go : (t : Bool) → eqb value absent ≡ t → FieldBack read k a (cond t [] (n ∷ x)) b
-      go true e = field-none (same (eqb-true value absent e))
+      go : (t : Bool) → eqb value absent ≡ t → FieldBack read k (put absent) (cond t [] (n ∷ x)) (put value)
+      go true e = field-none (ap put (eqb-true value absent e))
       go false e = record { back = λ map stands. rw stands (differs (eqb-false value absent e)) }
 
 -- a field that is given keeps its rule

@@ -6,22 +6,26 @@ use native.Mathlib.Numerals.{add-one}
 use native.Mathlib.Omega.{arith}
 use lib.Dec.{lit<}
 use lib.ListN.{getD}
-use Rattle.rules.specs.Limits.{mostCustomers, mostMinutes, never}
+use Rattle.rules.specs.Limits.{mostCustomers, mostMinutes}
 use Rattle.rules.specs.Table.{noGateFault, sizeFault}
 use Rattle.rules.proofs.Rows.{size-kept}
 use Rattle.study.specs.declared.Load.{Load}
 use Rattle.study.specs.Absent.{absentLoad}
+use Rattle.study.specs.Edits.{withCustomers, withMinutes}
 use Rattle.study_bytes.specs.Written.{fourBytesOf, loadFields, loadBytes}
 use Rattle.reading.proofs.Back.{Back, back-judged, back-finished, back-byte, back-word}
 use Rattle.load_record.specs.Load.{lossGate, size, customers, minutes, loadField, load}
 use Rattle.soundness.specs.Sound.{SoundLoad}
 use Rattle.round_trip.proofs.Record.{FieldBack, field-none, field-back, given-kept, back-record}
 
+abbrev withGate : ℕ → Load → Load
+withGate n l = record { gate = n; customers = l .customers; minutes = l .minutes }
+
 -- a load with its fields below bit k read
 abbrev loadTo : Load → ℕ → Load
 loadTo l zero = absentLoad
-loadTo l (suc zero) = record { gate = l .gate; customers = 0; minutes = 0 }
-loadTo l (suc (suc zero)) = record { gate = l .gate; customers = l .customers; minutes = 0 }
+loadTo l (suc zero) = withGate (l .gate) absentLoad
+loadTo l (suc (suc zero)) = withCustomers (l .customers) (loadTo l (suc zero))
 loadTo l (suc (suc (suc k))) = l
 
 size-back : (most n : ℕ) → most < 2 ^ 32 → sizeFault most n ≡ 0 → Back (size most) (fourBytesOf n) n
@@ -32,13 +36,13 @@ module _ (gates : ℕ) (l : Load) (s : SoundLoad gates l) where
   fields-back : (k : ℕ) → FieldBack (loadField gates) k (loadTo l k) (getD (loadFields l) k []) (loadTo l (k + 1))
   unfolding loadField lossGate customers minutes
   fields-back zero =
-      field-back (loadField gates) 0 never (l .gate) _ _ (λ e. λ i. record { gate = e i; customers = 0; minutes = 0 })
+      field-back (loadField gates) 0 (λ n. withGate n absentLoad) (absentLoad .gate) (l .gate)
       (λ some. back-judged (noGateFault gates) _ (given-kept _ _ _ (s .gate) some) (back-byte (l .gate)))
   fields-back (suc zero) =
-      field-back (loadField gates) 1 0 (l .customers) _ _ (λ e. λ i. record { gate = l .gate; customers = e i; minutes = 0 })
+      field-back (loadField gates) 1 (λ n. withCustomers n (loadTo l 1)) (absentLoad .customers) (l .customers)
       (λ some. back-finished _ (size-back mostCustomers (l .customers) (lit< tt) (s .customers)))
   fields-back (suc (suc zero)) =
-      field-back (loadField gates) 2 0 (l .minutes) _ _ (λ e. λ i. record { gate = l .gate; customers = l .customers; minutes = e i })
+      field-back (loadField gates) 2 (λ n. withMinutes n (loadTo l 2)) (absentLoad .minutes) (l .minutes)
       (λ some. back-finished _ (size-back mostMinutes (l .minutes) (lit< tt) (s .minutes)))
   fields-back (suc (suc (suc k))) = rw (add-one (suc (suc (suc k)))) (field-none (loadField gates) (suc (suc (suc k))) refl)
 
