@@ -10,6 +10,8 @@ use lib.ListN.{length, getD, drop, drop-of-length-le}
 use lib.Seq.{drop-nil}
 use borrow.Author.Tests.{eq-eqb}
 use Rattle.lists.specs.Rows.{joined}
+use Rattle.lists.specs.Tabulate.{tabulate}
+use Rattle.lists.proofs.Tabulated.{length-tabulate, getD-tabulate}
 use Rattle.lists.proofs.Turns.{Turns, turns-start, turns-more, turns-done}
 use Rattle.reading.specs.Reader.{Read, Reader, got, andThen, return, judge, byte, word, number, turn, repeat, _>>=_, _>>_}
 
@@ -104,3 +106,11 @@ module _ {A : Type 0} (step : ℕ → A → Reader A) (value : ℕ → A) (piece
             let all : before rest n ≡ repeat step n (value 0) (joined pieces ++ rest) = rw sub-zero at (turns-done (so-far rest n (le-refl n)) (le-refl n)) in
             sym all ∙ ap (λ (l : List (List ℕ)). got (value n) (joined l ++ rest)) (drop-of-length-le pieces few);
       }
+
+-- so many pieces, a turn for each
+pub back-pieces : {A : Type 0} (step : ℕ → A → Reader A) (value : ℕ → A) (piece : ℕ → List ℕ) (n : ℕ)
+    → ((k : ℕ) → k < n → Back (step k (value k)) (piece k) (value (k + 1))) → Back (repeat step n (value 0)) (joined (tabulate piece n)) (value n)
+back-pieces step value piece n read =
+    back-repeat step value (tabulate piece n) n
+    (λ k less. subst (λ (x : List ℕ). Back (step k (value k)) x (value (k + 1))) (sym (getD-tabulate piece n k [] less)) (read k less))
+    (omega (arith, length-tabulate piece n))

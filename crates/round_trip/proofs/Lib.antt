@@ -1,2 +1,3 @@
 pub mod Back
+pub mod Places
 pub mod Record
