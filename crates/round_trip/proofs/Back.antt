@@ -2,3 +2,4 @@
 pub mod Component
 pub mod Gate
 pub mod Load
+pub mod Study
