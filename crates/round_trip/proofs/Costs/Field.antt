@@ -1,0 +1,27 @@
+-- A field that is written anew makes its record longer by no more than its own bytes, whatever stood there before.
+use Prim.Native.Nat.{ℕ, zero, suc, _+_, _≤_}
+use mathlib.Core.Bool.{Bool, true, false, cond}
+use mathlib.Core.List.{List, [], _∷_}
+use native.Mathlib.Omega.{arith}
+use lib.Dec.{eqb}
+use lib.ListN.{length, set, length-append}
+use Rattle.lists.specs.Rows.{joined}
+use Rattle.study_bytes.specs.Written.{field, recordBytes}
+
+field-most : (absent value : ℕ) (x : List ℕ) → length (field absent value x) ≤ length x
+field-most absent value x = go (eqb value absent)
+  where
+    go : (b : Bool) → length (cond b [] x) ≤ length x
+    go true = omega arith
+    go false = omega arith
+
+joined-anew : (xs : List (List ℕ)) (k : ℕ) (y : List ℕ) → length (joined (set xs k y)) ≤ length (joined xs) + length y
+unfolding joined
+joined-anew [] k y = omega arith
+joined-anew (x ∷ xs) zero y = omega (arith, length-append x (joined xs), length-append y (joined xs))
+joined-anew (x ∷ xs) (suc k) y = omega (arith, length-append x (joined xs), length-append x (joined (set xs k y)), joined-anew xs k y)
+
+pub field-anew : (xs : List (List ℕ)) (k absent value : ℕ) (x : List ℕ)
+    → length (recordBytes (set xs k (field absent value x))) ≤ length (recordBytes xs) + length x
+unfolding recordBytes
+field-anew xs k absent value x = omega (arith, joined-anew xs k (field absent value x), field-most absent value x)
