@@ -2,7 +2,7 @@
 -- behind the other, entries of one length are told apart by their bytes, and paths are the same exactly when all joint states are classed alike.
 use Prim.Native.Nat.{ℕ, zero, suc, _+_, _*_, _≤_}
 use mathlib.Core.Path.{_≡_, refl, sym, ap, _∙_}
-use mathlib.Core.List.{List, [], _∷_, _++_, append-assoc, append-nil}
+use mathlib.Core.List.{List, [], _∷_, _++_}
 use native.Mathlib.Nat.{zero-mul}
 use native.Mathlib.Omega.{arith}
 use lib.ListN.{length, take}
@@ -11,7 +11,7 @@ use Rattle.lists.specs.Bits.{bit}
 use Rattle.lists.specs.Rows.{put, joined}
 use Rattle.lists.proofs.Digits.{same-bits}
 use Rattle.lists.proofs.Elements.{Every}
-use Rattle.lists.proofs.Joined.{joined-tells}
+use Rattle.lists.proofs.Joined.{joined-more, joined-tells}
 use Rattle.lists.proofs.Puts.{put-size}
 use Rattle.rules.specs.Table.{roomFault}
 use Rattle.rules.proofs.Kept.{list-last}
@@ -35,12 +35,6 @@ use Rattle.demands.specs.Listed.{ListedBy}
 use Rattle.demands.proofs.Finished.{finished}
 
 -- ---- the bytes of a list
-
--- one row more
-joined-more : (rows : List (List ℕ)) (row : List ℕ) → joined (rows ++ (row ∷ [])) ≡ joined rows ++ row
-unfolding joined
-joined-more [] row = append-nil row
-joined-more (r ∷ rows) row = rw (joined-more rows row) (sym (append-assoc r (joined rows) row))
 
 -- the entries of a list, one behind the other, are the bytes at its front
 bytes-of : (n paths : ℕ) (d : List ℕ) → joined (entriesOf n paths d) ≡ take (paths * entryBytes n) d

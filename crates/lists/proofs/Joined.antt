@@ -4,10 +4,11 @@ use mathlib.Core.Path.{_≡_, refl, sym, ap, _∙_}
 use mathlib.Core.Bool.{Bool, true, false}
 use mathlib.Core.List.{List, [], _∷_, _++_, append-nil, append-assoc}
 use native.Mathlib.Nat.{zero-mul}
+use native.Mathlib.Numerals.{add-one}
 use native.Mathlib.Omega.{arith}
 use lib.Dec.{ltb}
 use lib.ListN.{length, getD, take, drop, length-append, List·getD-append}
-use lib.Seq.{take-at, drop-at, take-all, take-append-add, getD-append-add, getD-take, length-take-le}
+use lib.Seq.{take-at, drop-at, drop-nil, take-all, take-append-add, getD-append-add, getD-take, length-take-le}
 use borrow.Author.Tests.{ltb-true, ltb-false}
 use Rattle.lists.specs.Counting.{sum}
 use Rattle.lists.specs.Rows.{joined}
@@ -39,6 +40,13 @@ pub joined-ones : (l : List ℕ) (n : ℕ) → n ≤ length l → joined (tabula
 joined-ones l n inside =
     ones-joined (λ (k : ℕ). getD l k 0) n
     ∙ sym (tabulated (λ (k : ℕ). getD l k 0) n (take n l) 0 (length-take-le n l inside) (λ k less. getD-take n l k 0 less))
+
+-- what is left from row k on begins with that row; past the last row nothing is left
+pub joined-next : (rows : List (List ℕ)) (k : ℕ) → joined (drop k rows) ≡ getD rows k [] ++ joined (drop (k + 1) rows)
+unfolding joined
+joined-next [] k = rw (drop-nil k, drop-nil (k + 1))
+joined-next (row ∷ rows) zero = refl
+joined-next (row ∷ rows) (suc k) = rw (add-one (suc k)) (rw (add-one k) at (joined-next rows k))
 
 -- rows that all have the same length
 pub joined-long : (width : ℕ) (rows : List (List ℕ)) → Every (λ (row : List ℕ). length row ≡ width) [] rows → length (joined rows) ≡ length rows * width

@@ -7,10 +7,10 @@ use native.Mathlib.Numerals.{add-one}
 use native.Mathlib.Omega.{arith}
 use lib.Dec.{lit<}
 use lib.ListN.{length, getD, drop, drop-of-length-le}
-use lib.Seq.{drop-nil}
 use borrow.Author.Tests.{eq-eqb}
 use Rattle.lists.specs.Rows.{joined}
 use Rattle.lists.specs.Tabulate.{tabulate}
+use Rattle.lists.proofs.Joined.{joined-next}
 use Rattle.lists.proofs.Tabulated.{length-tabulate, getD-tabulate}
 use Rattle.lists.proofs.Turns.{Turns, turns-start, turns-more, turns-done}
 use Rattle.reading.specs.Reader.{Read, Reader, got, andThen, return, judge, byte, word, number, turn, repeat, _>>=_, _>>_}
@@ -72,13 +72,6 @@ back-word n fits = record { back = λ rest. ap (λ (k : ℕ). got k rest) (numbe
 
 -- ---- repeated readings
 
--- the next piece, and those behind it; past the last there are no bytes
-next-piece : (pieces : List (List ℕ)) (k : ℕ) → joined (drop k pieces) ≡ getD pieces k [] ++ joined (drop (k + 1) pieces)
-unfolding joined
-next-piece [] k = rw (drop-nil k, drop-nil (k + 1))
-next-piece (x ∷ pieces) zero = refl
-next-piece (x ∷ pieces) (suc k) = rw (add-one (suc k)) (rw (add-one k) at (next-piece pieces k))
-
 -- turn k of n reads piece k and takes the value from k to k + 1; past the last piece it reads nothing
 module _ {A : Type 0} (step : ℕ → A → Reader A) (value : ℕ → A) (pieces : List (List ℕ)) (n : ℕ)
     (read : (k : ℕ) → k < n → Back (step k (value k)) (getD pieces k []) (value (k + 1))) where
@@ -89,7 +82,7 @@ module _ {A : Type 0} (step : ℕ → A → Reader A) (value : ℕ → A) (piece
 
     one-turn : (i : ℕ) → i < n → turn step i (before i) ≡ before (i + 1)
     one-turn i h =
-        ap (λ (l : List ℕ). step i (value i) (l ++ rest)) (next-piece pieces i)
+        ap (λ (l : List ℕ). step i (value i) (l ++ rest)) (joined-next pieces i)
         ∙ ap (step i (value i)) (append-assoc (getD pieces i []) (joined (drop (i + 1) pieces)) rest)
         ∙ read i h .back (joined (drop (i + 1) pieces) ++ rest)
 

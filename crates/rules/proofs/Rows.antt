@@ -39,6 +39,10 @@ sum-kept p1 p2 p3 = below-kept 5 one (p1 + p2 + p3)
 pub width-kept : (jointStates : ℕ) → widthFault jointStates ≡ 0 → jointStates ≤ mostJointStates
 width-kept = below-kept 6 mostJointStates
 
+pub width-none : (jointStates : ℕ) → jointStates ≤ mostJointStates → widthFault jointStates ≡ 0
+unfolding refuse
+width-none jointStates h = rw (le-ltb mostJointStates jointStates h)
+
 -- a gate has no more inputs of a kind than there are places
 pub input-count-kept : (most n : ℕ) → inputCountFault most n ≡ 0 → n ≤ most
 input-count-kept most n e =

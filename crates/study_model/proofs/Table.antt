@@ -1,14 +1,14 @@
 -- The table of a study's probabilities holds those of its model in front.
-use Prim.Native.Nat.{ℕ, zero, suc, _*_, _≤_}
+use Prim.Native.Nat.{ℕ, _*_, _≤_}
 use mathlib.Core.Path.{_≡_, refl, sym, ap, _∙_}
-use mathlib.Core.List.{List, [], _∷_, map}
+use mathlib.Core.List.{List, [], map}
 use native.Mathlib.Omega.{arith}
 use lib.ListN.{length, take}
 use Rattle.lists.specs.Rows.{joined}
 use Rattle.lists.proofs.Elements.{Every, every-map}
 use Rattle.lists.proofs.Joined.{joined-front}
+use Rattle.lists.proofs.Maps.{take-map}
 use Rattle.rules.specs.Limits.{mostComponents, mostStates}
-use Rattle.study.specs.declared.Component.{Component}
 use Rattle.study.specs.declared.Study.{Study}
 use Rattle.study.specs.Zero.{zeroComponent}
 use Rattle.model.specs.Held.{Listed, HeldOf}
@@ -17,15 +17,11 @@ use Rattle.soundness.specs.Sound.{Sound}
 use Rattle.soundness.proofs.Ranges.{components-most, counts-long}
 use Rattle.study_model.specs.Model.{stateProbabilities, placeProbabilities, modelOf}
 
-first-rows : (n : ℕ) (component : List Component) → take n (map stateProbabilities component) ≡ map stateProbabilities (take n component)
-first-rows zero component = refl
-first-rows (suc n) [] = refl
-first-rows (suc n) (c ∷ cs) = ap (λ (rows : List (List ℕ)). stateProbabilities c ∷ rows) (first-rows n cs)
-
 table-front : (t : Study) → take (t .components * mostStates) (placeProbabilities (t .component)) ≡ probabilityTable (modelOf t)
 unfolding placeProbabilities probabilityTable modelOf
 table-front t =
-    joined-front mostStates (t .components) (map stateProbabilities (t .component)) wide ∙ ap joined (first-rows (t .components) (t .component))
+    joined-front mostStates (t .components) (map stateProbabilities (t .component)) wide
+    ∙ ap joined (take-map stateProbabilities (t .components) (t .component))
   where
     wide : Every (λ (row : List ℕ). length row ≡ mostStates) [] (map stateProbabilities (t .component))
     wide = every-map stateProbabilities zeroComponent [] (λ (row : List ℕ). length row ≡ mostStates) (t .component) (λ k h. refl)

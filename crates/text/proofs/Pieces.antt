@@ -1,13 +1,12 @@
 -- What carries every function that writes pieces one behind the other, in a row or in a loop: those below k are written, and p is the next place.
 use Prim.Native.Nat.{ℕ, _+_, _<_, _≤_}
-use mathlib.Core.Path.{_≡_, sym, ap, _∙_}
-use mathlib.Core.List.{List, [], _∷_, _++_}
-use native.Mathlib.Numerals.{add-one}
+use mathlib.Core.Path.{_≡_, sym}
+use mathlib.Core.List.{List, [], _∷_}
 use native.Mathlib.Omega.{arith}
 use lib.ListN.{length, getD, drop, set, drop-of-length-le}
-use lib.Seq.{drop-cons}
 use Rattle.lists.specs.Rows.{joined}
 use Rattle.lists.specs.Tabulate.{tabulate}
+use Rattle.lists.proofs.Joined.{joined-next}
 use Rattle.lists.proofs.Tabulated.{length-tabulate, getD-tabulate}
 use Rattle.lists.proofs.Puts.{Due, due-start, due-room, due-more, due-set, due-done, due-end}
 use Rattle.text.specs.Writing.{Room, Wrote}
@@ -15,22 +14,17 @@ use Rattle.text.specs.Writing.{Room, Wrote}
 pub record Pieces (rows : List (List ℕ)) (d₀ : List ℕ) (at k : ℕ) (d : List ℕ) (p : ℕ) : Type 0 where
   pub due : Due d₀ at (joined rows) d p (joined (drop k rows))
 
--- what is left begins with the next piece
-next-piece : (rows : List (List ℕ)) (k : ℕ) → k < length rows → joined (drop k rows) ≡ getD rows k [] ++ joined (drop (k + 1) rows)
-unfolding joined
-next-piece rows k h = ap joined (drop-cons rows k [] h) ∙ ap (λ (n : ℕ). getD rows k [] ++ joined (drop n rows)) (sym (add-one k))
-
 module _ {d₀ : List ℕ} {at : ℕ} where
   pub pieces-start : (rows : List (List ℕ)) → Room d₀ at (joined rows) → Pieces rows d₀ at 0 d₀ at
   pieces-start rows room = record { due = due-start (room .fits) }
 
   module _ {rows : List (List ℕ)} {k p : ℕ} {d : List ℕ} where
     pub pieces-room : Pieces rows d₀ at k d p → k < length rows → Room d p (getD rows k [])
-    pieces-room w h = record { fits = due-room (getD rows k []) (joined (drop (k + 1) rows)) (rw (next-piece rows k h) at (w .due)) }
+    pieces-room w h = record { fits = due-room (getD rows k []) (joined (drop (k + 1) rows)) (rw (joined-next rows k) at (w .due)) }
 
     pub pieces-more : {d′ : List ℕ} {q : ℕ} → Pieces rows d₀ at k d p → k < length rows → Wrote d p (getD rows k []) d′ q → Pieces rows d₀ at (k + 1) d′ q
     pieces-more w h wrote =
-        record { due = due-more (getD rows k []) (joined (drop (k + 1) rows)) (rw (next-piece rows k h) at (w .due)) (wrote .holds) (wrote .behind) }
+        record { due = due-more (getD rows k []) (joined (drop (k + 1) rows)) (rw (joined-next rows k) at (w .due)) (wrote .holds) (wrote .behind) }
 
     pub pieces-done : Pieces rows d₀ at k d p → length rows ≤ k → Wrote d₀ at (joined rows) d p
     unfolding joined

@@ -1,5 +1,5 @@
 -- A component record that is written is read back. What carries it: the probabilities sum to one at most, so that each fits in four bytes.
-use Prim.Native.Nat.{ℕ, zero, suc, _+_, _^_, _<_, _≤_}
+use Prim.Native.Nat.{ℕ, zero, suc, _+_, _≤_}
 use mathlib.Core.Path.{_≡_, refl}
 use mathlib.Core.List.{[]}
 use native.Mathlib.Numerals.{add-one}

@@ -1,7 +1,7 @@
 -- A gate record that is written is read back. What carries it: each test and each gate input goes to its own place, and the places behind hold 0 as in a
 -- gate that no record has filled.
 use Prim.Native.Nat.{ℕ, zero, suc, _+_, _<_, _≤_}
-use mathlib.Core.Path.{_≡_, refl, sym, ap, subst, _∙_}
+use mathlib.Core.Path.{_≡_, refl, sym, ap, subst}
 use mathlib.Core.List.{List, [], _∷_}
 use native.Mathlib.Numerals.{add-one}
 use native.Mathlib.Omega.{arith}

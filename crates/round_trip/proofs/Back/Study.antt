@@ -1,21 +1,21 @@
 -- The bytes of a sound study are read as that study. What carries it: the records of each kind fill their places from the front, those behind are unused in
 -- the study as in the arrays that reading begins with, and no first few components have more joint states than all.
-use Prim.Native.Nat.{ℕ, zero, suc, _+_, _*_, _<_, _≤_}
-use mathlib.Core.Path.{_≡_, refl, sym, ap, subst, _∙_}
+use Prim.Native.Nat.{ℕ, suc, _*_, _<_, _≤_}
+use mathlib.Core.Path.{_≡_, sym, ap, subst, _∙_}
 use mathlib.Core.List.{List, [], _∷_, map}
-use native.Mathlib.Nat.{le-refl, le-trans, mul-le-mul, mul-le-mul-left}
+use native.Mathlib.Nat.{le-trans}
 use native.Mathlib.Omega.{arith}
 use lib.ListN.{length, getD, take, getD-replicate}
 use lib.Seq.{take-suc, take-take}
-use borrow.Author.Tests.{le-ltb}
 use Rattle.lists.specs.Product.{product}
 use Rattle.lists.specs.Rows.{joined}
 use Rattle.lists.specs.Tabulate.{tabulate}
 use Rattle.lists.proofs.Elements.{Every}
-use Rattle.lists.proofs.Products.{product-snoc}
-use Rattle.rules.specs.Breach.{refuse}
+use Rattle.lists.proofs.Maps.{take-map}
+use Rattle.lists.proofs.Products.{product-snoc, front-product}
 use Rattle.rules.specs.Limits.{mostComponents, mostGates, mostLoads, mostJointStates}
 use Rattle.rules.specs.Table.{countFault, widthFault}
+use Rattle.rules.proofs.Rows.{width-none}
 use Rattle.study.specs.declared.Component.{Component}
 use Rattle.study.specs.declared.Study.{Study}
 use Rattle.study.specs.Joint.{states, stateCounts}
@@ -43,25 +43,6 @@ module _ {A : Type 0} (d : A) (reader : ℕ → List A → Reader A) (bytes : A 
       (back-pieces (placing reader) (filledTo l before) (λ (k : ℕ). bytes (getD l k d)) n
       (λ k less. subst (Back _ _) (filled-next l before d long k (omega arith)) (back-finished _ (read k less))))
 
--- ---- joint states
-
--- no first few of some numbers, each at least 1, have a larger product than all
-front-product : (i : ℕ) (ns : List ℕ) → Every (λ (n : ℕ). 1 ≤ n) 0 ns → product (take i ns) ≤ product ns
-unfolding product
-front-product zero [] some = le-refl 1
-front-product zero (n ∷ ns) some = mul-le-mul (some 0 (omega arith)) (front-product zero ns (λ k h. some (suc k) (omega arith)))
-front-product (suc i) [] some = le-refl 1
-front-product (suc i) (n ∷ ns) some = mul-le-mul-left n (front-product i ns (λ k h. some (suc k) (omega arith)))
-
-take-map : {A B : Type 0} (f : A → B) (n : ℕ) (l : List A) → take n (map f l) ≡ map f (take n l)
-take-map f zero l = refl
-take-map f (suc n) [] = refl
-take-map f (suc n) (x ∷ l) = ap (λ (r : List _). f x ∷ r) (take-map f n l)
-
-width-none : (n : ℕ) → n ≤ mostJointStates → widthFault n ≡ 0
-unfolding refuse
-width-none n h = rw (le-ltb mostJointStates n h)
-
 count-back : (most n : ℕ) → countFault most n ≡ 0 → Back (count most) (n ∷ []) n
 unfolding count
 count-back most n kept = back-judged (countFault most) (λ n. n) kept (back-byte n)
@@ -88,7 +69,9 @@ module _ (t : Study) (s : Sound t) (shaped : Shaped t) where
       let long = counts-long t s (shaped .components) in
       let inside : i < length counts = rw long h in
       let next : product (take (suc i) counts) ≡ product (take i counts) * componentAt t i .states =
-      ap product (take-suc counts i 0 inside) ∙ product-snoc (take i counts) (getD counts i 0) ∙ ap (λ (n : ℕ). product (take i counts) * n) (count-at t s i h) in
+      ap product (take-suc counts i 0 inside)
+      ∙ product-snoc (take i counts) (getD counts i 0)
+      ∙ ap (λ (n : ℕ). product (take i counts) * n) (count-at t s i h) in
       let some : Every (λ (n : ℕ). 1 ≤ n) 0 counts = λ k below. omega (arith, count-least t s k (rw long at below)) in
       rw (counts-so-far i (omega arith), sym next) (le-trans (front-product (suc i) counts some) (joint-most t s))
 

@@ -1,6 +1,5 @@
 -- A component record costs no fewer bytes to read than it is written to.
 use Prim.Native.Nat.{ℕ, zero, suc, _+_, _^_, _<_, _≤_}
-use mathlib.Core.Path.{_≡_}
 use native.Mathlib.Omega.{arith}
 use lib.ListN.{length}
 use Rattle.lists.specs.Rows.{joined}
@@ -9,7 +8,7 @@ use Rattle.rules.specs.Table.{statesFault, noStateFault, sumFault}
 use Rattle.study.specs.declared.Component.{Component}
 use Rattle.study.specs.Absent.{absentComponent}
 use Rattle.study_bytes.specs.Written.{byteOf, fourBytesOf, recordBytes, componentFields, componentBytes}
-use Rattle.reading.proofs.Ends.{Ends, bit-meant, ends-then, ends-return, ends-weaker, ends-byte, ends-word, ends-judge, ends-fields}
+use Rattle.reading.proofs.Ends.{Ends, bit-meant, ends-then, ends-return, ends-byte, ends-word, ends-judge, ends-fields}
 use Rattle.reading.proofs.Held.{Any}
 use Rattle.component_record.specs.Component.{withProbability, stateCount, probability, componentField, component}
 use Rattle.round_trip.proofs.Costs.Field.{field-anew}

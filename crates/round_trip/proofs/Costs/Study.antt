@@ -1,21 +1,19 @@
 -- Whatever bytes are read as a study, they are no fewer than those written for it. What carries it: each record costs at least what is written for it.
-use Prim.Native.Nat.{ℕ, suc, _+_, _*_, _<_, _≤_}
+use Prim.Native.Nat.{ℕ, _+_, _*_, _<_, _≤_}
 use mathlib.Core.Path.{_≡_, refl, ap, subst, _∙_}
-use mathlib.Core.List.{List, [], _∷_, _++_}
+use mathlib.Core.List.{List, _++_}
 use native.Mathlib.Numerals.{add-one}
 use native.Mathlib.Omega.{arith}
 use lib.ListN.{length, getD, take, set, length-append, length-set}
 use lib.Seq.{getD-set-same, getD-set-other}
-use Rattle.lists.specs.Counting.{sumOver}
 use Rattle.lists.specs.Product.{product}
 use Rattle.lists.specs.Rows.{joined}
 use Rattle.lists.specs.Tabulate.{tabulate}
-use Rattle.lists.proofs.SumOver.{sum-over-append}
+use Rattle.lists.proofs.Joined.{joined-more}
 use Rattle.lists.proofs.Tabulated.{tabulate-alike}
 use Rattle.rules.specs.Limits.{mostComponents, mostGates, mostLoads}
 use Rattle.rules.specs.Table.{countFault, widthFault}
 use Rattle.rules.proofs.Rows.{count-kept}
-use Rattle.text.proofs.Short.{joined-length}
 use Rattle.study.specs.declared.Component.{Component}
 use Rattle.study.specs.declared.Study.{Study}
 use Rattle.study.specs.Joint.{states}
@@ -25,17 +23,13 @@ use Rattle.study_bytes.specs.Written.{componentBytes, gateBytes, loadBytes, com
 use Rattle.reading.specs.Reader.{Read, Reader, got, repeat}
 use Rattle.reading.proofs.Ends.{EndsIn, Ends, ends-then, ends-return, ends-weaker, ends-byte, ends-judge, ends-repeat}
 use Rattle.reading.proofs.Held.{Any}
+use Rattle.reading.proofs.Takes.{Counts}
 use Rattle.opening.specs.Opening.{count, componentAfter, componentRecord, gateRecord, loadRecord, placing, records, study}
 use Rattle.round_trip.proofs.Costs.Component.{component-costs}
 use Rattle.round_trip.proofs.Costs.Gate.{gate-costs}
 use Rattle.round_trip.proofs.Costs.Load.{load-costs}
 
 -- ---- the records of one kind
-
--- one piece more
-joined-more : (xs : List (List ℕ)) (y : List ℕ) → length (joined (xs ++ (y ∷ []))) ≡ length (joined xs) + length y
-unfolding sumOver
-joined-more xs y = omega (arith, joined-length (xs ++ (y ∷ [])), joined-length xs, sum-over-append length xs (y ∷ []))
 
 module _ {A : Type 0} (d : A) (bytes : A → List ℕ) (most : ℕ) where
   -- the first k, one behind the other
@@ -48,7 +42,8 @@ module _ {A : Type 0} (d : A) (bytes : A → List ℕ) (most : ℕ) where
       let now : ℕ → List ℕ = λ i. bytes (getD (set l k a) i d) in
       let before : ℕ → List ℕ = λ i. bytes (getD l i d) in
       ap (λ (n : ℕ). length (joined (tabulate now n))) (add-one k)
-      ∙ joined-more (tabulate now k) (now k)
+      ∙ ap length (joined-more (tabulate now k) (now k))
+      ∙ length-append (joined (tabulate now k)) (now k)
       ∙ rw
       (tabulate-alike now before k (λ i less. ap bytes (getD-set-other l k i a d (λ same. omega arith))), getD-set-same l k a d inside) refl
 
@@ -82,17 +77,12 @@ component-record-costs i cs n =
     ends-then (component-costs n)
     (λ c left h. ends-judge (widthFault (product (take i (states cs)) * c .states)) (λ broken. tt) (λ kept. ends-return h))
 
--- the first of n bytes is a count that there are places for
-record Counted (most n count left : ℕ) : Type 0 where
-  room : count ≤ most
-  bytes : n ≡ suc left
-
-count-costs : (most n : ℕ) → Ends Any n (count most) (Counted most n)
+count-costs : (most n : ℕ) → Ends Any n (count most) (Counts n most)
 unfolding count
 count-costs most n =
     ends-then (ends-byte n (λ none. tt))
     (λ v left e.
-    ends-judge (countFault most v) (λ broken. tt) (λ kept. ends-return (record { room = count-kept most v kept .most; bytes = e })))
+    ends-judge (countFault most v) (λ broken. tt) (λ kept. ends-return (record { within = count-kept most v kept; taken = e })))
 
 study-size : (t : Study) → length (studyBytes t) ≡ 3 + length (componentsBytes t) + length (gatesBytes t) + length (loadsBytes t)
 unfolding studyBytes
@@ -108,15 +98,15 @@ reading-costs n =
     (λ gates n2 g.
     ends-then (count-costs mostLoads n2)
     (λ loads n3 l.
-    ends-then (places-cost zeroComponent componentBytes mostComponents componentRecord noComponents components n3 (c .room) refl component-record-costs)
+    ends-then (places-cost zeroComponent componentBytes mostComponents componentRecord noComponents components n3 (c .within .most) refl component-record-costs)
     (λ cs n4 hc.
     let counts = take components (states cs) in
-    ends-then (places-cost noGate gateBytes mostGates (gateRecord counts) noGates gates n4 (g .room) refl (λ i gs. gate-costs counts i))
+    ends-then (places-cost noGate gateBytes mostGates (gateRecord counts) noGates gates n4 (g .within .most) refl (λ i gs. gate-costs counts i))
     (λ gs n5 hg.
-    ends-then (places-cost zeroLoad loadBytes mostLoads (loadRecord gates) noLoads loads n5 (l .room) refl (λ j ls. load-costs gates))
+    ends-then (places-cost zeroLoad loadBytes mostLoads (loadRecord gates) noLoads loads n5 (l .within .most) refl (λ j ls. load-costs gates))
     (λ ls left hl.
     let t : Study = record { components = components; gates = gates; loads = loads; component = cs; gate = gs; load = ls } in
-    ends-return (omega (arith, study-size t, c .bytes, g .bytes, l .bytes, hc, hg, hl))))))))
+    ends-return (omega (arith, study-size t, c .taken, g .taken, l .taken, hc, hg, hl))))))))
 
 pub study-costs : (bytes : List ℕ) (t : Study) (rest : List ℕ) → study bytes ≡ got t rest → length (studyBytes t) + length rest ≤ length bytes
 study-costs bytes t rest e =
