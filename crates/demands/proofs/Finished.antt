@@ -12,7 +12,7 @@ use Rattle.answers.proofs.Answered.{no-breach, values-told}
 use Rattle.soundness.specs.Check.{sound}
 use Rattle.soundness.specs.Sound.{Sound}
 use Rattle.soundness.proofs.Checked.{no-unsound}
-use Rattle.demands.specs.Calls.{Call, anEdit, listPaths, pathBounds, classBounds, loadBounds, figures}
+use Rattle.demands.specs.Calls.{Call, anEdit, listPaths, pathBounds, classBounds, loadBounds, figures, writeStudy}
 use Rattle.demands.specs.Calls.{callTold, callBreaches, callValues}
 use Rattle.demands.specs.Edits.{probabilities, customers, minutes}
 use Rattle.demands.proofs.Refusals.{calls-refuse}
@@ -31,6 +31,7 @@ headed (pathBounds lower upper) t = refl
 headed (classBounds lower upper) t = refl
 headed (loadBounds j) t = refl
 headed figures t = refl
+headed (writeStudy buffer) t = refl
 
 pub record Finished (c : Call) (t : Study) (values : List ℕ) : Type 0 where
   pub none : firstBreach (callBreaches c t) ≡ 0

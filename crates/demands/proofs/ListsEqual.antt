@@ -11,7 +11,7 @@ use Rattle.lists.specs.Bits.{bit}
 use Rattle.lists.specs.Rows.{put, joined}
 use Rattle.lists.proofs.Digits.{same-bits}
 use Rattle.lists.proofs.Elements.{Every}
-use Rattle.lists.proofs.Joined.{joined-more, joined-tells}
+use Rattle.lists.proofs.Joined.{joined-last, joined-tells}
 use Rattle.lists.proofs.Puts.{put-size}
 use Rattle.rules.specs.Table.{roomFault}
 use Rattle.rules.proofs.Kept.{list-last}
@@ -43,7 +43,7 @@ bytes-of n zero d = rw zero-mul refl
 bytes-of n (suc paths) d =
     let places : suc paths * entryBytes n ≡ paths * entryBytes n + entryBytes n = omega arith in
     rw places
-    (joined-more (entriesOf n paths d) (entryAt n d paths)
+    (joined-last (entriesOf n paths d) (entryAt n d paths)
     ∙ ap (λ (front : List ℕ). front ++ entryAt n d paths) (bytes-of n paths d)
     ∙ sym (take-add (paths * entryBytes n) (entryBytes n) d))
 

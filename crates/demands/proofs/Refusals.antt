@@ -14,6 +14,7 @@ use Rattle.answers.specs.declared.counts.Listing.the-variants.{Refused as NotLi
 use Rattle.answers.specs.declared.figures.FiguresAnswer.the-variants.{Refused as NoFigures}
 use Rattle.answers.specs.declared.outcome.Outcome.the-variants.{Refused}
 use Rattle.answers.proofs.Answered.{answered-tells, some-breach, filled-refused, filled-behind}
+use Rattle.writing.specs.Saving.{writeFault, studyWritten, bufferWritten}
 use Rattle.path_calls.specs.Bounds.{pairBreach, pathsBounded, classesBounded}
 use Rattle.path_calls.specs.Listing.{listFault, pathsListed, bufferListed}
 use Rattle.loss_calls.specs.Bounds.{lossFault, loadBounded}
@@ -22,7 +23,7 @@ use Rattle.lent_text.specs.Lent.{textFault, written}
 use Rattle.lent_text.proofs.Handed.{reported-tells}
 use Rattle.words.specs.Words.{refusalWord}
 use Rattle.report_text.specs.Report.{reportText}
-use Rattle.demands.specs.Calls.{Call, anEdit, listPaths, pathBounds, classBounds, loadBounds, figures}
+use Rattle.demands.specs.Calls.{Call, anEdit, listPaths, pathBounds, classBounds, loadBounds, figures, writeStudy}
 use Rattle.demands.specs.Calls.{callTold, callBreaches, callValues, studyAfter, Lent, callLent}
 use Rattle.demands.specs.Demand1.{OfEach, Kept, KeptBehind, Refuses, CallsRefuse, TextRefuses, TextsRefuse}
 use Rattle.demands.proofs.Edited.{edit-tells, edit-kept}
@@ -50,12 +51,14 @@ refuses breaches values lent is fills =
 
 call-refuses : (c : Call) (t : Study) → Refuses (callTold c t) (callBreaches c t) (callValues c t) (callLent c t)
 unfolding listFault pathsListed bufferListed pairBreach pathsBounded classesBounded lossFault loadBounded figuresFault figuresGiven
+    writeFault studyWritten bufferWritten
 call-refuses (anEdit e) t = refuses _ _ [] (edit-tells e t) tt
 call-refuses (listPaths buffer) t = refuses _ _ _ (answered-tells NotListed _ _ listingTold _ (λ n. refl) refl) (refl, tt)
 call-refuses (pathBounds lower upper) t = refuses _ _ _ (answered-tells NoCount _ _ countTold _ (λ n. refl) refl) (refl, (refl, tt))
 call-refuses (classBounds lower upper) t = refuses _ _ _ (answered-tells Refused _ _ outcomeTold _ (λ n. refl) refl) (refl, (refl, tt))
 call-refuses (loadBounds j) t = refuses _ _ [] (answered-tells NoBounds _ _ boundsTold _ (λ n. refl) refl) tt
 call-refuses figures t = refuses _ _ [] (answered-tells NoFigures _ _ figuresTold _ (λ n. refl) refl) tt
+call-refuses (writeStudy buffer) t = refuses _ _ _ (answered-tells NoCount _ _ countTold _ (λ n. refl) refl) (refl, tt)
 
 study-kept : (c : Call) (t : Study) (n : ℕ) → callTold c t ≡ refusal n → studyAfter c t ≡ t
 study-kept (anEdit e) t n refused = edit-kept e t (some-breach _ [] n (edit-tells e t) refused)
@@ -64,6 +67,7 @@ study-kept (pathBounds lower upper) t n refused = refl
 study-kept (classBounds lower upper) t n refused = refl
 study-kept (loadBounds j) t n refused = refl
 study-kept figures t n refused = refl
+study-kept (writeStudy buffer) t n refused = refl
 
 pub calls-refuse : CallsRefuse
 calls-refuse = record { refuses = call-refuses; study-kept = study-kept }

@@ -16,7 +16,7 @@ use Rattle.soundness.specs.Check.{sound, probabilitiesFault}
 use Rattle.soundness.specs.Sound.{Sound}
 use Rattle.soundness.proofs.Checked.{check-refuses, none-unsound}
 use Rattle.path_calls.specs.Bounds.{pairFault}
-use Rattle.demands.specs.Calls.{Call, anEdit, listPaths, pathBounds, classBounds, loadBounds, figures}
+use Rattle.demands.specs.Calls.{Call, anEdit, listPaths, pathBounds, classBounds, loadBounds, figures, writeStudy}
 use Rattle.demands.specs.Calls.{callTold, callBreaches, callValues, numbersBehind}
 use Rattle.demands.specs.Demand1.{OneOf, UnsoundRefused, NumbersListed}
 use Rattle.demands.specs.Edits.{probabilities, customers, minutes}
@@ -65,6 +65,7 @@ numbers-behind (pathBounds lower upper) t = of-pair _ _ _
 numbers-behind (classBounds lower upper) t = of-pair _ _ _
 numbers-behind (loadBounds j) t = of-row 17 _
 numbers-behind figures t = of-row 19 _
+numbers-behind (writeStudy buffer) t = of-row 18 _
 
 -- and 16 is none of them
 other-numbers : (c : Call) → among (0 ∷ numbersBehind c) 16 ≡ false
@@ -76,6 +77,7 @@ other-numbers (pathBounds lower upper) = refl
 other-numbers (classBounds lower upper) = refl
 other-numbers (loadBounds j) = refl
 other-numbers figures = refl
+other-numbers (writeStudy buffer) = refl
 
 not-sixteen : (c : Call) → OneOf (0 ∷ numbersBehind c) 16 → ⊥
 not-sixteen c h = false≢true (sym (other-numbers c) ∙ one-among (0 ∷ numbersBehind c) 16 h)

@@ -1,4 +1,4 @@
--- The later calls, those on an opened study, as one type: what each tells, its breaches in order, the numbers that document 01 lists for it, and what
+-- The later calls, those on an opened study, as one type: what each tells, its breaches in order, the numbers that documents 01 and 02 list for it, and what
 -- it leaves of the study and of what was lent.
 use Prim.Native.Nat.{ℕ}
 use mathlib.Core.List.{List, [], _∷_}
@@ -6,6 +6,8 @@ use lib.ListN.{length}
 use Rattle.lists.specs.Rows.{joined}
 use Rattle.study.specs.declared.Study.{Study}
 use Rattle.answers.specs.Told.{Told, pairValues, figureValues, outcomeTold, listingTold, countTold, boundsTold, figuresTold}
+use Rattle.study_bytes.specs.Written.{studyBytes}
+use Rattle.writing.specs.Saving.{writeBreaches, studyWritten, bufferWritten}
 use Rattle.entries.specs.Entries.{classPlaces}
 use Rattle.model.specs.Model.{pathsOf}
 use Rattle.study_model.specs.Model.{modelOf}
@@ -25,6 +27,7 @@ pub data Call : Type 0 where
   classBounds : List ℕ → List ℕ → Call
   loadBounds : ℕ → Call
   figures : Call
+  writeStudy : List ℕ → Call
 
 -- what its answer tells
 abbrev pub callTold : Call → Study → Told
@@ -34,6 +37,7 @@ callTold (pathBounds lower upper) t = countTold (pathsBounded t lower upper)
 callTold (classBounds lower upper) t = outcomeTold (classesBounded t lower upper)
 callTold (loadBounds j) t = boundsTold (loadBounded t j)
 callTold figures t = figuresTold (figuresGiven t)
+callTold (writeStudy buffer) t = countTold (studyWritten t buffer)
 
 -- the list of its breaches, in order
 abbrev pub callBreaches : Call → Study → List ℕ
@@ -43,6 +47,7 @@ callBreaches (pathBounds lower upper) t = pairBreaches t (length (pathsOf (model
 callBreaches (classBounds lower upper) t = pairBreaches t classPlaces (length lower) (length upper)
 callBreaches (loadBounds j) t = lossBreaches t j
 callBreaches figures t = figuresBreaches t
+callBreaches (writeStudy buffer) t = writeBreaches t (length buffer)
 
 -- the values of its result
 abbrev pub callValues : Call → Study → List ℕ
@@ -52,6 +57,7 @@ callValues (pathBounds lower upper) t = length (pathsOf (modelOf t)) ∷ []
 callValues (classBounds lower upper) t = []
 callValues (loadBounds j) t = pairValues (lossOf (modelOf t) j)
 callValues figures t = figureValues (modelFigures (modelOf t))
+callValues (writeStudy buffer) t = length (studyBytes t) ∷ []
 
 -- the numbers by which it can be refused once the study is found sound
 abbrev pub numbersBehind : Call → List ℕ
@@ -63,6 +69,7 @@ numbersBehind (pathBounds lower upper) = 18 ∷ []
 numbersBehind (classBounds lower upper) = 18 ∷ []
 numbersBehind (loadBounds j) = 17 ∷ []
 numbersBehind figures = 19 ∷ []
+numbersBehind (writeStudy buffer) = 18 ∷ []
 
 -- the study that the caller then has: an edit answers one, and every other call leaves the caller's own
 abbrev pub studyAfter : Call → Study → Study
@@ -72,6 +79,7 @@ studyAfter (pathBounds lower upper) t = t
 studyAfter (classBounds lower upper) t = t
 studyAfter (loadBounds j) t = t
 studyAfter figures t = t
+studyAfter (writeStudy buffer) t = t
 
 -- something lent: what it held before and holds after, and what a call that is not refused fills its front with
 pub record Lent : Type 0 where
@@ -92,3 +100,4 @@ callLent (classBounds lower upper) t =
     ∷ []
 callLent (loadBounds j) t = []
 callLent figures t = []
+callLent (writeStudy buffer) t = record { before = buffer; after = bufferWritten t buffer; result = studyBytes t } ∷ []

@@ -5,5 +5,6 @@ pub mod Demand2
 pub mod Demand3
 pub mod Edits
 pub mod Listed
+pub mod Saving
 pub mod SharedComponent
 pub mod WorkedExamples

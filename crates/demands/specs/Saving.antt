@@ -8,8 +8,8 @@ use Rattle.ordering.specs.Inputs.{Alike}
 use Rattle.rules.specs.Limits.{longestStudy, mostGates}
 use Rattle.study.specs.declared.Gate.{Gate}
 use Rattle.study.specs.declared.Study.{Study}
-use Rattle.study.specs.Places.{Shaped, ShapedGate, gateAt}
-use Rattle.gate_order.specs.Order.{testsOf, gateInputsOf, InOrder, inOrder}
+use Rattle.study.specs.Places.{Shaped, gateAt}
+use Rattle.gate_order.specs.Order.{testsOf, gateInputsOf, InOrder}
 use Rattle.study_bytes.specs.Written.{studyBytes}
 use Rattle.answers.specs.declared.counts.CountAnswer.the-variants.{Count}
 use Rattle.answers.specs.declared.outcome.Outcome.the-variants.{Done}
@@ -91,7 +91,12 @@ pub record SavesAlike : Type 0 where
   pub no-others : (a b : List ℕ) → opened a .outcome ≡ Done → opened b .outcome ≡ Done → studyBytes (opened a .study) ≡ studyBytes (opened b .study)
       → SameButOrder (asGiven a) (asGiven b)
 
--- Putting inputs in order changes no gate's truth in any joint state, whatever the gates below it are; so no truth of a study that opens; and so nothing
--- of the model, from which the list, the bounds, the figures and the report follow.
-pub record TruthKept : Type 0 where
-  pub of-gate : (t : Study) → Sound t → (i : ℕ) → i < t .gates → (x : List ℕ) (holds : ℕ → Bool) → gateTrue (inOrder (gateAt t i)) x holds ≡ gateTrue (gateAt t i) x holds
+-- Putting inputs in order changes no gate's truth in any joint state, whatever gates below it hold; so it changes no truth of a study; and so nothing of its
+-- model, from which the list, the bounds, the figures and the report follow.
+pub record TruthKept (bytes : List ℕ) : Type 0 where
+  pub gate : (i : ℕ) → i < mostGates → (x : List ℕ) (holds : ℕ → Bool) → gateTrue (gateAt (opened bytes .study) i) x holds ≡ gateTrue (gateAt (asGiven bytes) i) x holds
+  pub truths : (x : List ℕ) → gateTruths (opened bytes .study .gate) x (opened bytes .study .gates) ≡ gateTruths (asGiven bytes .gate) x (asGiven bytes .gates)
+  pub model : modelOf (opened bytes .study) ≡ modelOf (asGiven bytes)
+
+abbrev pub TruthsKept : Type 0
+TruthsKept = (bytes : List ℕ) → opened bytes .outcome ≡ Done → TruthKept bytes

@@ -9,7 +9,7 @@ use lib.Seq.{getD-set-same, getD-set-other}
 use Rattle.lists.specs.Product.{product}
 use Rattle.lists.specs.Rows.{joined}
 use Rattle.lists.specs.Tabulate.{tabulate}
-use Rattle.lists.proofs.Joined.{joined-more}
+use Rattle.lists.proofs.Joined.{joined-last}
 use Rattle.lists.proofs.Tabulated.{tabulate-alike}
 use Rattle.rules.specs.Limits.{mostComponents, mostGates, mostLoads}
 use Rattle.rules.specs.Table.{countFault, widthFault}
@@ -42,7 +42,7 @@ module _ {A : Type 0} (d : A) (bytes : A → List ℕ) (most : ℕ) where
       let now : ℕ → List ℕ = λ i. bytes (getD (set l k a) i d) in
       let before : ℕ → List ℕ = λ i. bytes (getD l i d) in
       ap (λ (n : ℕ). length (joined (tabulate now n))) (add-one k)
-      ∙ ap length (joined-more (tabulate now k) (now k))
+      ∙ ap length (joined-last (tabulate now k) (now k))
       ∙ length-append (joined (tabulate now k)) (now k)
       ∙ rw
       (tabulate-alike now before k (λ i less. ap bytes (getD-set-other l k i a d (λ same. omega arith))), getD-set-same l k a d inside) refl
