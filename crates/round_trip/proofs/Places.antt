@@ -9,6 +9,7 @@ use lib.ListN.{length, getD, take, drop, set, replicate, length-replicate, getD-
 use lib.Seq.{length-take-le, getD-drop, ext-getD, take-at, paste-suc}
 
 module _ {A : Type 0} (l before : List A) where
+  -- l in front, and behind it what was before
   unfoldable pub filledTo : ℕ → List A
   filledTo n = take n l ++ drop n before
 
@@ -34,7 +35,7 @@ module _ {A : Type 0} (l before : List A) where
 
 -- ---- a row of numbers, in places that held 0
 
-abbrev pub zeros : ℕ → List ℕ
+abbrev zeros : ℕ → List ℕ
 zeros size = replicate size 0
 
 module _ (size : ℕ) (l : List ℕ) where

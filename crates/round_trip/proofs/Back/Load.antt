@@ -1,4 +1,4 @@
--- A load record that is written is read back.
+-- A load record that is written is read back. What carries it: customers and minutes are within their limits, so that each fits in four bytes.
 use Prim.Native.Nat.{ℕ, zero, suc, _+_, _^_, _<_}
 use mathlib.Core.Path.{_≡_, refl}
 use mathlib.Core.List.{[]}

@@ -1,4 +1,5 @@
--- A component record costs no fewer bytes to read than it is written to.
+-- A component record costs no fewer bytes to read than it is written to. What carries it: a field that is read makes the record longer by no more than
+-- it took.
 use Prim.Native.Nat.{ℕ, zero, suc, _+_, _^_, _<_, _≤_}
 use native.Mathlib.Omega.{arith}
 use lib.ListN.{length}

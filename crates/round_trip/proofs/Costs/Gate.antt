@@ -1,5 +1,5 @@
 -- A gate record costs no fewer bytes to read than it is written to. What carries it: reading the tests leaves every other field as it was, and so does
--- reading the gate inputs.
+-- reading the gate inputs, so that the record is longer by no more than they took.
 use Prim.Native.Nat.{ℕ, _+_, _*_, _≤_}
 use mathlib.Core.Path.{_≡_, refl, sym, ap, subst}
 use mathlib.Core.List.{List, _∷_}

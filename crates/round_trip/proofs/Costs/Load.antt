@@ -1,4 +1,4 @@
--- A load record costs no fewer bytes to read than it is written to.
+-- A load record costs no fewer bytes to read than it is written to. What carries it: a field that is read makes the record longer by no more than it took.
 use Prim.Native.Nat.{ℕ, _+_, _≤_}
 use mathlib.Core.Path.{_≡_}
 use native.Mathlib.Omega.{arith}
