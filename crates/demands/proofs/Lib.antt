@@ -14,6 +14,11 @@ pub mod Paths
 pub mod Reached
 pub mod Refusals
 pub mod RefusedOpening
+pub mod SameGates
+pub mod Saved
+pub mod SavedAlike
 pub mod SharedComponent
+pub mod Sorted
+pub mod TruthKept
 pub mod Unsound
 pub mod WorkedExamples

@@ -22,7 +22,7 @@ changed-shaped (probabilities i p1 p2 p3) t s =
 changed-shaped (customers j n) t s = record { components = s .components; gates = s .gates; loads = simp length-set (s .loads); gate = s .gate }
 changed-shaped (minutes j n) t s = record { components = s .components; gates = s .gates; loads = simp length-set (s .loads); gate = s .gate }
 
-reached-shaped : (t : Study) → Reached t → Shaped t
+pub reached-shaped : (t : Study) → Reached t → Shaped t
 reached-shaped t (opened bytes done) = opened-shaped bytes
 reached-shaped t (edited e u r) =
     let shaped = reached-shaped u r in

@@ -24,7 +24,7 @@ pub record Fits (g : Gate) : Type 0 where
   pub gates : g .gates ≤ mostGateInputs
 
 -- gate inputs have no mask
-unmasked-none : (l : List ℕ) (n : ℕ) → Every (λ (a : Input). a .mask ≡ 0) noInput (take n (map unmasked l))
+pub unmasked-none : (l : List ℕ) (n : ℕ) → Every (λ (a : Input). a .mask ≡ 0) noInput (take n (map unmasked l))
 unmasked-none l zero k h = absurd (omega arith)
 unmasked-none [] (suc n) k h = absurd (omega arith)
 unmasked-none (a ∷ l) (suc n) zero h = refl
