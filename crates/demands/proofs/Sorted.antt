@@ -166,8 +166,7 @@ module _ (bytes : List ℕ) (done : opened bytes .outcome ≡ Done) where
   pub opened-in-order : AllInOrder (opened bytes .study)
   opened-in-order i inside =
       let t = opened bytes .study in
-      let s = opened-sound bytes done in
-      (
+      let s = opened-sound bytes done in (
         subst (λ (u : Study). InOrder (gateAt u i)) (sym (opened-ordered bytes done)) (ordered-order (asGiven bytes) (opened-given bytes done) i inside),
         zero-behind t s (opened-shaped bytes) i inside,
       )
