@@ -24,3 +24,4 @@ pub use report_text::empty_report;
 pub use report_text::report;
 pub use rules::LONGEST_STUDY;
 pub use words::refusal_word;
+pub use writing::write;
