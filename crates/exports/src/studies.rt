@@ -1,5 +1,6 @@
-// Opening and the edits.
+// Opening, the edits and saving.
 ghost use Rattle.export_studies.specs.Images.{Opens, SetsProbabilities, SetsCustomers, SetsMinutes};
+ghost use Rattle.export_studies.specs.Saving.{Saves};
 
 // Opens a study; its image stands at the front of the slice. Refused by the first breach met, 1 to 15, then by 18.
 #[no_mangle]
@@ -37,4 +38,12 @@ pub extern "C" fn grid_set_minutes(study: &mut [u8], load: usize, minutes: u32) 
     ensures { λ r. ⌜ SetsMinutes load minutes (now (study .entry)) (now (study .exit)) r ⌝ }
 {
     export_studies::set_minutes(study, load, minutes)
+}
+
+// Writes a study at the front of the buffer; answers how many bytes it has. Refused by 16, 18, in this order.
+#[no_mangle]
+pub extern "C" fn grid_write(study: &[u8], bytes: &mut [u8]) -> i64
+    ensures { λ r. ⌜ Saves (now (study .entry)) (now (bytes .entry)) (now (bytes .exit)) r ⌝ }
+{
+    export_studies::write(study, bytes)
 }
