@@ -2,13 +2,15 @@
 use Prim.Native.Nat.{ℕ, _≤_}
 use mathlib.Core.Path.{_≡_, refl, sym, ap, _∙_}
 use mathlib.Core.Bool.{Bool, true, false, not, cond}
-use mathlib.Core.List.{List, [], _∷_}
+use mathlib.Core.List.{List, [], _∷_, _++_}
 use native.Mathlib.Nat.{le-refl}
 use native.Mathlib.Omega.{arith}
 use lib.Dec.{eqb}
 use lib.ListN.{length}
-use borrow.Author.Tests.{eq-eqb, not-true, not-false}
+use borrow.Author.Tests.{eq-eqb, eqb-true, not-true, not-false}
 use Rattle.lists.specs.Counting.{truth}
+use Rattle.lists.specs.Rows.{joined}
+use Rattle.lists.specs.Tabulate.{tabulate}
 use Rattle.study_bytes.specs.Written.{byteOf, fourBytesOf, field, given}
 
 -- the bit of a field stands where the field is given
@@ -36,6 +38,17 @@ module _ (absent value : ℕ) {is-given : Bool} (judged : is-given ≡ not (eqb 
 
   pub number-bit : Bit (field absent value (fourBytesOf value)) is-given
   number-bit = field-bit _ _
+
+-- ---- a count, and what it counts
+
+-- where the count is absent there is nothing behind it
+pub field-counted : (n : ℕ) (f : ℕ → List ℕ) → field 0 n (n ∷ joined (tabulate f n)) ≡ field 0 n (byteOf n) ++ joined (tabulate f n)
+unfolding joined tabulate
+field-counted n f = go (eqb n 0) refl
+  where
+    go : (b : Bool) → eqb n 0 ≡ b → cond b [] (n ∷ joined (tabulate f n)) ≡ cond b [] (byteOf n) ++ joined (tabulate f n)
+    go true none = ap (λ (k : ℕ). joined (tabulate f k)) (sym (eqb-true n 0 none))
+    go false some = refl
 
 -- ---- how long it is
 

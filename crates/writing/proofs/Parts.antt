@@ -1,22 +1,29 @@
--- What stands one behind the other in a study's bytes: the map and the fields of a record, a count and what it counts, and the records of each kind.
+-- What stands one behind the other in a study's bytes: the map and the fields of a record, each count and what it counts, and the records of each kind.
 use Prim.Native.Nat.{ℕ, _≤_}
-use mathlib.Core.Path.{_≡_, sym, ap, subst, _∙_}
-use mathlib.Core.List.{List, [], _∷_, _++_, append-nil}
-use native.Mathlib.Omega.{arith}
+use mathlib.Core.Path.{_≡_, sym, ap, ap₂, subst, _∙_}
+use mathlib.Core.List.{List, [], _∷_, _++_, append-nil, append-assoc}
 use lib.ListN.{length}
 use Rattle.lists.specs.Rows.{joined}
-use Rattle.lists.proofs.Puts.{Due, due-start, due-more, due-done, due-end}
+use Rattle.lists.specs.Tabulate.{tabulate}
 use Rattle.text.specs.Writing.{Room, Wrote}
 use Rattle.text.proofs.Pieces.{Pieces, pieces-start, pieces-done}
+use Rattle.study.specs.declared.Gate.{Gate}
 use Rattle.study.specs.declared.Study.{Study}
-use Rattle.study_bytes.specs.Written.{byteOf, mapOf, recordBytes, componentsBytes, gatesBytes, loadsBytes, studyBytes}
+use Rattle.study.specs.Absent.{absentGate}
+use Rattle.study_bytes.specs.Written.{byteOf, field, mapOf, recordBytes, testBytes, inputBytes, gateFields}
+use Rattle.study_bytes.specs.Written.{componentsBytes, gatesBytes, loadsBytes, studyBytes}
+use Rattle.study_bytes.proofs.Fields.{field-counted}
 
 -- ---- the map and the fields of a record, as the code has them
 
-module _ {map : ℕ} {fields others : List (List ℕ)} (is-map : map ≡ mapOf fields) (same : others ≡ fields) where
+-- pieces that are the same as some fields once they stand one behind the other
+pub record Spell (pieces fields : List (List ℕ)) : Type 0 where
+  pub same : joined pieces ≡ joined fields
+
+module _ {map : ℕ} {fields others : List (List ℕ)} (is-map : map ≡ mapOf fields) (spell : Spell others fields) where
   record-joined : joined (byteOf map ∷ others) ≡ recordBytes fields
   unfolding joined recordBytes
-  record-joined = ap (λ (m : ℕ). m ∷ joined others) is-map ∙ ap (λ (rest : List (List ℕ)). mapOf fields ∷ joined rest) same
+  record-joined = ap (λ (m : ℕ). m ∷ joined others) is-map ∙ ap (λ (rest : List ℕ). mapOf fields ∷ rest) (spell .same)
 
   module _ {d₀ : List ℕ} {at : ℕ} where
     pub record-start : Room d₀ at (recordBytes fields) → Pieces (byteOf map ∷ others) d₀ at 0 d₀ at
@@ -26,23 +33,32 @@ module _ {map : ℕ} {fields others : List (List ℕ)} (is-map : map ≡ mapOf f
         → Wrote d₀ at (recordBytes fields) d p
     record-done {d} {k} {p} w h = subst (λ (x : List ℕ). Wrote d₀ at x d p) record-joined (pieces-done w h)
 
--- ---- a byte, and what stands behind it
+-- ---- the fields of a gate, where each count stands in front of what it counts
 
-module _ {d : List ℕ} {at n : ℕ} {x : List ℕ} (room : Room d at (n ∷ x)) where
-  pub first-room : Room d at (byteOf n)
-  first-room = record { fits = omega (arith, room .fits) }
+abbrev pub gateParts : Gate → Gate → List (List ℕ)
+gateParts absent g =
+    field (absent .threshold) (g .threshold) (byteOf (g .threshold))
+    ∷ field (absent .tests) (g .tests) (byteOf (g .tests))
+    ∷ joined (tabulate (testBytes g) (g .tests))
+    ∷ field (absent .gates) (g .gates) (byteOf (g .gates))
+    ∷ joined (tabulate (inputBytes g) (g .gates))
+    ∷ []
 
-  module _ {d′ : List ℕ} {p : ℕ} (first : Wrote d at (byteOf n) d′ p) where
-    due : Due d at (n ∷ x) d′ p x
-    due = due-more (byteOf n) x (due-start (room .fits)) (first .holds) (first .behind)
+gate-joined : (absent g : Gate) → absent ≡ absentGate → joined (gateParts absent g) ≡ joined (gateFields g)
+unfolding joined absentGate
+gate-joined absent g is =
+    let tests = field 0 (g .tests) (byteOf (g .tests)) in
+    let gates = field 0 (g .gates) (byteOf (g .gates)) in
+    let first = joined (tabulate (testBytes g) (g .tests)) in
+    let second = joined (tabulate (inputBytes g) (g .gates)) in
+    ap (λ (a : Gate). joined (gateParts a g)) is
+    ∙ ap (λ (rest : List ℕ). field 1 (g .threshold) (byteOf (g .threshold)) ++ rest)
+    (sym (append-assoc tests first (gates ++ (second ++ [])))
+    ∙ ap (λ (rest : List ℕ). (tests ++ first) ++ rest) (sym (append-assoc gates second []))
+    ∙ ap₂ (λ (a b : List ℕ). a ++ (b ++ [])) (sym (field-counted (g .tests) (testBytes g))) (sym (field-counted (g .gates) (inputBytes g))))
 
-    pub rest-room : Room d′ p x
-    rest-room = record { fits = due .room }
-
-    pub byte-then : {d″ : List ℕ} {q : ℕ} → Wrote d′ p x d″ q → Wrote d at (n ∷ x) d″ q
-    byte-then {d″} {q} rest =
-        let all : Due d at (n ∷ x) d″ q [] = due-more x [] (rw append-nil due) (rest .holds) (rest .behind) in
-        record { holds = due-done all; behind = due-end all }
+pub gate-spelt : (absent g : Gate) → absent ≡ absentGate → Spell (gateParts absent g) (gateFields g)
+gate-spelt absent g is = record { same = gate-joined absent g is }
 
 -- ---- the parts of a study: its three counts, and its records of each kind
 

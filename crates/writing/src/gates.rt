@@ -3,8 +3,8 @@ use crate::fields::byte_field;
 use crate::fields::is_given;
 use crate::fields::map_of;
 use crate::fields::write_byte;
-use crate::inputs::inputs_field;
-use crate::inputs::tests_field;
+use crate::inputs::write_inputs;
+use crate::inputs::write_tests;
 use study::Gate;
 use study::Study;
 use study::absent_gate;
@@ -38,8 +38,10 @@ fn write_gate(out: &mut [u8], at: usize, g: Gate) -> usize
     let absent = absent_gate();
     let threshold = write_byte(out, at, gate_map(g));
     let tests = byte_field(out, threshold, absent.threshold, g.threshold);
-    let inputs = tests_field(out, tests, absent.tests, g);
-    inputs_field(out, inputs, absent.gates, g)
+    let first_test = byte_field(out, tests, absent.tests, g.tests);
+    let gates = write_tests(out, first_test, g);
+    let first_gate = byte_field(out, gates, absent.gates, g.gates);
+    write_inputs(out, first_gate, g)
 }
 
 // Writes the records of a sound study's gates.

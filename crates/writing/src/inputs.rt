@@ -1,6 +1,4 @@
-// The inputs of a gate: its tests and its gate inputs, each kind a field of its count and the inputs themselves.
-use crate::fields::is_given;
-use crate::fields::write_byte;
+// The inputs of a gate, its tests and its gate inputs, as they stand behind their count; none where the count is absent.
 use study::Gate;
 use text::copy;
 ghost use Prim.Native.Nat.{_<_, _≤_};
@@ -8,7 +6,7 @@ ghost use Rattle.lists.specs.Rows.{joined};
 ghost use Rattle.lists.specs.Tabulate.{tabulate};
 ghost use Rattle.rules.specs.Limits.{mostTests, mostGateInputs};
 ghost use Rattle.text.specs.Writing.{Room, Wrote};
-ghost use Rattle.study_bytes.specs.Written.{field, testBytes, inputBytes, testsBytes, inputsBytes};
+ghost use Rattle.study_bytes.specs.Written.{testBytes, inputBytes};
 
 // Writes test j of a gate.
 fn write_test(out: &mut [u8], at: usize, g: Gate, j: usize) -> usize
@@ -21,7 +19,7 @@ fn write_test(out: &mut [u8], at: usize, g: Gate, j: usize) -> usize
 }
 
 // Writes the tests of a gate.
-fn write_tests(out: &mut [u8], at: usize, g: Gate) -> usize
+pub fn write_tests(out: &mut [u8], at: usize, g: Gate) -> usize
     requires { ⌜ g .tests ≤ mostTests ⌝ }
     requires { ⌜ Room (now out) at (joined (tabulate (testBytes g) (g .tests))) ⌝ }
     ensures { λ r. ⌜ Wrote (now (out .entry)) at (joined (tabulate (testBytes g) (g .tests))) (now (out .exit)) r ⌝ }
@@ -37,37 +35,11 @@ fn write_tests(out: &mut [u8], at: usize, g: Gate) -> usize
 }
 
 // Writes the gate inputs of a gate.
-fn write_inputs(out: &mut [u8], at: usize, g: Gate) -> usize
+pub fn write_inputs(out: &mut [u8], at: usize, g: Gate) -> usize
     requires { ⌜ g .gates ≤ mostGateInputs ⌝ }
     requires { ⌜ Room (now out) at (joined (tabulate (inputBytes g) (g .gates))) ⌝ }
     ensures { λ r. ⌜ Wrote (now (out .entry)) at (joined (tabulate (inputBytes g) (g .gates))) (now (out .exit)) r ⌝ }
 {
     let input = g.input;
     copy(out, at, &input[..g.gates as usize])
-}
-
-// Writes the field of a gate's tests: their count, and each.
-pub fn tests_field(out: &mut [u8], at: usize, absent: u8, g: Gate) -> usize
-    requires { ⌜ g .tests ≤ mostTests ⌝ }
-    requires { ⌜ Room (now out) at (field absent (g .tests) (testsBytes g)) ⌝ }
-    ensures { λ r. ⌜ Wrote (now (out .entry)) at (field absent (g .tests) (testsBytes g)) (now (out .exit)) r ⌝ }
-{
-    if is_given(absent as u32, g.tests as u32) {
-        let first = write_byte(out, at, g.tests);
-        return write_tests(out, first, g);
-    }
-    at
-}
-
-// Writes the field of a gate's gate inputs: their count, and each.
-pub fn inputs_field(out: &mut [u8], at: usize, absent: u8, g: Gate) -> usize
-    requires { ⌜ g .gates ≤ mostGateInputs ⌝ }
-    requires { ⌜ Room (now out) at (field absent (g .gates) (inputsBytes g)) ⌝ }
-    ensures { λ r. ⌜ Wrote (now (out .entry)) at (field absent (g .gates) (inputsBytes g)) (now (out .exit)) r ⌝ }
-{
-    if is_given(absent as u32, g.gates as u32) {
-        let first = write_byte(out, at, g.gates);
-        return write_inputs(out, first, g);
-    }
-    at
 }

@@ -1,12 +1,13 @@
 -- `writing::components::write_component` meets its contract: its map and its fields stand one behind the other (`Pieces`).
 use Prim.Native.Nat.{ℕ}
-use mathlib.Core.Path.{_≡_, ap}
+use mathlib.Core.Path.{ap}
 use mathlib.Core.List.{List, [], _∷_}
 use native.Mathlib.Omega.{arith}
 use Rattle.study.specs.declared.Component.{Component}
+use Rattle.lists.specs.Rows.{joined}
 use Rattle.text.proofs.Pieces.{Pieces, pieces-room, pieces-more}
 use Rattle.study_bytes.specs.Written.{byteOf, fourBytesOf, field, componentFields}
-use Rattle.writing.proofs.Parts.{record-start, record-done}
+use Rattle.writing.proofs.Parts.{Spell, record-start, record-done}
 use borrow.Author.Needs.{needs}
 use Rattle.writing.proofs.components.write_component.Statement.{statement}
 use Rattle.writing.proofs.components.write_component.Tie as tie
@@ -39,8 +40,8 @@ fields absent k =
     ∷ field (absent .p3) (k .p3) (fourBytesOf (k .p3))
     ∷ []
 
-same : (c : tie.After-component-map) → fields (c .before .before .absent-component .result) (start c .args .c) ≡ componentFields (start c .args .c)
-same c = ap (λ (absent : Component). fields absent (start c .args .c)) (c .before .before .absent-component .ensures)
+same : (c : tie.After-component-map) → Spell (fields (c .before .before .absent-component .result) (start c .args .c)) (componentFields (start c .args .c))
+same c = record { same = ap (λ (absent : Component). joined (fields absent (start c .args .c))) (c .before .before .absent-component .ensures) }
 
 abbrev Written : tie.After-component-map → ℕ → List ℕ → ℕ → Type 0
 Written c k d p =

@@ -1,12 +1,13 @@
 -- `writing::loads::write_load` meets its contract: its map and its fields stand one behind the other (`Pieces`).
 use Prim.Native.Nat.{ℕ}
-use mathlib.Core.Path.{_≡_, ap}
+use mathlib.Core.Path.{ap}
 use mathlib.Core.List.{List, [], _∷_}
 use native.Mathlib.Omega.{arith}
 use Rattle.study.specs.declared.Load.{Load}
+use Rattle.lists.specs.Rows.{joined}
 use Rattle.text.proofs.Pieces.{Pieces, pieces-room, pieces-more}
 use Rattle.study_bytes.specs.Written.{byteOf, fourBytesOf, field, loadFields}
-use Rattle.writing.proofs.Parts.{record-start, record-done}
+use Rattle.writing.proofs.Parts.{Spell, record-start, record-done}
 use borrow.Author.Needs.{needs}
 use Rattle.writing.proofs.loads.write_load.Statement.{statement}
 use Rattle.writing.proofs.loads.write_load.Tie as tie
@@ -35,8 +36,8 @@ fields absent l =
     ∷ field (absent .minutes) (l .minutes) (fourBytesOf (l .minutes))
     ∷ []
 
-same : (c : tie.After-load-map) → fields (c .before .before .absent-load .result) (start c .args .l) ≡ loadFields (start c .args .l)
-same c = ap (λ (absent : Load). fields absent (start c .args .l)) (c .before .before .absent-load .ensures)
+same : (c : tie.After-load-map) → Spell (fields (c .before .before .absent-load .result) (start c .args .l)) (loadFields (start c .args .l))
+same c = record { same = ap (λ (absent : Load). joined (fields absent (start c .args .l))) (c .before .before .absent-load .ensures) }
 
 abbrev Written : tie.After-load-map → ℕ → List ℕ → ℕ → Type 0
 Written c k d p =
