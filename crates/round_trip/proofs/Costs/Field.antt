@@ -1,19 +1,11 @@
 -- A field that is written anew makes its record longer by no more than its own bytes, whatever stood there before.
 use Prim.Native.Nat.{ℕ, zero, suc, _+_, _≤_}
-use mathlib.Core.Bool.{Bool, true, false, cond}
 use mathlib.Core.List.{List, [], _∷_}
 use native.Mathlib.Omega.{arith}
-use lib.Dec.{eqb}
 use lib.ListN.{length, set, length-append}
 use Rattle.lists.specs.Rows.{joined}
 use Rattle.study_bytes.specs.Written.{field, recordBytes}
-
-field-most : (absent value : ℕ) (x : List ℕ) → length (field absent value x) ≤ length x
-field-most absent value x = go (eqb value absent)
-  where
-    go : (b : Bool) → length (cond b [] x) ≤ length x
-    go true = omega arith
-    go false = omega arith
+use Rattle.study_bytes.proofs.Fields.{field-most}
 
 joined-anew : (xs : List (List ℕ)) (k : ℕ) (y : List ℕ) → length (joined (set xs k y)) ≤ length (joined xs) + length y
 unfolding joined
