@@ -1,15 +1,15 @@
 -- Gates by their inputs: two that hold the same inputs are true together, and two that hold the same rows in their places are the same gate.
-use Prim.Native.Nat.{ℕ, _+_, _<_, _≤_}
-use mathlib.Core.Path.{_≡_, refl, sym, ap, ap₂, _∙_}
+use Prim.Native.Nat.{ℕ, _+_, _<_}
+use mathlib.Core.Path.{_≡_, sym, ap, ap₂, _∙_}
 use mathlib.Core.Bool.{Bool}
 use mathlib.Core.List.{List}
 use native.Mathlib.Decide.{decLt}
 use native.Mathlib.Omega.{arith}
 use lib.Dec.{leb}
-use lib.ListN.{length, getD}
+use lib.ListN.{getD}
 use lib.Seq.{ext-getD}
 use Rattle.lists.specs.Bits.{bit}
-use Rattle.lists.specs.Counting.{sum, truth, countTrue}
+use Rattle.lists.specs.Counting.{truth, countTrue}
 use Rattle.ordering.specs.Inputs.{Input, noInput}
 use Rattle.rules.specs.Limits.{mostTests, mostGateInputs}
 use Rattle.study.specs.declared.Gate.{Gate}

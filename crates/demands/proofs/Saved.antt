@@ -7,10 +7,10 @@ use mathlib.Core.List.{List, [], _∷_, _++_, append-nil}
 use native.Mathlib.Decide.{decLt}
 use native.Mathlib.Omega.{arith}
 use lib.Dec.{eqb}
-use lib.ListN.{length, getD, take, length-map, length-append}
+use lib.ListN.{length, take, length-map, length-append}
 use lib.Seq.{ext-getD, take-at}
-use Rattle.lists.specs.Counting.{sum, sumOver}
-use Rattle.lists.specs.Rows.{joined, put}
+use Rattle.lists.specs.Counting.{sumOver}
+use Rattle.lists.specs.Rows.{put}
 use Rattle.lists.proofs.Joined.{joined-sum}
 use Rattle.lists.proofs.SumBelow.{sum-alike}
 use Rattle.rules.specs.Breach.{refuse}

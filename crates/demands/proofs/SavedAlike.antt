@@ -27,9 +27,9 @@ module _ (a b : List ℕ) (done : opened a .outcome ≡ Done) (done′ : opened 
       (subst (λ (t : Study). SameButOrder t (asGiven b)) (sym one) (opened-same b done′))
 
 pub saves-alike : SavesAlike
-saves-alike =
+saves-alike a b done done′ =
     record {
-      same-study = same-study;
-      same-bytes = λ a b done done′ same. ap studyBytes (same-study a b done done′ same);
-      no-others = no-others;
+      same-study = same-study a b done done′;
+      same-bytes = λ same. ap studyBytes (same-study a b done done′ same);
+      no-others = no-others a b done done′;
     }

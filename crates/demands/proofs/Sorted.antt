@@ -5,19 +5,19 @@ use mathlib.Core.Path.{_≡_, refl, sym, ap, subst, _∙_}
 use mathlib.Core.List.{List}
 use native.Mathlib.Decide.{decLt}
 use native.Mathlib.Omega.{arith}
-use lib.ListN.{length, getD}
+use lib.ListN.{getD}
 use lib.Pow.{pow-mono}
 use lib.Seq.{ext-getD}
 use Rattle.lists.proofs.Elements.{Every}
-use Rattle.ordering.specs.Inputs.{noInput}
-use Rattle.ordering.proofs.Unique.{ByteMask, alike-bytes, ascending-same}
+use Rattle.ordering.specs.Inputs.{noInput, ByteMask}
+use Rattle.ordering.proofs.Unique.{alike-bytes, ascending-same}
 use Rattle.rules.specs.Limits.{mostGates, mostStates}
 use Rattle.rules.proofs.Kept.{range-kept}
 use Rattle.study.specs.declared.Gate.{Gate}
 use Rattle.study.specs.declared.Study.{Study}
 use Rattle.study.specs.Joint.{stateCounts}
 use Rattle.study.specs.Places.{Shaped, noGate, gateAt}
-use Rattle.gate_order.specs.Order.{unmasked, testsOf, gateInputsOf, InOrder, inOrder, ordered}
+use Rattle.gate_order.specs.Order.{testsOf, gateInputsOf, InOrder, inOrder, ordered}
 use Rattle.gate_order.proofs.InOrder.{Fits, unmasked-none, tests-long, tests-alike, gate-inputs-alike}
 use Rattle.gate_order.proofs.Kept.{test-at}
 use Rattle.answers.specs.declared.outcome.Outcome.the-variants.{Done}
@@ -26,7 +26,7 @@ use Rattle.soundness.proofs.Ranges.{counts-few, count-most, test-component}
 use Rattle.opening.specs.Opening.{asGiven, opened}
 use Rattle.opening.proofs.Opened.Order.{Given, gate-fits, ordered-gate, ordered-order}
 use Rattle.opening.proofs.Opened.Study.{opened-sound, opened-shaped, opened-given, opened-ordered}
-use Rattle.demands.specs.Saving.{SameInputs, SameButOrder, AllInOrder, Sorted, OpenedSorted}
+use Rattle.demands.specs.Saving.{SameInputs, SameButOrder, AllInOrder, OpenedSorted}
 use Rattle.demands.proofs.SameGates.{same-gate}
 
 -- ---- the same inputs

@@ -84,17 +84,19 @@ OpenedSorted = (bytes : List ℕ) → opened bytes .outcome ≡ Done → Sorted 
 
 -- Byte rows that open, and give the same study but for the order of inputs within gates, open to the same study and are written to the same bytes; and
 -- no others are.
-pub record SavesAlike : Type 0 where
-  pub same-study : (a b : List ℕ) → opened a .outcome ≡ Done → opened b .outcome ≡ Done → SameButOrder (asGiven a) (asGiven b) → opened a .study ≡ opened b .study
-  pub same-bytes : (a b : List ℕ) → opened a .outcome ≡ Done → opened b .outcome ≡ Done → SameButOrder (asGiven a) (asGiven b)
-      → studyBytes (opened a .study) ≡ studyBytes (opened b .study)
-  pub no-others : (a b : List ℕ) → opened a .outcome ≡ Done → opened b .outcome ≡ Done → studyBytes (opened a .study) ≡ studyBytes (opened b .study)
-      → SameButOrder (asGiven a) (asGiven b)
+pub record Alikes (a b : List ℕ) : Type 0 where
+  pub same-study : SameButOrder (asGiven a) (asGiven b) → opened a .study ≡ opened b .study
+  pub same-bytes : SameButOrder (asGiven a) (asGiven b) → studyBytes (opened a .study) ≡ studyBytes (opened b .study)
+  pub no-others : studyBytes (opened a .study) ≡ studyBytes (opened b .study) → SameButOrder (asGiven a) (asGiven b)
+
+abbrev pub SavesAlike : Type 0
+SavesAlike = (a b : List ℕ) → opened a .outcome ≡ Done → opened b .outcome ≡ Done → Alikes a b
 
 -- Putting inputs in order changes no gate's truth in any joint state, whatever gates below it hold; so it changes no truth of a study; and so nothing of its
 -- model, from which the list, the bounds, the figures and the report follow.
 pub record TruthKept (bytes : List ℕ) : Type 0 where
-  pub gate : (i : ℕ) → i < mostGates → (x : List ℕ) (holds : ℕ → Bool) → gateTrue (gateAt (opened bytes .study) i) x holds ≡ gateTrue (gateAt (asGiven bytes) i) x holds
+  pub gate : (i : ℕ) → i < mostGates → (x : List ℕ) (holds : ℕ → Bool)
+      → gateTrue (gateAt (opened bytes .study) i) x holds ≡ gateTrue (gateAt (asGiven bytes) i) x holds
   pub truths : (x : List ℕ) → gateTruths (opened bytes .study .gate) x (opened bytes .study .gates) ≡ gateTruths (asGiven bytes .gate) x (asGiven bytes .gates)
   pub model : modelOf (opened bytes .study) ≡ modelOf (asGiven bytes)
 

@@ -1,6 +1,6 @@
 -- The front part of the places that the code lends: as many as the count says, and no more than there are. It is the row of inputs that the count means.
 use Prim.Native.Nat.{ℕ, min, _+_, _≤_}
-use mathlib.Core.Path.{_≡_, refl, sym, ap, _∙_}
+use mathlib.Core.Path.{_≡_, sym, ap, _∙_}
 use mathlib.Core.List.{List, _++_, map}
 use native.Mathlib.Nat.{min-eq-left, min-eq-right, zero-add}
 use native.Mathlib.Decide.{decLe}
@@ -71,7 +71,3 @@ inputs-front count k within l long =
     paired-take k l (replicate mostGateInputs 0)
     ∙ ap (take k) beside
     ∙ take-front count mostGateInputs k within (map unmasked l) (length-map l unmasked ∙ long)
-
-pub no-masks-long : length noMasks ≡ mostGateInputs
-unfolding noMasks
-no-masks-long = refl

@@ -1,21 +1,21 @@
 -- What putting the inputs of a gate in order comes to: they stand sorted, so they ascend and are the same inputs; a gate in order stays as it is.
-use Prim.Native.Nat.{ℕ, zero, suc, min, _+_, _<_, _≤_}
-use mathlib.Core.Path.{_≡_, refl, sym, ap, ap₂, subst, _∙_}
-use mathlib.Core.List.{List, [], _∷_, _++_, map}
+use Prim.Native.Nat.{ℕ, zero, suc, _+_, _≤_}
+use mathlib.Core.Path.{_≡_, refl, sym, ap, subst, _∙_}
+use mathlib.Core.List.{List, [], _∷_, map}
 use native.Mathlib.Omega.{arith}
-use lib.ListN.{length, getD, take, drop, length-map, take-append-drop}
-use lib.Seq.{length-take-le, getD-take}
+use lib.ListN.{length, take, length-map}
+use lib.Seq.{length-take-le}
 use Rattle.lists.specs.Rows.{put}
-use Rattle.lists.proofs.Elements.{Every, every-map}
+use Rattle.lists.proofs.Elements.{Every}
 use Rattle.lists.proofs.Puts.{put-size}
 use Rattle.ordering.specs.Inputs.{Input, noInput, paired, numbers, masks, Ascending, Alike, sorted}
-use Rattle.ordering.proofs.Pairs.{paired-numbers, paired-masks, paired-long, paired-take}
+use Rattle.ordering.proofs.Pairs.{paired-long}
 use Rattle.ordering.proofs.Sorted.{sorted-alike, sorted-long, sorted-every, sorted-ascends, sorted-still}
 use Rattle.rules.specs.Limits.{mostTests, mostGateInputs}
 use Rattle.study.specs.declared.Gate.{Gate}
 use Rattle.study.specs.Places.{ShapedGate}
 use Rattle.gate_order.specs.Order.{unmasked, testsOf, gateInputsOf, InOrder, inOrder}
-use Rattle.gate_order.proofs.Rows.{tests-front, inputs-front, components-own, masks-own, inputs-own}
+use Rattle.gate_order.proofs.Rows.{tests-written, inputs-written, components-own, masks-own, inputs-own}
 
 -- a gate that has its places, and no more inputs than those
 pub record Fits (g : Gate) : Type 0 where
@@ -45,12 +45,12 @@ module _ (g : Gate) (fits : Fits g) where
 
   pub tests-sorted : testsOf (inOrder g) ≡ sorted (testsOf g)
   unfolding inOrder
-  tests-sorted = tests-front (g .component) (g .mask) (g .tests) (sorted (testsOf g)) (sorted-long (testsOf g) ∙ tests-long)
+  tests-sorted = tests-written (g .component) (g .mask) (g .tests) (sorted (testsOf g)) (sorted-long (testsOf g) ∙ tests-long)
 
   pub gate-inputs-sorted : gateInputsOf (inOrder g) ≡ sorted (gateInputsOf g)
   unfolding inOrder
   gate-inputs-sorted =
-      inputs-front (g .input) (g .gates) (sorted (gateInputsOf g)) (sorted-long (gateInputsOf g) ∙ gate-inputs-long)
+      inputs-written (g .input) (g .gates) (sorted (gateInputsOf g)) (sorted-long (gateInputsOf g) ∙ gate-inputs-long)
       (sorted-every (λ (a : Input). a .mask ≡ 0) (gateInputsOf g) (unmasked-none (g .input) (g .gates)))
 
   pub tests-alike : Alike (testsOf (inOrder g)) (testsOf g)
@@ -88,7 +88,9 @@ module _ (g : Gate) (fits : Fits g) where
         component =
             put-size (g .component) _ 0 (numbers (sorted (testsOf g))) (rw (numbers-long (sorted (testsOf g)), fits .shaped .component) tests-few) refl
             ∙ fits .shaped .component;
-        mask = put-size (g .mask) _ 0 (masks (sorted (testsOf g))) (rw (masks-long (sorted (testsOf g)), fits .shaped .mask) tests-few) refl ∙ fits .shaped .mask;
+        mask =
+            put-size (g .mask) _ 0 (masks (sorted (testsOf g))) (rw (masks-long (sorted (testsOf g)), fits .shaped .mask) tests-few) refl
+            ∙ fits .shaped .mask;
         input =
             put-size (g .input) _ 0 (numbers (sorted (gateInputsOf g)))
             (rw (numbers-long (sorted (gateInputsOf g)), fits .shaped .input) gate-inputs-few) refl
@@ -106,8 +108,10 @@ module _ (g : Gate) (fits : Fits g) where
   in-order-still order =
       let room : g .tests ≤ length (g .component) = rw (fits .shaped .component) (fits .tests) in
       let tests = sorted-still (testsOf g) (order .tests) in
-      let component = ap (λ (row : List Input). put (g .component) 0 (numbers row)) tests ∙ components-own (g .component) (g .mask) (g .tests) one-length room in
-      let mask = ap (λ (row : List Input). put (g .mask) 0 (masks row)) tests ∙ masks-own (g .component) (g .mask) (g .tests) one-length room in
+      let component =
+      ap (λ (row : List Input). put (g .component) 0 (numbers row)) tests ∙ components-own (g .component) (g .mask) (g .tests) one-length room in
+      let mask =
+      ap (λ (row : List Input). put (g .mask) 0 (masks row)) tests ∙ masks-own (g .component) (g .mask) (g .tests) one-length room in
       let input =
       ap (λ (row : List Input). put (g .input) 0 (numbers row)) (sorted-still (gateInputsOf g) (order .gate-inputs))
       ∙ inputs-own (g .input) (g .gates) (rw (fits .shaped .input) (fits .gates)) in

@@ -1,9 +1,9 @@
 -- What putting the inputs of a gate in order keeps: whatever holds of each input, and what stands behind them.
-use Prim.Native.Nat.{ℕ, _+_, _<_, _≤_}
-use mathlib.Core.Path.{_≡_, refl, sym, ap, subst, _∙_}
+use Prim.Native.Nat.{ℕ, _<_, _≤_}
+use mathlib.Core.Path.{_≡_, sym, ap, subst, _∙_}
 use mathlib.Core.List.{map}
 use native.Mathlib.Omega.{arith}
-use lib.ListN.{length, getD, take, length-map}
+use lib.ListN.{length, getD, length-map}
 use lib.Seq.{getD-take}
 use Rattle.lists.proofs.Elements.{Every}
 use Rattle.lists.proofs.Fronts.{put-behind}
@@ -38,7 +38,8 @@ module _ (P : Input → Type 0) (g : Gate) (fits : Fits g) where
       λ k inside. let less : k < g .tests = omega (arith, tests-long g fits) in subst P (sym (test-at g fits k less)) (each k less) in
       let sorts = sorted-every P (testsOf g) rows in
       let inside : j < length (sorted (testsOf g)) = omega (arith, below, sorted-long (testsOf g), tests-long g fits) in
-      subst P (ap (λ (row : _). getD row j noInput) (sym (tests-sorted g fits)) ∙ test-at (inOrder g) (in-order-fits g fits) j below) (sorts j inside)
+      let here = ap (λ (row : _). getD row j noInput) (sym (tests-sorted g fits)) ∙ test-at (inOrder g) (in-order-fits g fits) j below in
+      subst P here (sorts j inside)
 
   pub gate-inputs-every : ((j : ℕ) → j < g .gates → P (unmasked (getD (g .input) j 0))) → (j : ℕ) → j < g .gates → P (unmasked (getD (inOrder g .input) j 0))
   unfolding inOrder
@@ -47,7 +48,8 @@ module _ (P : Input → Type 0) (g : Gate) (fits : Fits g) where
       λ k inside. let less : k < g .gates = omega (arith, gate-inputs-long g fits) in subst P (sym (gate-input-at g fits k less)) (each k less) in
       let sorts = sorted-every P (gateInputsOf g) rows in
       let inside : j < length (sorted (gateInputsOf g)) = omega (arith, below, sorted-long (gateInputsOf g), gate-inputs-long g fits) in
-      subst P (ap (λ (row : _). getD row j noInput) (sym (gate-inputs-sorted g fits)) ∙ gate-input-at (inOrder g) (in-order-fits g fits) j below) (sorts j inside)
+      let here = ap (λ (row : _). getD row j noInput) (sym (gate-inputs-sorted g fits)) ∙ gate-input-at (inOrder g) (in-order-fits g fits) j below in
+      subst P here (sorts j inside)
 
 module _ (g : Gate) (fits : Fits g) (j : ℕ) where
   pub component-behind : g .tests ≤ j → getD (inOrder g .component) j 0 ≡ getD (g .component) j 0

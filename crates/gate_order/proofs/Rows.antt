@@ -1,10 +1,10 @@
 -- Rows of inputs in the places of a gate: what is written over the front of the places is what stands there then.
-use Prim.Native.Nat.{ℕ, zero, suc, min, _+_, _<_, _≤_}
-use mathlib.Core.Path.{_≡_, refl, sym, ap, ap₂, _∙_}
+use Prim.Native.Nat.{ℕ, zero, suc, min, _+_, _≤_}
+use mathlib.Core.Path.{_≡_, refl, sym, ap, _∙_}
 use mathlib.Core.List.{List, [], _∷_, _++_, map}
 use native.Mathlib.Nat.{zero-add}
 use native.Mathlib.Omega.{arith}
-use lib.ListN.{length, getD, take, drop, length-map, length-take, take-append-drop}
+use lib.ListN.{length, take, drop, length-map, length-take, take-append-drop}
 use lib.Seq.{take-at, length-take-le}
 use Rattle.lists.specs.Rows.{put}
 use Rattle.lists.proofs.Elements.{Every}
@@ -31,10 +31,12 @@ paired-parted : (row : List Input) → length (paired (numbers row) (masks row))
 paired-parted row = ap length (parted-paired row)
 
 -- tests written over the front
-pub tests-front : (c m : List ℕ) (n : ℕ) (row : List Input) → length row ≡ n → take n (paired (put c 0 (numbers row)) (put m 0 (masks row))) ≡ row
+pub tests-written : (c m : List ℕ) (n : ℕ) (row : List Input) → length row ≡ n → take n (paired (put c 0 (numbers row)) (put m 0 (masks row))) ≡ row
 unfolding put
-tests-front c m n row e =
-    ap (take n) (paired-append (numbers row) (masks row) _ _ (long row)) ∙ take-at (paired (numbers row) (masks row)) _ n (paired-parted row ∙ e) ∙ parted-paired row
+tests-written c m n row e =
+    ap (take n) (paired-append (numbers row) (masks row) _ _ (long row))
+    ∙ take-at (paired (numbers row) (masks row)) _ n (paired-parted row ∙ e)
+    ∙ parted-paired row
 
 -- gate inputs have no mask
 numbers-unmasked : (row : List Input) → Every (λ (a : Input). a .mask ≡ 0) noInput row → map unmasked (numbers row) ≡ row
@@ -46,10 +48,10 @@ numbers-unmasked (a ∷ row) none =
     λ i. first i ∷ rest i
 
 -- gate inputs written over the front
-pub inputs-front : (l : List ℕ) (n : ℕ) (row : List Input) → length row ≡ n → Every (λ (a : Input). a .mask ≡ 0) noInput row
+pub inputs-written : (l : List ℕ) (n : ℕ) (row : List Input) → length row ≡ n → Every (λ (a : Input). a .mask ≡ 0) noInput row
     → take n (map unmasked (put l 0 (numbers row))) ≡ row
 unfolding put
-inputs-front l n row e none =
+inputs-written l n row e none =
     ap (take n) (map-append (numbers row) _)
     ∙ take-at (map unmasked (numbers row)) _ n (ap length (numbers-unmasked row none) ∙ e)
     ∙ numbers-unmasked row none

@@ -95,7 +95,8 @@ joined-most most (row ∷ rows) each k = go (joined-most most rows (λ i h. each
         rw (place, getD-append-add row (joined rows) (k - length row) 0) (rest (k - length row))
 
 -- the first rows
-pub joined-front : (width n : ℕ) (rows : List (List ℕ)) → Every (λ (row : List ℕ). length row ≡ width) [] rows → take (n * width) (joined rows) ≡ joined (take n rows)
+pub joined-front : (width n : ℕ) (rows : List (List ℕ)) → Every (λ (row : List ℕ). length row ≡ width) [] rows
+    → take (n * width) (joined rows) ≡ joined (take n rows)
 unfolding joined
 joined-front width zero rows each = rw zero-mul refl
 joined-front width (suc n) [] each = take-all (suc n * width) [] (omega arith)

@@ -1,5 +1,5 @@
 -- `gate_order::gates_in_order` meets its contract. The array is filled from the front with the gates in order (`Filling`); the places left fall.
-use Prim.Native.Nat.{ℕ, _+_, _-_}
+use Prim.Native.Nat.{_+_, _-_}
 use mathlib.Core.Path.{_≡_, sym, subst, _∙_}
 use mathlib.Core.List.{List, map}
 use native.Mathlib.Omega.{arith}

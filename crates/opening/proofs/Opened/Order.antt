@@ -96,7 +96,8 @@ module _ (t : Study) (given : Given t) where
   ordered-order i inside = subst InOrder (sym (ordered-gate i inside)) (in-order-ordered (gateAt t i) (gate-fits i inside))
 
   pub ordered-unused : (i : ℕ) → t .gates ≤ i → i < mostGates → UnusedGate (gateAt (ordered t) i)
-  ordered-unused i from inside = subst UnusedGate (sym (ordered-gate i inside)) (unused-ordered (gateAt t i) (gate-fits i inside) (given .no-gate i from inside))
+  ordered-unused i from inside =
+      subst UnusedGate (sym (ordered-gate i inside)) (unused-ordered (gateAt t i) (gate-fits i inside) (given .no-gate i from inside))
 
   pub ordered-shaped : Shaped (ordered t)
   unfolding ordered

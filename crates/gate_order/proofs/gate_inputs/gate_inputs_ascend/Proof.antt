@@ -1,7 +1,7 @@
 -- `gate_order::gate_inputs::gate_inputs_ascend` meets its contract: the front parts of the places that are lent are the gate inputs, with no masks (`Fronts`).
-use mathlib.Core.Path.{_≡_, ap, _∙_}
+use mathlib.Core.Path.{ap, _∙_}
 use mathlib.Core.List.{List}
-use lib.ListN.{length, take}
+use lib.ListN.{take}
 use borrow.Author.Needs.{needs}
 use Rattle.ordering.specs.Inputs.{paired, ascends}
 use Rattle.rules.specs.Limits.{mostGateInputs}

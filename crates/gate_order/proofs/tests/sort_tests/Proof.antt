@@ -1,5 +1,5 @@
 -- `gate_order::tests::sort_tests` meets its contract: the front parts of the places that are lent are the tests (`Fronts`), and come back sorted.
-use mathlib.Core.Path.{_≡_, ap, _∙_}
+use mathlib.Core.Path.{_≡_}
 use lib.ListN.{length}
 use borrow.Author.Needs.{needs}
 use Rattle.rules.specs.Limits.{mostTests}

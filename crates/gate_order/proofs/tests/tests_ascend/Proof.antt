@@ -1,6 +1,5 @@
 -- `gate_order::tests::tests_ascend` meets its contract: the front parts of the places that are lent are the tests (`Fronts`).
-use mathlib.Core.Path.{_≡_, ap, _∙_}
-use lib.ListN.{length}
+use mathlib.Core.Path.{ap, _∙_}
 use borrow.Author.Needs.{needs}
 use Rattle.ordering.specs.Inputs.{ascends}
 use Rattle.rules.specs.Limits.{mostTests}
