@@ -1,4 +1,5 @@
-// Bytes in hexadecimal, and the numbers that they hold.
+// Bytes in hexadecimal, read and shown, and the numbers that they hold.
+use crate::numbers::separator;
 ghost use Prim.Native.Nat.{_*_, _≤_};
 ghost use lib.ListN.{length};
 ghost use Rattle.io.specs.Counts.{Counts};
@@ -49,4 +50,29 @@ pub fn number_at(bytes: &[u8], at: usize) -> u32
         + 256 * byte_at(bytes, at + 1) as u32
         + 65536 * byte_at(bytes, at + 2) as u32
         + 16777216 * byte_at(bytes, at + 3) as u32
+}
+
+// The figure or capital letter of the last four bits.
+fn digit(bits: u8) -> u8 {
+    let value = bits % 16;
+    if value < 10 {
+        b'0' + value
+    } else {
+        b'A' - 10 + value
+    }
+}
+
+// Shows a byte as two digits; the last one of a line ends it.
+fn show_byte(byte: u8, last: bool) {
+    let shown = [digit(byte / 16), digit(byte), separator(last)];
+    io::write_all(1, &shown);
+}
+
+// Shows some bytes on a line; none are no line.
+pub fn show_bytes(bytes: &[u8]) {
+    let mut i: usize = 0;
+    while i < bytes.len() {
+        show_byte(bytes[i], i + 1 == bytes.len());
+        i = i + 1;
+    }
 }

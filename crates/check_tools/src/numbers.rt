@@ -8,8 +8,8 @@ pub fn one_if(so: bool) -> u64
     if so { 1 } else { 0 }
 }
 
-// What stands behind a number: a blank, or the end of the line.
-fn separator(last: bool) -> u8 {
+// What stands behind a number of a line: a blank, or the end of the line.
+pub fn separator(last: bool) -> u8 {
     if last { b'\n' } else { b' ' }
 }
 

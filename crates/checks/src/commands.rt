@@ -27,12 +27,17 @@
 //     w NUMBER SIZE FILL          asks for the word of a refusal in so many bytes that all hold FILL. One line: the refusal, 0 for none, and the
 //                                 number of bytes. One line: the word. One line: how many of the bytes behind the word hold FILL, and how many
 //                                 do not
+//     x SIZE FILL                 writes the current study out into so many bytes, at most 53,248, that all hold FILL. One line: the refusal, 0
+//                                 for none, and the number of bytes. Unless refused, one line: the bytes. One line: how many of the bytes
+//                                 behind them hold FILL, and how many do not
+//     y FIELD ITEM PLACE VALUE    alters a field of a copy as `a` does, and writes it out as `x` does into 64 bytes that hold 170
 //
 // P1, P2, P3, N and VALUE have four bytes, lowest byte first, SIZE, LOWER and UPPER have two, and the others one. A byte that is missing counts as 0. Any
 // other letter does nothing.
 use crate::filled::bound;
 use crate::filled::list;
 use crate::filled::word;
+use crate::filled::write;
 use crate::told::bound_load;
 use crate::told::figures;
 use check_tools::alter::altered;
@@ -129,6 +134,15 @@ fn word_sized(bytes: &[u8]) {
     );
 }
 
+// Writes the study out into a buffer of the size that the command asks for.
+fn write_sized(bytes: &[u8], study: Study) {
+    write(
+        study,
+        number_at(bytes, 0) as usize % 65536,
+        byte_at(bytes, 2),
+    );
+}
+
 // Obeys a command that leaves the current study as it is.
 fn look(letter: u8, bytes: &[u8], study: Study) {
     match letter {
@@ -142,6 +156,8 @@ fn look(letter: u8, bytes: &[u8], study: Study) {
         b'i' => figures(study),
         b'n' => numbers::number(planning::loads_lost(byte_at(bytes, 0)) as u64, true),
         b'w' => word_sized(bytes),
+        b'x' => write_sized(bytes, study),
+        b'y' => write(altered_copy(bytes, study), 64, 170),
         _ => {}
     }
 }

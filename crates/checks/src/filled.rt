@@ -118,7 +118,7 @@ pub fn bound(study: Study, lower_count: usize, upper_count: usize, classes: bool
 // Asks for the word of a refusal in bytes that hold a value, and shows it all.
 fn word_into(number: u8, lent: &mut [u8], fill: u8) {
     let filled = counted(planning::refusal_word(number, lent));
-    show_text(filled.refusal, filled.count, lent, fill);
+    show_text(filled.refusal, filled.count, lent, fill, false);
 }
 
 // Asks for the word of a refusal in so many bytes that hold a value, and shows it all.
@@ -126,4 +126,17 @@ pub fn word(number: u8, size: usize, fill: u8) {
     let mut room = filled_list(fill);
     let end = front_size(&room, size);
     word_into(number, &mut room[..end], fill);
+}
+
+// Writes a study out into bytes that hold a value, and shows it all.
+fn write_into(study: Study, lent: &mut [u8], fill: u8) {
+    let filled = counted(planning::write(study, lent));
+    show_text(filled.refusal, filled.count, lent, fill, true);
+}
+
+// Writes a study out into so many bytes that hold a value, and shows it all.
+pub fn write(study: Study, size: usize, fill: u8) {
+    let mut room = filled_list(fill);
+    let end = front_size(&room, size);
+    write_into(study, &mut room[..end], fill);
 }
