@@ -5,8 +5,9 @@ use ordering::sort;
 use rules::INPUT_PLACES;
 ghost use mathlib.Core.Path.{_≡_};
 ghost use mathlib.Core.List.{map};
-ghost use lib.ListN.{take};
+ghost use lib.ListN.{length, take};
 ghost use Rattle.lists.specs.Rows.{put};
+ghost use Rattle.rules.specs.Limits.{mostGateInputs};
 ghost use Rattle.ordering.specs.Inputs.{numbers, sorted, ascends as Inputs·ascends};
 ghost use Rattle.gate_order.specs.Order.{unmasked, noMasks};
 
@@ -17,15 +18,14 @@ fn no_masks() -> [u8; INPUT_PLACES]
     [0; INPUT_PLACES]
 }
 
-// The places with the first so many gate inputs in order.
-pub fn sort_gate_inputs(count: u8, input: [u8; INPUT_PLACES]) -> [u8; INPUT_PLACES]
-    ensures { λ r. ⌜ r ≡ put input 0 (numbers (sorted (take count (map unmasked input)))) ⌝ }
+// Puts the first so many gate inputs in order, in their places.
+pub fn sort_gate_inputs(count: u8, input: &mut [u8])
+    requires { ⌜ length (now input) ≡ mostGateInputs ⌝ }
+    ensures { λ r. ⌜ now (input .exit) ≡ put (now (input .entry)) 0 (numbers (sorted (take count (map unmasked (now (input .entry)))))) ⌝ }
 {
     let n = within(count, INPUT_PLACES);
-    let mut sorted = input;
     let mut masks = no_masks();
-    sort(&mut sorted[..n], &mut masks[..n]);
-    sorted
+    sort(&mut input[..n], &mut masks[..n]);
 }
 
 // Whether the first so many gate inputs are in order.

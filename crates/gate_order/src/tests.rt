@@ -4,29 +4,20 @@ use ordering::ascends;
 use ordering::sort;
 use rules::TEST_PLACES;
 ghost use mathlib.Core.Path.{_≡_};
-ghost use lib.ListN.{take};
+ghost use lib.ListN.{length, take};
 ghost use Rattle.lists.specs.Rows.{put};
+ghost use Rattle.rules.specs.Limits.{mostTests};
 ghost use Rattle.ordering.specs.Inputs.{paired, numbers, masks, sorted, ascends as Inputs·ascends};
 
-// The test places of a gate.
-pub struct Tests {
-    pub component: [u8; TEST_PLACES],
-    pub mask: [u8; TEST_PLACES],
-}
-
-// The places with the first so many tests in order.
-pub fn sort_tests(count: u8, component: [u8; TEST_PLACES], mask: [u8; TEST_PLACES]) -> Tests
-    ensures component { λ r. ⌜ r .component ≡ put component 0 (numbers (sorted (take count (paired component mask)))) ⌝ }
-    ensures mask { λ r. ⌜ r .mask ≡ put mask 0 (masks (sorted (take count (paired component mask)))) ⌝ }
+// Puts the first so many tests in order, in their places.
+pub fn sort_tests(count: u8, component: &mut [u8], mask: &mut [u8])
+    requires components { ⌜ length (now component) ≡ mostTests ⌝ }
+    requires masks { ⌜ length (now mask) ≡ mostTests ⌝ }
+    ensures component { λ r. ⌜ now (component .exit) ≡ put (now (component .entry)) 0 (numbers (sorted (take count (paired (now (component .entry)) (now (mask .entry)))))) ⌝ }
+    ensures mask { λ r. ⌜ now (mask .exit) ≡ put (now (mask .entry)) 0 (masks (sorted (take count (paired (now (component .entry)) (now (mask .entry)))))) ⌝ }
 {
     let n = within(count, TEST_PLACES);
-    let mut of = component;
-    let mut by = mask;
-    sort(&mut of[..n], &mut by[..n]);
-    Tests {
-        component: of,
-        mask: by,
-    }
+    sort(&mut component[..n], &mut mask[..n]);
 }
 
 // Whether the first so many tests are in order.

@@ -1,17 +1,20 @@
-// The gate inputs of a gate: a count, then so many numbers of lower gates.
-use crate::GateRead;
+// The gate inputs of a gate: a count, then so many numbers of lower gates, which go to lent places.
+use crate::RowRead;
 use reading::ByteRead;
 use reading::byte_at;
+use reading::map_digit;
 use rules::MOST_GATE_INPUTS;
 use rules::ahead_fault;
 use rules::first;
 use rules::inputs_fault;
-use study::Gate;
 ghost use mathlib.Core.Path.{_≡_};
-ghost use Prim.Native.Nat.{_<_, _≤_};
+ghost use Prim.Native.Nat.{ℕ, _≤_};
+ghost use lib.ListN.{length};
 ghost use Rattle.rules.specs.Limits.{mostGateInputs};
+ghost use Rattle.reading.specs.Fields.{fieldAt};
 ghost use Rattle.reading.specs.Reader.{ReadsAt, ReadsWith, repeat};
-ghost use Rattle.gate_record.specs.Gate.{inputsByte, withInput, input, inputs};
+ghost use Rattle.study.specs.declared.Gate.{Gate};
+ghost use Rattle.gate_record.specs.Gate.{inputsByte, withInput, withInputRow, input as Gate·input, inputs};
 
 // A count of tests or of gate inputs, which is in range where it is not refused.
 pub fn inputs_at(bytes: &[u8], at: usize, most: u8) -> ByteRead
@@ -25,65 +28,60 @@ pub fn inputs_at(bytes: &[u8], at: usize, most: u8) -> ByteRead
     }
 }
 
-// The gate with gate input j anew.
-fn with_input(j: usize, gate: u8, g: Gate) -> Gate
-    requires { ⌜ j < mostGateInputs ⌝ }
-    ensures { λ r. ⌜ r ≡ withInput j gate g ⌝ }
-{
-    let mut h = g;
-    h.input[j] = gate;
-    h
-}
-
-// Gate input j of the gate with this number.
-fn read_input(bytes: &[u8], at: usize, number: usize, j: usize, g: Gate) -> GateRead
-    requires { ⌜ j < mostGateInputs ⌝ }
-    ensures { λ r. ⌜ ReadsAt (now (bytes .entry)) at (input number j g) (r .refusal) (r .next) (r .gate) ⌝ }
+// A gate input of the gate with this number, whatever its place.
+fn read_input(bytes: &[u8], at: usize, number: usize) -> ByteRead
+    ensures { λ r. ⌜ ((j : ℕ) (g : Gate) → ReadsAt (now (bytes .entry)) at (Gate·input number j g) (r .refusal) (r .next) (withInput j (r .value) g)) ⌝ }
 {
     let b = byte_at(bytes, at);
-    GateRead {
+    ByteRead {
         refusal: first(b.refusal, ahead_fault(number, b.value)),
         next: b.next,
-        gate: with_input(j, b.value, g),
+        value: b.value,
     }
 }
 
 // So many gate inputs.
-fn read_input_list(bytes: &[u8], at: usize, number: usize, n: usize, g: Gate) -> GateRead
-    requires { ⌜ n ≤ mostGateInputs ⌝ }
-    ensures { λ r. ⌜ ReadsAt (now (bytes .entry)) at (repeat (input number) n g) (r .refusal) (r .next) (r .gate) ⌝ }
+fn read_input_list(bytes: &[u8], at: usize, number: usize, n: usize, input: &mut [u8]) -> RowRead
+    requires { ⌜ n ≤ length (now input) ⌝ }
+    ensures { λ r.
+        ⌜ ((k : ℕ) (g : Gate) → ReadsAt (now (bytes .entry)) at (repeat (Gate·input number) n (withInputRow k (now (input .entry)) g)) (r .refusal) (r .next)
+        (withInputRow k (now (input .exit)) g)) ⌝ }
 {
     let mut refusal: u8 = 0;
     let mut next = at;
-    let mut gate = g;
     let mut j: usize = 0;
     while j < n {
-        let t = read_input(bytes, next, number, j, gate);
-        refusal = first(refusal, t.refusal);
-        next = t.next;
-        gate = t.gate;
+        let b = read_input(bytes, next, number);
+        refusal = first(refusal, b.refusal);
+        next = b.next;
+        input[j] = b.value;
         j = j + 1;
     }
-    GateRead {
-        refusal,
-        next,
-        gate,
-    }
+    RowRead { refusal, next }
 }
 
-// The field of bit 2.
-pub fn read_inputs(bytes: &[u8], at: usize, number: usize, g: Gate) -> GateRead
-    ensures { λ r. ⌜ ReadsAt (now (bytes .entry)) at (inputs number g) (r .refusal) (r .next) (r .gate) ⌝ }
+// The field of bit 2, where the bit stands in the map: how many gate inputs there are. These go to their places.
+pub fn read_inputs(bytes: &[u8], at: usize, number: usize, map: u8, input: &mut [u8]) -> ByteRead
+    requires { ⌜ length (now input) ≡ mostGateInputs ⌝ }
+    ensures { λ r.
+        ⌜ ((g : Gate) → ReadsAt (now (bytes .entry)) at (fieldAt (λ k. inputs number) map 2 (withInputRow 0 (now (input .entry)) g)) (r .refusal) (r .next)
+        (withInputRow (r .value) (now (input .exit)) g)) ⌝ }
 {
-    let n = inputs_at(bytes, at, MOST_GATE_INPUTS);
-    if n.refusal != 0 {
-        return GateRead {
-            refusal: n.refusal,
+    if map_digit(map, 2) != 1 {
+        return ByteRead {
+            refusal: 0,
             next: at,
-            gate: g,
+            value: 0,
         };
     }
-    let mut h = g;
-    h.gates = n.value;
-    read_input_list(bytes, n.next, number, n.value as usize, h)
+    let n = inputs_at(bytes, at, MOST_GATE_INPUTS);
+    if n.refusal != 0 {
+        return n;
+    }
+    let row = read_input_list(bytes, n.next, number, n.value as usize, input);
+    ByteRead {
+        refusal: row.refusal,
+        next: row.next,
+        value: n.value,
+    }
 }

@@ -1,11 +1,12 @@
-// Reads one gate record. Not for callers from outside.
+// Reads one gate record, and puts the inputs of the gate in order. Not for callers from outside.
 mod inputs;
 mod tests;
 
+use gate_order::sort_gate_inputs;
+use gate_order::sort_tests;
 use inputs::read_inputs;
+use reading::ByteRead;
 use reading::byte_at;
-use reading::field_count;
-use reading::fields_behind;
 use reading::map_at;
 use reading::map_digit;
 use rules::GATE_MAPS;
@@ -13,13 +14,14 @@ use rules::first;
 use rules::threshold_fault;
 use study::Gate;
 use study::absent_gate;
-use study::input_count;
 use tests::read_tests;
+ghost use mathlib.Core.Path.{_≡_};
 ghost use Prim.Native.Nat.{_<_};
+ghost use lib.ListN.{length};
+ghost use Rattle.rules.specs.Limits.{gateMaps, mostTests, mostGateInputs};
 ghost use Rattle.reading.specs.Reader.{ReadsAt};
-ghost use Rattle.reading.specs.Fields.{mapBits, fieldAt, fields};
-ghost use Rattle.study.specs.Absent.{absentGate};
-ghost use Rattle.gate_record.specs.Gate.{threshold, gateField, gate};
+ghost use Rattle.reading.specs.Fields.{fieldAt, fields};
+ghost use Rattle.gate_record.specs.Gate.{withThreshold, nothingGiven, threshold, gateField, gateInOrder};
 
 pub struct GateRead {
     pub refusal: u8,
@@ -27,87 +29,117 @@ pub struct GateRead {
     pub gate: Gate,
 }
 
-// The field of bit 0. It is judged after the gate's last field.
-fn read_threshold(bytes: &[u8], at: usize, g: Gate) -> GateRead
-    ensures { λ r. ⌜ ReadsAt (now (bytes .entry)) at (threshold g) (r .refusal) (r .next) (r .gate) ⌝ }
-{
-    let b = byte_at(bytes, at);
-    let mut h = g;
-    h.threshold = b.value;
-    GateRead {
-        refusal: b.refusal,
-        next: b.next,
-        gate: h,
-    }
+// What is known of a row once it is read.
+pub struct RowRead {
+    pub refusal: u8,
+    pub next: usize,
 }
 
-// The field of bit k, where the bit stands in the map.
-fn read_field(
+// What is known of a gate once its fields are read; its inputs stand in lent places.
+struct FieldsRead {
+    refusal: u8,
+    next: usize,
+    threshold: u8,
+    tests: u8,
+    gates: u8,
+}
+
+// The field of bit 0, where the bit stands in the map. It is judged after the gate's last field.
+fn read_threshold(bytes: &[u8], at: usize, map: u8) -> ByteRead
+    ensures { λ r.
+        ⌜ ((g : Gate) → ReadsAt (now (bytes .entry)) at (fieldAt (λ k. threshold) map 0 (withThreshold 1 g)) (r .refusal) (r .next)
+        (withThreshold (r .value) g)) ⌝ }
+{
+    if map_digit(map, 0) != 1 {
+        return ByteRead {
+            refusal: 0,
+            next: at,
+            value: 1,
+        };
+    }
+    byte_at(bytes, at)
+}
+
+// The fields whose bit stands in the map, lowest bit first, over a gate of which nothing is given.
+fn read_fields(
     bytes: &[u8],
     at: usize,
     counts: &[u8],
     number: usize,
     map: u8,
-    k: u8,
-    g: Gate,
-) -> GateRead
-    requires { ⌜ k < mapBits ⌝ }
-    ensures { λ r. ⌜ ReadsAt (now (bytes .entry)) at (fieldAt (gateField (now (counts .entry)) number) map k g) (r .refusal) (r .next) (r .gate) ⌝ }
-{
-    if map_digit(map, k) != 1 {
-        return GateRead {
-            refusal: 0,
-            next: at,
-            gate: g,
-        };
-    }
-    if k == 0 {
-        return read_threshold(bytes, at, g);
-    }
-    if k == 1 {
-        return read_tests(bytes, at, counts, g);
-    }
-    read_inputs(bytes, at, number, g)
-}
-
-// The fields whose bit stands in the map, lowest bit first, over their absent values: as many as the map has ones.
-fn read_fields(bytes: &[u8], at: usize, counts: &[u8], number: usize, map: u8) -> GateRead
+    component: &mut [u8],
+    mask: &mut [u8],
+    input: &mut [u8],
+) -> FieldsRead
+    requires map { ⌜ map < gateMaps ⌝ }
+    requires component { ⌜ length (now component) ≡ mostTests ⌝ }
+    requires mask { ⌜ length (now mask) ≡ mostTests ⌝ }
+    requires input { ⌜ length (now input) ≡ mostGateInputs ⌝ }
     ensures { λ r.
-        ⌜ ReadsAt (now (bytes .entry)) at (fields (gateField (now (counts .entry)) number) map absentGate) (r .refusal) (r .next) (r .gate) ⌝ }
+        ⌜ ReadsAt (now (bytes .entry)) at
+        (fields (gateField (now (counts .entry)) number) map (nothingGiven (now (component .entry)) (now (mask .entry)) (now (input .entry))))
+        (r .refusal) (r .next)
+        (record {
+          threshold = r .threshold;
+          tests = r .tests;
+          component = now (component .exit);
+          mask = now (mask .exit);
+          gates = r .gates;
+          input = now (input .exit);
+        }) ⌝ }
 {
-    let mut refusal: u8 = 0;
-    let mut next = at;
-    let mut gate = absent_gate();
-    let mut left = field_count(map);
-    let mut k: u8 = 0;
-    while left != 0 {
-        let field = read_field(bytes, next, counts, number, map, k, gate);
-        refusal = first(refusal, field.refusal);
-        next = field.next;
-        gate = field.gate;
-        left = fields_behind(left, map, k);
-        k = k + 1;
-    }
-    GateRead {
-        refusal,
-        next,
-        gate,
+    let t = read_threshold(bytes, at, map);
+    let tests = read_tests(bytes, t.next, counts, map, component, mask);
+    let inputs = read_inputs(bytes, tests.next, number, map, input);
+    FieldsRead {
+        refusal: first(first(t.refusal, tests.refusal), inputs.refusal),
+        next: inputs.next,
+        threshold: t.value,
+        tests: tests.value,
+        gates: inputs.value,
     }
 }
 
 // The record of the gate with this number; `counts` has the state count of each component of the study.
 pub fn read_gate(bytes: &[u8], at: usize, counts: &[u8], number: usize) -> GateRead
-    ensures { λ r. ⌜ ReadsAt (now (bytes .entry)) at (gate (now (counts .entry)) number) (r .refusal) (r .next) (r .gate) ⌝ }
+    ensures { λ r. ⌜ ReadsAt (now (bytes .entry)) at (gateInOrder (now (counts .entry)) number) (r .refusal) (r .next) (r .gate) ⌝ }
 {
+    let absent = absent_gate();
     let m = map_at(bytes, at, GATE_MAPS);
-    let f = read_fields(bytes, m.next, counts, number, m.value);
-    let g = f.gate;
+    if m.refusal != 0 {
+        return GateRead {
+            refusal: m.refusal,
+            next: at,
+            gate: absent,
+        };
+    }
+    let mut component = absent.component;
+    let mut mask = absent.mask;
+    let mut input = absent.input;
+    let f = read_fields(
+        bytes,
+        m.next,
+        counts,
+        number,
+        m.value,
+        &mut component,
+        &mut mask,
+        &mut input,
+    );
+    let inputs = f.tests as u32 + f.gates as u32;
+    sort_tests(f.tests, &mut component, &mut mask);
+    sort_gate_inputs(f.gates, &mut input);
+    let gate = Gate {
+        threshold: f.threshold,
+        tests: f.tests,
+        component,
+        mask,
+        gates: f.gates,
+        input,
+    };
     GateRead {
-        refusal: first(
-            first(m.refusal, f.refusal),
-            threshold_fault(input_count(g), g.threshold),
-        ),
+        refusal: first(f.refusal, threshold_fault(inputs, f.threshold)),
         next: f.next,
-        gate: g,
+        gate,
     }
 }

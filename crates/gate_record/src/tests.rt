@@ -1,81 +1,110 @@
-// The tests of a gate: a count, then so many pairs of a component and a mask of its states.
-use crate::GateRead;
+// The tests of a gate: a count, then so many pairs of a component and a mask of its states, which go to lent places.
+use crate::RowRead;
+use crate::inputs::inputs_at;
+use reading::ByteRead;
 use reading::byte_at;
+use reading::map_digit;
 use rules::MOST_TESTS;
 use rules::first;
 use rules::mask_fault;
 use rules::no_component_fault;
-use study::Gate;
 use study::states_of;
 ghost use mathlib.Core.Path.{_≡_};
-ghost use Prim.Native.Nat.{_<_, _≤_};
+ghost use Prim.Native.Nat.{ℕ, _≤_};
+ghost use lib.ListN.{length};
 ghost use Rattle.rules.specs.Limits.{mostTests};
+ghost use Rattle.reading.specs.Fields.{fieldAt};
 ghost use Rattle.reading.specs.Reader.{ReadsAt, repeat};
-ghost use Rattle.gate_record.specs.Gate.{withTest, test, tests};
+ghost use Rattle.study.specs.declared.Gate.{Gate};
+ghost use Rattle.gate_record.specs.Gate.{withTest, withTestRow, test, tests};
 
-// The gate with test j anew.
-fn with_test(j: usize, component: u8, mask: u8, g: Gate) -> Gate
-    requires { ⌜ j < mostTests ⌝ }
-    ensures { λ r. ⌜ r ≡ withTest j component mask g ⌝ }
-{
-    let mut h = g;
-    h.component[j] = component;
-    h.mask[j] = mask;
-    h
+// What is read of a test.
+struct TestRead {
+    refusal: u8,
+    next: usize,
+    component: u8,
+    mask: u8,
 }
 
-// Test j: the component, then the mask, each judged as soon as it is read.
-fn read_test(bytes: &[u8], at: usize, counts: &[u8], j: usize, g: Gate) -> GateRead
-    requires { ⌜ j < mostTests ⌝ }
-    ensures { λ r. ⌜ ReadsAt (now (bytes .entry)) at (test (now (counts .entry)) j g) (r .refusal) (r .next) (r .gate) ⌝ }
+// A test, whatever its place: the component, then the mask, each judged as soon as it is read.
+fn read_test(bytes: &[u8], at: usize, counts: &[u8]) -> TestRead
+    ensures { λ r.
+        ⌜ ((j : ℕ) (g : Gate) → ReadsAt (now (bytes .entry)) at (test (now (counts .entry)) j g) (r .refusal) (r .next)
+        (withTest j (r .component) (r .mask) g)) ⌝ }
 {
     let c = byte_at(bytes, at);
     let m = byte_at(bytes, c.next);
     let component = no_component_fault(counts.len(), c.value);
     let mask = mask_fault(states_of(counts, c.value), m.value);
-    GateRead {
+    TestRead {
         refusal: first(c.refusal, first(component, first(m.refusal, mask))),
         next: m.next,
-        gate: with_test(j, c.value, m.value, g),
+        component: c.value,
+        mask: m.value,
     }
 }
 
 // So many tests.
-fn read_test_list(bytes: &[u8], at: usize, counts: &[u8], n: usize, g: Gate) -> GateRead
-    requires { ⌜ n ≤ mostTests ⌝ }
-    ensures { λ r. ⌜ ReadsAt (now (bytes .entry)) at (repeat (test (now (counts .entry))) n g) (r .refusal) (r .next) (r .gate) ⌝ }
+fn read_test_list(
+    bytes: &[u8],
+    at: usize,
+    counts: &[u8],
+    n: usize,
+    component: &mut [u8],
+    mask: &mut [u8],
+) -> RowRead
+    requires components { ⌜ n ≤ length (now component) ⌝ }
+    requires masks { ⌜ n ≤ length (now mask) ⌝ }
+    ensures { λ r.
+        ⌜ ((k : ℕ) (g : Gate) → ReadsAt (now (bytes .entry)) at
+        (repeat (test (now (counts .entry))) n (withTestRow k (now (component .entry)) (now (mask .entry)) g)) (r .refusal) (r .next)
+        (withTestRow k (now (component .exit)) (now (mask .exit)) g)) ⌝ }
 {
     let mut refusal: u8 = 0;
     let mut next = at;
-    let mut gate = g;
     let mut j: usize = 0;
     while j < n {
-        let t = read_test(bytes, next, counts, j, gate);
+        let t = read_test(bytes, next, counts);
         refusal = first(refusal, t.refusal);
         next = t.next;
-        gate = t.gate;
+        component[j] = t.component;
+        mask[j] = t.mask;
         j = j + 1;
     }
-    GateRead {
-        refusal,
-        next,
-        gate,
-    }
+    RowRead { refusal, next }
 }
 
-// The field of bit 1.
-pub fn read_tests(bytes: &[u8], at: usize, counts: &[u8], g: Gate) -> GateRead
-    ensures { λ r. ⌜ ReadsAt (now (bytes .entry)) at (tests (now (counts .entry)) g) (r .refusal) (r .next) (r .gate) ⌝ }
+// The field of bit 1, where the bit stands in the map: how many tests there are. These go to their places.
+pub fn read_tests(
+    bytes: &[u8],
+    at: usize,
+    counts: &[u8],
+    map: u8,
+    component: &mut [u8],
+    mask: &mut [u8],
+) -> ByteRead
+    requires components { ⌜ length (now component) ≡ mostTests ⌝ }
+    requires masks { ⌜ length (now mask) ≡ mostTests ⌝ }
+    ensures { λ r.
+        ⌜ ((g : Gate) → ReadsAt (now (bytes .entry)) at
+        (fieldAt (λ k. tests (now (counts .entry))) map 1 (withTestRow 0 (now (component .entry)) (now (mask .entry)) g)) (r .refusal) (r .next)
+        (withTestRow (r .value) (now (component .exit)) (now (mask .exit)) g)) ⌝ }
 {
-    let n = crate::inputs::inputs_at(bytes, at, MOST_TESTS);
-    if n.refusal != 0 {
-        return GateRead {
-            refusal: n.refusal,
+    if map_digit(map, 1) != 1 {
+        return ByteRead {
+            refusal: 0,
             next: at,
-            gate: g,
+            value: 0,
         };
     }
-    let mut h = g;
-    h.tests = n.value;
-    read_test_list(bytes, n.next, counts, n.value as usize, h)
+    let n = inputs_at(bytes, at, MOST_TESTS);
+    if n.refusal != 0 {
+        return n;
+    }
+    let row = read_test_list(bytes, n.next, counts, n.value as usize, component, mask);
+    ByteRead {
+        refusal: row.refusal,
+        next: row.next,
+        value: n.value,
+    }
 }

@@ -3,4 +3,5 @@ pub mod FirstBreach
 pub mod Longest
 pub mod Opened
 pub mod Places
+pub mod Sorting
 pub mod Taken

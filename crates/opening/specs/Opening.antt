@@ -8,7 +8,7 @@ use Rattle.rules.specs.Limits.{mostComponents, mostGates, mostLoads}
 use Rattle.rules.specs.Table.{countFault, widthFault, leftFault}
 use Rattle.reading.specs.Reader.{Read, refused, got, Reader, byte, judge, return, repeat, _>>=_, _>>_}
 use Rattle.component_record.specs.Component.{component}
-use Rattle.gate_record.specs.Gate.{gate}
+use Rattle.gate_record.specs.Gate.{gate, gateInOrder}
 use Rattle.load_record.specs.Load.{load}
 use Rattle.study.specs.declared.Component.{Component}
 use Rattle.study.specs.declared.Gate.{Gate}
@@ -48,6 +48,10 @@ componentRecord i cs = componentAfter (product (take i (states cs)))
 -- gate i; `counts` has the state count of each component
 abbrev pub gateRecord : List ℕ → ℕ → List Gate → Reader Gate
 gateRecord counts i gs = gate counts i
+
+-- the same gate with its inputs in order
+abbrev pub gateRecordInOrder : List ℕ → ℕ → List Gate → Reader Gate
+gateRecordInOrder counts i gs = gateInOrder counts i
 
 -- a load of a study with so many gates
 abbrev pub loadRecord : ℕ → ℕ → List Load → Reader Load

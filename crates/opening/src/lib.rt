@@ -6,7 +6,6 @@ mod loads;
 use answers::Outcome;
 use answers::StudyAnswer;
 use components::read_components;
-use gate_order::ordered;
 use gates::read_gates;
 use loads::read_loads;
 use reading::ByteRead;
@@ -25,6 +24,8 @@ ghost use mathlib.Core.Path.{_≡_};
 ghost use Prim.Native.Nat.{_≤_};
 ghost use lib.ListN.{drop};
 ghost use Rattle.reading.specs.Reader.{ReadsWith, got};
+ghost use Rattle.study.specs.declared.Study.{Study};
+ghost use Rattle.gate_order.specs.Order.{ordered};
 ghost use Rattle.opening.specs.Opening.{CountsFit, count, records, refusedOpening, answer, opened};
 
 // One of the first three bytes, which is in range where it is not refused.
@@ -50,15 +51,14 @@ fn refused_opening(number: u8) -> StudyAnswer
     }
 }
 
-// The answer once every record is read: the bytes must end at this place, and the inputs of each gate are put in order.
+// The answer once every record is read: the bytes must end at this place. The study has the inputs of each gate in order.
 fn ended(bytes: &[u8], at: usize, study: Study) -> StudyAnswer
-    ensures { λ r. ⌜ r ≡ answer (got study (drop at (now (bytes .entry)))) ⌝ }
+    ensures { λ r. ⌜ ((t : Study) → study ≡ ordered t → r ≡ answer (got t (drop at (now (bytes .entry))))) ⌝ }
 {
     let left = left_fault(bytes_left(bytes, at));
     if left != 0 {
         return refused_opening(left);
     }
-    let study = ordered(study);
     StudyAnswer {
         outcome: Outcome::Done,
         study,

@@ -1,55 +1,50 @@
--- `gate_record::read_fields` meets its contract. Each turn reads the field of one bit, and as many fields are left as bits stand from k on (`FieldsLeft`);
--- what falls is the number of bits that the turns have still to pass.
-use Prim.Native.Nat.{_-_, _<_}
-use native.Mathlib.Omega.{arith}
-use Rattle.reading.specs.Fields.{mapBits}
+-- `gate_record::read_fields` meets its contract: the fields of bits 0, 1 and 2 are read in turn, and a map of a gate has no bit behind these.
+use borrow.Author.Needs.{needs}
 use Rattle.reading.proofs.Calls.{asks-nothing}
-use Rattle.reading.proofs.MapBits.{FieldsLeft, fields-start, fields-bit, fields-more, fields-done}
-use Rattle.study.specs.Absent.{absentGate}
-use Rattle.gate_record.specs.Gate.{gateField}
+use Rattle.reading.proofs.MapBits.{three-fields}
+use Rattle.gate_record.specs.Gate.{withThreshold, nothingGiven, withTestRow, gateField}
 use Rattle.gate_record.proofs.read_fields.Statement.{statement}
 use Rattle.gate_record.proofs.read_fields.Tie as tie
 
-abbrev Inv-loop : tie.InvT-loop
-Inv-loop bytes at counts number map refusal₀ next₀ gate₀ left₀ k₀ refusal next gate left k =
-    FieldsLeft (gateField counts number) absentGate bytes at map refusal next gate left k
+-- the steps before each field
+abbrev inputs-read : tie.After-first2 → tie.After-read-inputs
+inputs-read c = c .before .before .before .before
 
-abbrev μ-loop : tie.MeasureT-loop
-μ-loop bytes at counts number map refusal₀ next₀ gate₀ left₀ k₀ refusal next gate left k = mapBits - k
+abbrev tests-back : tie.After-read-inputs-arg → tie.After-component
+tests-back c = c .before .before .before .before
 
-loop-holds : tie.Need-loop-holds Inv-loop μ-loop
-loop-holds c = fields-start (c .before .before .before .before .fits .map .fits) (c .before .absent-gate .ensures) (c .field-count .ensures)
+abbrev tests-read : tie.After-component → tie.After-read-tests
+tests-read c = c .before
 
--- bit k is one of the map's
-in-map : (c : tie.In-loop Inv-loop μ-loop) → c .before .loop .k < mapBits
-in-map c = fields-bit (c .before .loop .inv) (c .loop-test .taken) .in-map
+abbrev threshold-read : tie.After-read-tests → tie.After-read-threshold
+threshold-read c = c .before .before .before
 
-read-field-requires : tie.Need-read-field-requires Inv-loop μ-loop
-read-field-requires c κs = in-map c
+abbrev lent : tie.After-read-threshold → tie.After-slice-known
+lent c = c .before .before .before
 
-fields-behind-requires : tie.Need-fields-behind-requires Inv-loop μ-loop
-fields-behind-requires c κs = let turn = c .before .before .before in fields-bit (turn .before .loop .inv) (turn .loop-test .taken)
+abbrev start : tie.After-read-threshold → tie.Start
+start c = lent c .before .before .before
 
-abbrev turn : tie.After-fields-behind Inv-loop μ-loop → tie.In-loop Inv-loop μ-loop
-turn c = c .before .before .before .before
+read-tests-requires : tie.Need-read-tests-requires
+read-tests-requires c κs = let rows = start (c .before .before) .pre .1 in (rows .0, rows .1 .0)
 
-add-k : tie.Need-add-k Inv-loop μ-loop
-add-k c = omega (arith, in-map (turn c))
+read-inputs-requires : tie.Need-read-inputs-requires
+read-inputs-requires c κs = start (threshold-read (tests-read (tests-back c))) .pre .1 .1 .1
 
-loop-less : tie.Need-loop-less Inv-loop μ-loop
-loop-less c = omega (arith, in-map (turn c))
-
-loop-again : tie.Need-loop-again Inv-loop μ-loop
-loop-again c =
-    let read = c .before .before .before .read-field .ensures in
-    let first-breach = c .before .before .first .ensures in
-    fields-more (turn c .before .loop .inv) (turn c .loop-test .taken) read first-breach (c .fields-behind .ensures)
-
-returns : tie.Need-returns Inv-loop μ-loop
-returns c = fields-done (c .before .loop .inv) (c .loop-test .left)
+returns : tie.Need-returns
+unfolding gateField
+returns c =
+    let inputs = inputs-read c in
+    let tests = tests-read (tests-back (inputs .before)) in
+    let threshold = threshold-read tests in
+    let entry = start threshold in
+    let nothing = nothingGiven (entry .args .component .now) (entry .args .mask .now) (entry .args .input .now) in
+    let g = withThreshold (threshold .read-threshold .result .value) nothing in
+    three-fields (gateField (entry .args .counts .now) (entry .args .number)) (entry .args .map) nothing (entry .args .at) (entry .pre .0)
+    (threshold .read-threshold .ensures nothing) (tests .read-tests .ensures g) (c .before .first .ensures)
+    (inputs .read-inputs .ensures (withTestRow (tests .read-tests .result .value) _ _ g)) (c .first2 .ensures)
 
 pub read-fields-spec : {M : Type 1} → statement M
 read-fields-spec =
     tie.close
-    (tie.spec Inv-loop μ-loop asks-nothing asks-nothing loop-holds read-field-requires asks-nothing
-    fields-behind-requires add-k loop-less loop-again returns)
+    (tie.spec asks-nothing read-tests-requires read-inputs-requires asks-nothing asks-nothing (λ c. search needs) (λ c. search needs) (λ c. search needs) returns)

@@ -12,10 +12,10 @@ judged : (c : tie.After-left-fault) → let s = c .before .before .before in c .
 judged c = rw length-drop (c .left-fault .ensures ∙ ap leftFault (c .before .bytes-left .ensures))
 
 returns : tie.Need-returns
-returns c = c .refused-opening .ensures ∙ answer-left _ _ (judged (c .before .before)) (c .before .if1 .taken)
+returns c t sorted = c .refused-opening .ensures ∙ answer-left _ _ (judged (c .before .before)) (c .before .if1 .taken)
 
 returns-2 : tie.Need-returns-2
-returns-2 c = answer-ended _ _ (judged (c .before .before)) (c .ordered .ensures) (c .before .if1 .left)
+returns-2 c t sorted = answer-ended _ _ (judged (c .before)) sorted (c .if1 .left)
 
 pub ended-spec : {M : Type 1} → statement M
-ended-spec = tie.close (tie.spec asks-nothing asks-nothing asks-nothing returns asks-nothing returns-2)
+ended-spec = tie.close (tie.spec asks-nothing asks-nothing asks-nothing returns returns-2)

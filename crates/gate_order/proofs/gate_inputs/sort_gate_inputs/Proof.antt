@@ -10,26 +10,32 @@ use Rattle.gate_order.proofs.Fronts.{front-long, fronts-long, inputs-fr
 use Rattle.gate_order.proofs.gate_inputs.sort_gate_inputs.Statement.{statement}
 use Rattle.gate_order.proofs.gate_inputs.sort_gate_inputs.Tie as tie
 
+abbrev start : tie.After-within → tie.Start
+start c = c .before .before
+
 slice-aggregate-sort : tie.Need-slice-aggregate-sort
-slice-aggregate-sort c = front-long _ mostGateInputs _ (c .before .before .within .ensures) (c .before .before .before .args .input) (search needs)
+slice-aggregate-sort c = let counted = c .before .before in front-long _ mostGateInputs _ (counted .within .ensures) _ (start counted .pre)
 
 slice-aggregate-sort-2 : tie.Need-slice-aggregate-sort-2
-slice-aggregate-sort-2 c = front-long _ mostGateInputs _ (c .before .before .before .within .ensures) (c .before .before .no-masks .result) (search needs)
+slice-aggregate-sort-2 c =
+    let unmasked = c .before .before in
+    front-long _ mostGateInputs _ (unmasked .before .within .ensures) (unmasked .no-masks .result) (search needs)
 
 sort-requires : tie.Need-sort-requires
 sort-requires c κs =
-    let counted = c .before .before .before in
-    fronts-long _ mostGateInputs _ (counted .within .ensures) (counted .before .args .input) (c .before .before .no-masks .result) (search needs) (search needs)
+    let unmasked = c .before .before in
+    let counted = unmasked .before in
+    fronts-long _ mostGateInputs _ (counted .within .ensures) _ (unmasked .no-masks .result) (start counted .pre) (search needs)
 
 returns : tie.Need-returns
 returns c =
-    let sorts = c .before .before in
+    let sorts = c .before .before .before in
     let unmasked = sorts .before .before .before in
     let counted = unmasked .before in
-    let input = counted .before .args .input in
+    let input = start counted .args .input .now in
     let masks = unmasked .no-masks .result in
     let within = counted .within .ensures in
-    let long : length input ≡ mostGateInputs = search needs in
+    let long = start counted .pre in
     let long′ : length masks ≡ mostGateInputs = search needs in
     let same =
     ap (λ (l : List _). paired (take (counted .within .result) input) (take (counted .within .result) l)) (unmasked .no-masks .ensures)
@@ -47,4 +53,5 @@ sort-gate-inputs-spec =
     (λ c. search needs)
     slice-aggregate-sort-2
     sort-requires
+    (λ c. search needs)
     returns)

@@ -1,4 +1,4 @@
--- `gate_record::tests::read_test` meets its contract: the component is read and judged, then the mask, then both are stored.
+-- `gate_record::tests::read_test` meets its contract: the component is read and judged, then the mask.
 use Prim.Native.Nat.{ℕ}
 use mathlib.Core.Path.{_∙_, ap}
 use Rattle.rules.specs.Table.{maskFault}
@@ -15,23 +15,19 @@ judging c = c .before .before .before
 abbrev bytes-read : tie.After-mask-fault → tie.After-byte-at2
 bytes-read c = c .before .before .before
 
-with-test-requires : tie.Need-with-test-requires
-with-test-requires c κs = bytes-read (judging c) .before .before .before .before .pre
-
 returns : tie.Need-returns
 unfolding test
-returns c =
-    let rules = judging (c .before) in
+returns c j g =
+    let rules = judging c in
     let component = bytes-read rules .before .byte-at in
     let mask = bytes-read rules .byte-at2 in
     let fits = rules .mask-fault .ensures ∙ ap (λ (n : ℕ). maskFault n (mask .result .value)) (rules .before .states-of .ensures) in
-    let masked = after _ (mask .ensures) (judged-last _ fits) (c .before .before .before .first .ensures) in
+    let masked = after _ (mask .ensures) (judged-last _ fits) (c .before .before .first .ensures) in
     let known = judged _ (rules .before .before .no-component-fault .ensures) in
-    let judged-both = after {n = component .result .next} _ known masked (c .before .before .first2 .ensures) in
-    rw (c .with-test .ensures) (after _ (component .ensures) judged-both (c .before .first3 .ensures))
+    let judged-both = after {n = component .result .next} _ known masked (c .before .first2 .ensures) in
+    after _ (component .ensures) judged-both (c .first3 .ensures)
 
 pub read-test-spec : {M : Type 1} → statement M
 read-test-spec =
     tie.close
-    (tie.spec asks-nothing asks-nothing asks-nothing asks-nothing asks-nothing asks-nothing asks-nothing asks-nothing
-    with-test-requires returns)
+    (tie.spec asks-nothing asks-nothing asks-nothing asks-nothing asks-nothing asks-nothing asks-nothing asks-nothing returns)

@@ -1,40 +1,54 @@
--- `gate_record::tests::read_test_list` meets its contract. Each turn reads one test, and those left give what the whole run gives (`RepeatLeft`);
--- what falls is their number.
-use Prim.Native.Nat.{_-_}
-use mathlib.Core.Path.{refl}
+-- `gate_record::tests::read_test_list` meets its contract. Each turn reads one test into its place, and those left give what the whole run gives
+-- (`RepeatLeft`), whatever the gate has beside them; what falls is their number.
+use Prim.Native.Nat.{ℕ, _-_}
+use mathlib.Core.Path.{_≡_, refl, _∙_}
 use native.Mathlib.Omega.{arith}
+use lib.ListN.{length, length-set}
 use Rattle.reading.proofs.Calls.{asks-nothing}
 use Rattle.reading.proofs.Repeats.{RepeatLeft, repeat-start, repeat-more, repeat-done}
-use Rattle.gate_record.specs.Gate.{test}
+use Rattle.study.specs.declared.Gate.{Gate}
+use Rattle.gate_record.specs.Gate.{withTestRow, test}
 use Rattle.gate_record.proofs.tests.read_test_list.Statement.{statement}
 use Rattle.gate_record.proofs.tests.read_test_list.Tie as tie
 
 abbrev Inv-loop : tie.InvT-loop
-Inv-loop bytes at counts n refusal₀ next₀ gate₀ j₀ refusal next gate j = RepeatLeft (test counts) n gate₀ bytes at refusal next gate j
+Inv-loop bytes at counts n component₀ mask₀ refusal₀ next₀ j₀ component mask refusal next j =
+    (length component ≡ length component₀)
+    × (length mask ≡ length mask₀)
+    × ((k : ℕ) (g : Gate) → RepeatLeft (test counts) n (withTestRow k component₀ mask₀ g) bytes at refusal next (withTestRow k component mask g) j)
 
 abbrev μ-loop : tie.MeasureT-loop
-μ-loop bytes at counts n refusal₀ next₀ gate₀ j₀ refusal next gate j = n - j
+μ-loop bytes at counts n component₀ mask₀ refusal₀ next₀ j₀ component mask refusal next j = n - j
+
+-- the turn that reads a test, and the call that it belongs to
+abbrev turn : tie.After-first Inv-loop μ-loop → tie.In-loop Inv-loop μ-loop
+turn c = c .before .before
+
+abbrev start : tie.In-loop Inv-loop μ-loop → tie.Start Inv-loop μ-loop
+start c = let entered = c .before .before in entered .before .before .before .before
 
 loop-holds : tie.Need-loop-holds Inv-loop μ-loop
-loop-holds c = repeat-start refl
+loop-holds c = (refl, refl, λ k g. repeat-start refl)
 
-read-test-requires : tie.Need-read-test-requires Inv-loop μ-loop
-read-test-requires c κs = omega arith
+slice-write-component : tie.Need-slice-write-component Inv-loop μ-loop
+slice-write-component c = omega (arith, turn c .loop-test .taken, turn c .before .loop .inv .0, start (turn c) .pre .0)
 
-add-j : tie.Need-add-j Inv-loop μ-loop
-add-j c = omega arith
-
-loop-less : tie.Need-loop-less Inv-loop μ-loop
-loop-less c = omega arith
+slice-write-mask : tie.Need-slice-write-mask Inv-loop μ-loop
+slice-write-mask c = omega (arith, turn c .loop-test .taken, turn c .before .loop .inv .1, start (turn c) .pre .1)
 
 loop-again : tie.Need-loop-again Inv-loop μ-loop
 loop-again c =
-    let turn = c .before .before .before in
-    let read = c .before .before .read-test .ensures in
-    repeat-more (turn .before .loop .inv) (turn .loop-test .taken) read (c .before .first .ensures)
+    let left = turn c .before .loop .inv in (
+      length-set (turn c .before .loop .component) _ _ ∙ left .0,
+      length-set (turn c .before .loop .mask) _ _ ∙ left .1,
+      λ k g. repeat-more (left .2 k g) (turn c .loop-test .taken) (c .before .read-test .ensures _ _) (c .first .ensures),
+    )
 
 returns : tie.Need-returns Inv-loop μ-loop
-returns c = repeat-done (c .before .loop .inv) (c .loop-test .left)
+returns c k g = repeat-done (c .before .loop .inv .2 k g) (c .loop-test .left)
 
 pub read-test-list-spec : {M : Type 1} → statement M
-read-test-list-spec = tie.close (tie.spec Inv-loop μ-loop loop-holds read-test-requires asks-nothing add-j loop-less loop-again returns)
+read-test-list-spec =
+    tie.close
+    (tie.spec Inv-loop μ-loop loop-holds asks-nothing asks-nothing slice-write-component slice-write-mask (λ c. omega arith) (λ c. omega arith) loop-again
+    (λ c. c .before .loop .inv .0) (λ c. c .before .loop .inv .1) returns)

@@ -5,13 +5,13 @@ use native.Mathlib.Omega.{arith}
 use Rattle.reading.proofs.Calls.{asks-nothing}
 use Rattle.reading.proofs.Repeats.{RepeatLeft, repeat-start, repeat-done}
 use Rattle.study.specs.Zero.{noGates}
-use Rattle.opening.specs.Opening.{gateRecord, placing}
+use Rattle.opening.specs.Opening.{gateRecordInOrder, placing}
 use Rattle.opening.proofs.Places.{placed, place-refused}
 use Rattle.opening.proofs.gates.read_gates.Statement.{statement}
 use Rattle.opening.proofs.gates.read_gates.Tie as tie
 
 abbrev Inv-loop : tie.InvT-loop
-Inv-loop bytes at counts n next₀ gate₀ i₀ next gate i = RepeatLeft (placing (gateRecord counts)) n noGates bytes at 0 next gate i
+Inv-loop bytes at counts n next₀ gate₀ i₀ next gate i = RepeatLeft (placing (gateRecordInOrder counts)) n noGates bytes at 0 next gate i
 
 abbrev μ-loop : tie.MeasureT-loop
 μ-loop bytes at counts n next₀ gate₀ i₀ next gate i = n - i
@@ -22,7 +22,7 @@ loop-holds c = repeat-start (c .no-gates .ensures)
 returns : tie.Need-returns Inv-loop μ-loop
 returns c =
     let turn = c .before .before .before in
-    place-refused (gateRecord _) (turn .before .loop .inv) (turn .loop-test .taken) (c .before .before .read-gate .ensures) (c .if1 .taken)
+    place-refused (gateRecordInOrder _) (turn .before .loop .inv) (turn .loop-test .taken) (c .before .before .read-gate .ensures) (c .if1 .taken)
 
 mul-gate : tie.Need-mul-gate Inv-loop μ-loop
 mul-gate c = omega arith
@@ -40,7 +40,7 @@ loop-again : tie.Need-loop-again Inv-loop μ-loop
 loop-again c =
     let turn = c .before .before .before .before in
     let read = c .before .before .before .read-gate .ensures in
-    placed (gateRecord _) (turn .before .loop .inv) (turn .loop-test .taken) read (c .before .if1 .left)
+    placed (gateRecordInOrder _) (turn .before .loop .inv) (turn .loop-test .taken) read (c .before .if1 .left)
 
 returns-2 : tie.Need-returns-2 Inv-loop μ-loop
 returns-2 c = repeat-done (c .before .loop .inv) (c .loop-test .left)
