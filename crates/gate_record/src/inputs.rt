@@ -2,7 +2,6 @@
 use crate::RowRead;
 use reading::ByteRead;
 use reading::byte_at;
-use reading::map_digit;
 use rules::MOST_GATE_INPUTS;
 use rules::ahead_fault;
 use rules::first;
@@ -11,7 +10,6 @@ ghost use mathlib.Core.Path.{_≡_};
 ghost use Prim.Native.Nat.{ℕ, _≤_};
 ghost use lib.ListN.{length};
 ghost use Rattle.rules.specs.Limits.{mostGateInputs};
-ghost use Rattle.reading.specs.Fields.{fieldAt};
 ghost use Rattle.reading.specs.Reader.{ReadsAt, ReadsWith, repeat};
 ghost use Rattle.study.specs.declared.Gate.{Gate};
 ghost use Rattle.gate_record.specs.Gate.{inputsByte, withInput, withInputRow, input as Gate·input, inputs};
@@ -60,20 +58,13 @@ fn read_input_list(bytes: &[u8], at: usize, number: usize, n: usize, input: &mut
     RowRead { refusal, next }
 }
 
-// The field of bit 2, where the bit stands in the map: how many gate inputs there are. These go to their places.
-pub fn read_inputs(bytes: &[u8], at: usize, number: usize, map: u8, input: &mut [u8]) -> ByteRead
+// The field of bit 2: how many gate inputs there are. These go to their places.
+pub fn read_inputs(bytes: &[u8], at: usize, number: usize, input: &mut [u8]) -> ByteRead
     requires { ⌜ length (now input) ≡ mostGateInputs ⌝ }
     ensures { λ r.
-        ⌜ ((g : Gate) → ReadsAt (now (bytes .entry)) at (fieldAt (λ k. inputs number) map 2 (withInputRow 0 (now (input .entry)) g)) (r .refusal) (r .next)
+        ⌜ ((k : ℕ) (g : Gate) → ReadsAt (now (bytes .entry)) at (inputs number (withInputRow k (now (input .entry)) g)) (r .refusal) (r .next)
         (withInputRow (r .value) (now (input .exit)) g)) ⌝ }
 {
-    if map_digit(map, 2) != 1 {
-        return ByteRead {
-            refusal: 0,
-            next: at,
-            value: 0,
-        };
-    }
     let n = inputs_at(bytes, at, MOST_GATE_INPUTS);
     if n.refusal != 0 {
         return n;

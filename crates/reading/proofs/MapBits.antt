@@ -40,18 +40,6 @@ module _ {A : Type 0} (field : ℕ → A → Reader A) (map : ℕ) where
       let rest : ones (map / 2 ^ (k + 1)) ≡ 0 = omega (arith, ones-from map k) in
       ap (each (turn (fieldAt field map)) n (k + 1)) (clear-turn k r clear) ∙ none-left n (k + 1) r rest
 
-  -- a map below 8 has no bit from 3 on: the fields of its first three bits are all of them
-  pub three-fields : (absent : A) (at : ℕ) {a b d : A} {s : List ℕ} {p n q n′ r n″ pq pqr : ℕ} → map < 8 → Reads s p n a (fieldAt field map 0 absent (drop at s))
-      → Reads s q n′ b (fieldAt field map 1 a (drop n s)) → pq ≡ first p q → Reads s r n″ d (fieldAt field map 2 b (drop n′ s)) → pqr ≡ first pq r
-      → Reads s pqr n″ d (fields field map absent (drop at s))
-  unfolding ones first
-  three-fields absent at {a} {b} {d} {s} {p} {n} {q} {n′} {r} {n″} {pq} {pqr} few one two e three e′ =
-      let turn : (refusal next : ℕ) (value : A) (k : ℕ) → Type 0 = RepeatLeft (fieldAt field map) mapBits absent s at in
-      let left₁ : turn p n a 1 = repeat-more (repeat-start refl) (omega arith) one refl in
-      let left₂ : turn pq n′ b 2 = repeat-more left₁ (omega arith) two e in
-      let left₃ : turn pqr n″ d 3 = repeat-more left₂ (omega arith) three e′ in
-      record { same = sym (none-left (mapBits - 3) 3 (asRead s pqr n″ d) (ap ones (div-eq-of-lt few))) ∙ left₃ .turns .same }
-
 module _ {A : Type 0} {field : ℕ → A → Reader A} {absent : A} {s : List ℕ} {at map : ℕ} where
   pub fields-start : {value : A} {left : ℕ} → map < 2 ^ mapBits → value ≡ absent → left ≡ ones map → FieldsLeft field absent s at map 0 at value left 0
   fields-start fits absent-value count =

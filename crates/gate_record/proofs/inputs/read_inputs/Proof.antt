@@ -1,53 +1,37 @@
--- `gate_record::inputs::read_inputs` meets its contract: where the bit stands, the count is read and judged, then so many are read.
+-- `gate_record::inputs::read_inputs` meets its contract: the count is read and judged, then so many are read.
 use Prim.Native.Nat.{_≤_}
-use mathlib.Core.Path.{_≡_, sym, _∙_}
 use native.Mathlib.Omega.{arith}
 use borrow.Author.Needs.{needs}
-use borrow.Author.Tests.{ne-eqb}
-use Rattle.lists.specs.Bits.{digit}
 use Rattle.rules.specs.Limits.{mostGateInputs}
-use Rattle.reading.proofs.After.{returned, stopped, going}
+use Rattle.reading.proofs.After.{stopped, going}
 use Rattle.reading.proofs.Calls.{asks-nothing}
 use Rattle.gate_record.specs.Gate.{inputs}
 use Rattle.gate_record.proofs.inputs.read_inputs.Statement.{statement}
 use Rattle.gate_record.proofs.inputs.read_inputs.Tie as tie
 
-abbrev start : tie.After-map-digit → tie.Start
+abbrev start : tie.After-inputs-at → tie.Start
 start c = c .before .before .before
 
 returns : tie.Need-returns
-returns c g = rw (← c .before .map-digit .ensures, ne-eqb _ _ (c .if1 .taken)) returned
+unfolding inputs
+returns c k g = stopped _ (c .before .before .inputs-at .ensures .reads) (c .if1 .taken)
 
--- the bit stands
-stands : (c : tie.Else1) → digit (start (c .before) .args .map) 2 ≡ 1
-stands c = sym (c .before .map-digit .ensures) ∙ c .if1 .left
+-- the count is read, and is in range
+abbrev counted : tie.Else1 → tie.After-inputs-at
+counted c = c .before .before
+
+in-range : (c : tie.Else1) → counted c .inputs-at .result .value ≤ mostGateInputs
+in-range c = counted c .inputs-at .ensures .kept (c .if1 .left)
+
+read-input-list-requires : tie.Need-read-input-list-requires
+read-input-list-requires c κs = let count = c .before .before in omega (arith, in-range count, start (counted count) .pre)
 
 returns-2 : tie.Need-returns-2
 unfolding inputs
-returns-2 c g =
-    let counted = c .before .before in
-    rw (stands (counted .before)) (stopped _ (counted .inputs-at .ensures .reads) (c .if2 .taken))
-
--- the count is read, and is in range
-abbrev counted : tie.Else2 → tie.After-inputs-at
-counted c = c .before .before
-
-in-range : (c : tie.Else2) → counted c .inputs-at .result .value ≤ mostGateInputs
-in-range c = counted c .inputs-at .ensures .kept (c .if2 .left)
-
-read-input-list-requires : tie.Need-read-input-list-requires
-read-input-list-requires c κs =
-    let count = c .before .before in
-    omega (arith, in-range count, start (counted count .before .before) .pre)
-
-returns-3 : tie.Need-returns-3
-unfolding inputs
-returns-3 c g =
+returns-2 c k g =
     let listed = c .before .before in
     let count = listed .before .before .before in
-    rw (stands (counted count .before)) (going _ (counted count .inputs-at .ensures .reads) (count .if2 .left) (listed .read-input-list .ensures _ g))
+    going _ (counted count .inputs-at .ensures .reads) (count .if1 .left) (listed .read-input-list .ensures _ g)
 
 pub read-inputs-spec : {M : Type 1} → statement M
-read-inputs-spec =
-    tie.close
-    (tie.spec (λ c κs. search needs) returns asks-nothing returns-2 (λ c. search needs) read-input-list-requires (λ c. search needs) returns-3)
+read-inputs-spec = tie.close (tie.spec asks-nothing returns (λ c. search needs) read-input-list-requires (λ c. search needs) returns-2)
