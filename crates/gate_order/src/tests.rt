@@ -13,8 +13,11 @@ ghost use Rattle.ordering.specs.Inputs.{paired, numbers, masks, sorted, ascends
 pub fn sort_tests(count: u8, component: &mut [u8], mask: &mut [u8])
     requires components { ⌜ length (now component) ≡ mostTests ⌝ }
     requires masks { ⌜ length (now mask) ≡ mostTests ⌝ }
-    ensures component { λ r. ⌜ now (component .exit) ≡ put (now (component .entry)) 0 (numbers (sorted (take count (paired (now (component .entry)) (now (mask .entry)))))) ⌝ }
-    ensures mask { λ r. ⌜ now (mask .exit) ≡ put (now (mask .entry)) 0 (masks (sorted (take count (paired (now (component .entry)) (now (mask .entry)))))) ⌝ }
+    ensures component { λ r.
+        ⌜ now (component .exit)
+        ≡ put (now (component .entry)) 0 (numbers (sorted (take count (paired (now (component .entry)) (now (mask .entry)))))) ⌝ }
+    ensures mask { λ r.
+        ⌜ now (mask .exit) ≡ put (now (mask .entry)) 0 (masks (sorted (take count (paired (now (component .entry)) (now (mask .entry)))))) ⌝ }
 {
     let n = within(count, TEST_PLACES);
     sort(&mut component[..n], &mut mask[..n]);

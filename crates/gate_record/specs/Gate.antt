@@ -49,10 +49,9 @@ withInput j gate g =
       input = set (g .input) j gate;
     }
 
--- a gate of this threshold, with so many tests and gate inputs in these places
-abbrev pub gateOf : (threshold tests gates : ℕ) (component mask input : List ℕ) → Gate
-gateOf threshold tests gates component mask input =
-    record { threshold = threshold; tests = tests; component = component; mask = mask; gates = gates; input = input }
+-- a gate of which nothing is given, with these places
+abbrev pub nothingGiven : List ℕ → List ℕ → List ℕ → Gate
+nothingGiven component mask input = record { threshold = 1; tests = 0; component = component; mask = mask; gates = 0; input = input }
 
 -- the tests of a gate are so many, and these are their places
 abbrev pub withTestRow : ℕ → List ℕ → List ℕ → Gate → Gate

@@ -10,6 +10,7 @@ ghost use mathlib.Core.Path.{_≡_};
 ghost use Prim.Native.Nat.{ℕ, _≤_};
 ghost use lib.ListN.{length};
 ghost use Rattle.rules.specs.Limits.{mostGateInputs};
+ghost use Rattle.reading.specs.Fields.{whereLeft};
 ghost use Rattle.reading.specs.Reader.{ReadsAt, ReadsWith, repeat};
 ghost use Rattle.study.specs.declared.Gate.{Gate};
 ghost use Rattle.gate_record.specs.Gate.{inputsByte, withInput, withInputRow, input as Gate·input, inputs};
@@ -58,13 +59,20 @@ fn read_input_list(bytes: &[u8], at: usize, number: usize, n: usize, input: &mut
     RowRead { refusal, next }
 }
 
-// The field of bit 2: how many gate inputs there are. These go to their places.
-pub fn read_inputs(bytes: &[u8], at: usize, number: usize, input: &mut [u8]) -> ByteRead
+// The last field, where one field is left to read: how many gate inputs there are. These go to their places.
+pub fn read_inputs(bytes: &[u8], at: usize, number: usize, left: u32, input: &mut [u8]) -> ByteRead
     requires { ⌜ length (now input) ≡ mostGateInputs ⌝ }
     ensures { λ r.
-        ⌜ ((k : ℕ) (g : Gate) → ReadsAt (now (bytes .entry)) at (inputs number (withInputRow k (now (input .entry)) g)) (r .refusal) (r .next)
+        ⌜ ((g : Gate) → ReadsAt (now (bytes .entry)) at (whereLeft left (inputs number) (withInputRow 0 (now (input .entry)) g)) (r .refusal) (r .next)
         (withInputRow (r .value) (now (input .exit)) g)) ⌝ }
 {
+    if left != 1 {
+        return ByteRead {
+            refusal: 0,
+            next: at,
+            value: 0,
+        };
+    }
     let n = inputs_at(bytes, at, MOST_GATE_INPUTS);
     if n.refusal != 0 {
         return n;

@@ -5,6 +5,7 @@ mod tests;
 use gate_order::sort_gate_inputs;
 use gate_order::sort_tests;
 use inputs::read_inputs;
+use reading::ByteRead;
 use reading::byte_at;
 use reading::field_count;
 use reading::fields_behind;
@@ -19,10 +20,10 @@ use tests::read_tests;
 ghost use mathlib.Core.Path.{_≡_};
 ghost use Prim.Native.Nat.{_<_};
 ghost use lib.ListN.{length};
-ghost use Rattle.rules.specs.Limits.{mostTests, mostGateInputs};
+ghost use Rattle.rules.specs.Limits.{gateMaps, mostTests, mostGateInputs};
 ghost use Rattle.reading.specs.Reader.{ReadsAt};
-ghost use Rattle.reading.specs.Fields.{mapBits, fieldAt, fields};
-ghost use Rattle.gate_record.specs.Gate.{gateOf, gateField, gateInOrder};
+ghost use Rattle.reading.specs.Fields.{fieldAt, fields};
+ghost use Rattle.gate_record.specs.Gate.{withThreshold, nothingGiven, threshold, gateField, gateInOrder};
 
 pub struct GateRead {
     pub refusal: u8,
@@ -36,7 +37,7 @@ pub struct RowRead {
     pub next: usize,
 }
 
-// What is known of a gate while its fields are read; its inputs stand in lent places.
+// What is known of a gate once its fields are read; its inputs stand in lent places.
 struct FieldsRead {
     refusal: u8,
     next: usize,
@@ -45,52 +46,20 @@ struct FieldsRead {
     gates: u8,
 }
 
-// The field of bit k, where the bit stands in the map, behind what is given before it. The threshold is judged after the gate's last field.
-fn read_field(
-    bytes: &[u8],
-    counts: &[u8],
-    number: usize,
-    map: u8,
-    k: u8,
-    given: FieldsRead,
-    component: &mut [u8],
-    mask: &mut [u8],
-    input: &mut [u8],
-) -> FieldsRead
-    requires bit { ⌜ k < mapBits ⌝ }
-    requires component { ⌜ length (now component) ≡ mostTests ⌝ }
-    requires mask { ⌜ length (now mask) ≡ mostTests ⌝ }
-    requires input { ⌜ length (now input) ≡ mostGateInputs ⌝ }
+// The field of bit 0, where the bit stands in the map. It is judged after the gate's last field.
+fn read_threshold(bytes: &[u8], at: usize, map: u8) -> ByteRead
     ensures { λ r.
-        ⌜ ReadsAt (now (bytes .entry)) (given .next)
-        (fieldAt (gateField (now (counts .entry)) number) map k
-        (gateOf (given .threshold) (given .tests) (given .gates) (now (component .entry)) (now (mask .entry)) (now (input .entry))))
-        (r .refusal) (r .next) (gateOf (r .threshold) (r .tests) (r .gates) (now (component .exit)) (now (mask .exit)) (now (input .exit))) ⌝ }
+        ⌜ ((g : Gate) → ReadsAt (now (bytes .entry)) at (fieldAt (λ k. threshold) map 0 (withThreshold 1 g)) (r .refusal) (r .next)
+        (withThreshold (r .value) g)) ⌝ }
 {
-    let mut field = given;
-    field.refusal = 0;
-    if map_digit(map, k) != 1 {
-        return field;
+    if map_digit(map, 0) != 1 {
+        return ByteRead {
+            refusal: 0,
+            next: at,
+            value: 1,
+        };
     }
-    if k == 0 {
-        let threshold = byte_at(bytes, given.next);
-        field.refusal = threshold.refusal;
-        field.next = threshold.next;
-        field.threshold = threshold.value;
-        return field;
-    }
-    if k == 1 {
-        let tests = read_tests(bytes, given.next, counts, component, mask);
-        field.refusal = tests.refusal;
-        field.next = tests.next;
-        field.tests = tests.value;
-        return field;
-    }
-    let inputs = read_inputs(bytes, given.next, number, input);
-    field.refusal = inputs.refusal;
-    field.next = inputs.next;
-    field.gates = inputs.value;
-    field
+    byte_at(bytes, at)
 }
 
 // The fields whose bit stands in the map, lowest bit first, over a gate of which nothing is given: as many as the map has ones.
@@ -104,32 +73,34 @@ fn read_fields(
     mask: &mut [u8],
     input: &mut [u8],
 ) -> FieldsRead
+    requires map { ⌜ map < gateMaps ⌝ }
     requires component { ⌜ length (now component) ≡ mostTests ⌝ }
     requires mask { ⌜ length (now mask) ≡ mostTests ⌝ }
     requires input { ⌜ length (now input) ≡ mostGateInputs ⌝ }
     ensures { λ r.
         ⌜ ReadsAt (now (bytes .entry)) at
-        (fields (gateField (now (counts .entry)) number) map (gateOf 1 0 0 (now (component .entry)) (now (mask .entry)) (now (input .entry))))
-        (r .refusal) (r .next) (gateOf (r .threshold) (r .tests) (r .gates) (now (component .exit)) (now (mask .exit)) (now (input .exit))) ⌝ }
+        (fields (gateField (now (counts .entry)) number) map (nothingGiven (now (component .entry)) (now (mask .entry)) (now (input .entry))))
+        (r .refusal) (r .next)
+        (record {
+          threshold = r .threshold;
+          tests = r .tests;
+          component = now (component .exit);
+          mask = now (mask .exit);
+          gates = r .gates;
+          input = now (input .exit);
+        }) ⌝ }
 {
-    let mut read = FieldsRead {
-        refusal: 0,
-        next: at,
-        threshold: 1,
-        tests: 0,
-        gates: 0,
-    };
-    let mut left = field_count(map);
-    let mut k: u8 = 0;
-    while left != 0 {
-        let field = read_field(bytes, counts, number, map, k, read, component, mask, input);
-        let refusal = first(read.refusal, field.refusal);
-        read = field;
-        read.refusal = refusal;
-        left = fields_behind(left, map, k);
-        k = k + 1;
+    let t = read_threshold(bytes, at, map);
+    let tests = read_tests(bytes, t.next, counts, map, component, mask);
+    let left = fields_behind(fields_behind(field_count(map), map, 0), map, 1);
+    let inputs = read_inputs(bytes, tests.next, number, left, input);
+    FieldsRead {
+        refusal: first(first(t.refusal, tests.refusal), inputs.refusal),
+        next: inputs.next,
+        threshold: t.value,
+        tests: tests.value,
+        gates: inputs.value,
     }
-    read
 }
 
 // The record of the gate with this number; `counts` has the state count of each component of the study.

@@ -3,6 +3,7 @@ use crate::RowRead;
 use crate::inputs::inputs_at;
 use reading::ByteRead;
 use reading::byte_at;
+use reading::map_digit;
 use rules::MOST_TESTS;
 use rules::first;
 use rules::mask_fault;
@@ -12,6 +13,7 @@ ghost use mathlib.Core.Path.{_≡_};
 ghost use Prim.Native.Nat.{ℕ, _≤_};
 ghost use lib.ListN.{length};
 ghost use Rattle.rules.specs.Limits.{mostTests};
+ghost use Rattle.reading.specs.Fields.{fieldAt};
 ghost use Rattle.reading.specs.Reader.{ReadsAt, repeat};
 ghost use Rattle.study.specs.declared.Gate.{Gate};
 ghost use Rattle.gate_record.specs.Gate.{withTest, withTestRow, test, tests};
@@ -72,20 +74,29 @@ fn read_test_list(
     RowRead { refusal, next }
 }
 
-// The field of bit 1: how many tests there are. These go to their places.
+// The field of bit 1, where the bit stands in the map: how many tests there are. These go to their places.
 pub fn read_tests(
     bytes: &[u8],
     at: usize,
     counts: &[u8],
+    map: u8,
     component: &mut [u8],
     mask: &mut [u8],
 ) -> ByteRead
     requires components { ⌜ length (now component) ≡ mostTests ⌝ }
     requires masks { ⌜ length (now mask) ≡ mostTests ⌝ }
     ensures { λ r.
-        ⌜ ((k : ℕ) (g : Gate) → ReadsAt (now (bytes .entry)) at (tests (now (counts .entry)) (withTestRow k (now (component .entry)) (now (mask .entry)) g))
-        (r .refusal) (r .next) (withTestRow (r .value) (now (component .exit)) (now (mask .exit)) g)) ⌝ }
+        ⌜ ((g : Gate) → ReadsAt (now (bytes .entry)) at
+        (fieldAt (λ k. tests (now (counts .entry))) map 1 (withTestRow 0 (now (component .entry)) (now (mask .entry)) g)) (r .refusal) (r .next)
+        (withTestRow (r .value) (now (component .exit)) (now (mask .exit)) g)) ⌝ }
 {
+    if map_digit(map, 1) != 1 {
+        return ByteRead {
+            refusal: 0,
+            next: at,
+            value: 0,
+        };
+    }
     let n = inputs_at(bytes, at, MOST_TESTS);
     if n.refusal != 0 {
         return n;

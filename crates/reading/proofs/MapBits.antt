@@ -25,6 +25,19 @@ pub record FieldsLeft {A : Type 0} (field : ℕ → A → Reader A) (absent : A)
 ones-from : (map k : ℕ) → ones (map / 2 ^ k) ≡ digit map k + ones (map / 2 ^ (k + 1))
 ones-from map k = ones-step (map / 2 ^ k) ∙ ap (λ (n : ℕ). digit map k + ones n) (shr-shr map k 1)
 
+-- what is left of a map below 8, behind each of its bits
+pub first-left : (map : ℕ) → BitLeft map (ones map) 0
+first-left map = record { in-map = omega arith; counted = omega (arith, ones-from map 0, ap ones (div-one map)) }
+
+pub second-left : (map left : ℕ) → left ≡ ones map - digit map 0 → BitLeft map left 1
+second-left map left e = record { in-map = omega arith; counted = omega (arith, e, ones-from map 0, ones-from map 1, ap ones (div-one map)) }
+
+pub third-left : (map left last : ℕ) → map < 8 → left ≡ ones map - digit map 0 → last ≡ left - digit map 1 → last ≡ digit map 2
+unfolding ones
+third-left map left last few e e′ =
+    let none : ones (map / 2 ^ 3) ≡ 0 = ap ones (div-eq-of-lt few) in
+    omega (arith, e, e′, none, ones-from map 0, ones-from map 1, ones-from map 2, ap ones (div-one map))
+
 module _ {A : Type 0} (field : ℕ → A → Reader A) (map : ℕ) where
   -- a bit that is clear reads nothing
   clear-turn : (k : ℕ) (r : Read A) → digit map k ≡ 0 → turn (fieldAt field map) k r ≡ r
@@ -39,6 +52,19 @@ module _ {A : Type 0} (field : ℕ → A → Reader A) (map : ℕ) where
       let clear : digit map k ≡ 0 = omega (arith, ones-from map k) in
       let rest : ones (map / 2 ^ (k + 1)) ≡ 0 = omega (arith, ones-from map k) in
       ap (each (turn (fieldAt field map)) n (k + 1)) (clear-turn k r clear) ∙ none-left n (k + 1) r rest
+
+  -- a map below 8 has no bit from 3 on: the fields of its first three bits are all of them
+  pub three-fields : (absent : A) (at : ℕ) {a b d : A} {s : List ℕ} {p n q n′ r n″ pq pqr : ℕ} → map < 8
+      → Reads s p n a (fieldAt field map 0 absent (drop at s))
+      → Reads s q n′ b (fieldAt field map 1 a (drop n s)) → pq ≡ first p q → Reads s r n″ d (fieldAt field map 2 b (drop n′ s)) → pqr ≡ first pq r
+      → Reads s pqr n″ d (fields field map absent (drop at s))
+  unfolding ones first
+  three-fields absent at {a} {b} {d} {s} {p} {n} {q} {n′} {r} {n″} {pq} {pqr} few one two e three e′ =
+      let turn : (refusal next : ℕ) (value : A) (k : ℕ) → Type 0 = RepeatLeft (fieldAt field map) mapBits absent s at in
+      let left₁ : turn p n a 1 = repeat-more (repeat-start refl) (omega arith) one refl in
+      let left₂ : turn pq n′ b 2 = repeat-more left₁ (omega arith) two e in
+      let left₃ : turn pqr n″ d 3 = repeat-more left₂ (omega arith) three e′ in
+      record { same = sym (none-left (mapBits - 3) 3 (asRead s pqr n″ d) (ap ones (div-eq-of-lt few))) ∙ left₃ .turns .same }
 
 module _ {A : Type 0} {field : ℕ → A → Reader A} {absent : A} {s : List ℕ} {at map : ℕ} where
   pub fields-start : {value : A} {left : ℕ} → map < 2 ^ mapBits → value ≡ absent → left ≡ ones map → FieldsLeft field absent s at map 0 at value left 0

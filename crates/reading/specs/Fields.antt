@@ -1,6 +1,7 @@
 -- Reading a record: a map of bits, then only the fields whose bit stands.
 use Prim.Native.Nat.{ℕ, _<_, _≤_}
 use mathlib.Core.Bool.{cond}
+use lib.Dec.{eqb}
 use Rattle.lists.specs.Bits.{digit, bit}
 use Rattle.rules.specs.Table.{strayFault}
 use Rattle.reading.specs.Reader.{Reader, byte, judge, return, repeat, _>>=_, _>>_}
@@ -17,6 +18,10 @@ pub record BitLeft (map left k : ℕ) : Type 0 where
 -- the field of bit k is read where the bit stands, and otherwise keeps its absent value
 abbrev pub fieldAt : {A : Type 0} → (ℕ → A → Reader A) → ℕ → ℕ → A → Reader A
 fieldAt field map k a = cond (bit map k) (field k a) (return a)
+
+-- the last field is read where one is left
+abbrev pub whereLeft : {A : Type 0} → ℕ → (A → Reader A) → A → Reader A
+whereLeft left field a = cond (eqb left 1) (field a) (return a)
 
 -- the fields whose bit stands, lowest bit first
 abbrev pub fields : {A : Type 0} → (ℕ → A → Reader A) → ℕ → A → Reader A

@@ -6,7 +6,7 @@ ghost use lib.ListN.{length};
 ghost use lib.Count.{ones};
 ghost use Rattle.lists.specs.Bits.{digit};
 ghost use Rattle.reading.specs.Fields.{mapBits, BitLeft, mapByte};
-ghost use Rattle.reading.specs.Reader.{ReadsAt, byte, word, number as Reader·number, numberAt};
+ghost use Rattle.reading.specs.Reader.{ReadsAt, ReadsWith, byte, word, number as Reader·number, numberAt};
 
 pub struct ByteRead {
     pub refusal: u8,
@@ -81,9 +81,9 @@ pub fn word_at(bytes: &[u8], at: usize) -> WordRead
     }
 }
 
-// The map at a place, with no stray bit.
+// The map at a place, which has no stray bit where it is not refused.
 pub fn map_at(bytes: &[u8], at: usize, maps: u8) -> ByteRead
-    ensures { λ r. ⌜ ReadsAt (now (bytes .entry)) at (mapByte maps) (r .refusal) (r .next) (r .value) ⌝ }
+    ensures { λ r. ⌜ ReadsWith (λ map. map < maps) (now (bytes .entry)) at (mapByte maps) (r .refusal) (r .next) (r .value) ⌝ }
 {
     let b = byte_at(bytes, at);
     ByteRead {

@@ -8,7 +8,7 @@ use Rattle.component_record.proofs.read_component.Tie as tie
 returns : tie.Need-returns
 unfolding component
 returns c =
-    let map = c .before .before .before .before .before .map-at .ensures in
+    let map = c .before .before .before .before .before .map-at .ensures .reads in
     let fields = c .before .before .before .before .read-fields .ensures in
     let both = c .before .before .first .ensures in
     let rule = c .before .sum-fault .ensures in

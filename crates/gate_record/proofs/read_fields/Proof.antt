@@ -1,120 +1,77 @@
--- `gate_record::read_fields` meets its contract. Each turn reads the field of one bit, and as many fields are left as bits stand from k on (`FieldsLeft`);
--- what falls is the number of bits that the turns have still to pass.
-use Prim.Native.Nat.{ℕ, _-_, _<_}
-use mathlib.Core.Path.{_≡_, refl, sym, _∙_}
-use mathlib.Core.List.{List}
-use native.Mathlib.Omega.{arith}
-use lib.ListN.{length}
+-- `gate_record::read_fields` meets its contract: the fields of bits 0, 1 and 2 are read in turn, and a map of a gate has no bit behind these. What is left of
+-- the count of ones behind bits 0 and 1 is bit 2.
+use Prim.Native.Nat.{ℕ}
+use mathlib.Core.Path.{_≡_, ap, subst}
+use lib.ListN.{drop}
 use borrow.Author.Needs.{needs}
-use Rattle.rules.specs.Limits.{mostTests, mostGateInputs}
-use Rattle.reading.specs.Fields.{mapBits}
+use Rattle.lists.specs.Bits.{digit}
+use Rattle.reading.specs.Fields.{whereLeft}
+use Rattle.reading.specs.Reader.{Read, Reads}
 use Rattle.reading.proofs.Calls.{asks-nothing}
-use Rattle.reading.proofs.MapBits.{FieldsLeft, fields-start, fields-bit, fields-more, fields-done}
-use Rattle.gate_record.specs.Gate.{gateOf, gateField}
+use Rattle.reading.proofs.MapBits.{first-left, second-left, third-left, three-fields}
+use Rattle.study.specs.declared.Gate.{Gate}
+use Rattle.gate_record.specs.Gate.{withThreshold, nothingGiven, withTestRow, inputs, gateField}
 use Rattle.gate_record.proofs.read_fields.Statement.{statement}
 use Rattle.gate_record.proofs.read_fields.Tie as tie
 
--- the places that are lent are those of a gate
-record Lent (component mask input : List ℕ) : Type 0 where
-  component-long : length component ≡ mostTests
-  mask-long : length mask ≡ mostTests
-  input-long : length input ≡ mostGateInputs
+-- the steps before each field
+abbrev inputs-read : tie.After-first2 → tie.After-read-inputs
+inputs-read c = c .before .before .before .before
 
-abbrev Inv-loop : tie.InvT-loop
-Inv-loop bytes at counts number map component₀ mask₀ input₀ read₀ left₀ k₀ component mask input read left k =
-    FieldsLeft (gateField counts number) (gateOf 1 0 0 component₀ mask₀ input₀) bytes at map (read .refusal) (read .next)
-    (gateOf (read .threshold) (read .tests) (read .gates) component mask input) left k
-    × Lent component mask input
+abbrev counted : tie.After-read-inputs-arg → tie.After-field-count
+counted c = c .before .before .before
 
-abbrev μ-loop : tie.MeasureT-loop
-μ-loop bytes at counts number map component₀ mask₀ input₀ read₀ left₀ k₀ component mask input read left k = mapBits - k
+abbrev tests-read : tie.After-field-count → tie.After-read-tests
+tests-read c = c .before .before .before .before .before
 
--- the steps between the calls
-abbrev known : tie.After-field-count Inv-loop μ-loop → tie.After-slice-known Inv-loop μ-loop
-known c = c .before .before .before
+abbrev threshold-read : tie.After-read-tests → tie.After-read-threshold
+threshold-read c = c .before .before .before
 
-abbrev start : tie.After-field-count Inv-loop μ-loop → tie.Start Inv-loop μ-loop
-start c = known c .before .before .before
+abbrev lent : tie.After-read-threshold → tie.After-slice-known
+lent c = c .before .before .before
 
-abbrev back : tie.After-first Inv-loop μ-loop → tie.After-slice-known4 Inv-loop μ-loop
-back c = c .before .before .before .before .before
+abbrev start : tie.After-read-threshold → tie.Start
+start c = lent c .before .before .before
 
-abbrev read-in : tie.After-first Inv-loop μ-loop → tie.After-read-field Inv-loop μ-loop
-read-in c = back c .before .before
+read-tests-requires : tie.Need-read-tests-requires
+read-tests-requires c κs = let rows = start (c .before .before) .pre .1 in (rows .0, rows .1 .0)
 
-abbrev turn : tie.After-read-field Inv-loop μ-loop → tie.In-loop Inv-loop μ-loop
-turn c = c .before .before .before .before
+fields-behind-requires : tie.Need-fields-behind-requires
+fields-behind-requires c κs = rw (c .field-count .ensures) (first-left _)
 
-loop-holds : tie.Need-loop-holds Inv-loop μ-loop
-loop-holds c =
-    let entry = start c in (
-      fields-start (entry .fits .map .fits) refl (c .field-count .ensures),
-      record { component-long = entry .pre .0; mask-long = entry .pre .1 .0; input-long = entry .pre .1 .1 },
-    )
+fields-behind-requires-2 : tie.Need-fields-behind-requires-2
+fields-behind-requires-2 c κs = second-left _ _ (rw (c .before .field-count .ensures) at (c .fields-behind .ensures))
 
--- bit k is one of the map's
-in-map : (c : tie.In-loop Inv-loop μ-loop) → c .before .loop .k < mapBits
-in-map c = fields-bit (c .before .loop .inv .0) (c .loop-test .taken) .in-map
+read-inputs-requires : tie.Need-read-inputs-requires
+read-inputs-requires c κs = start (threshold-read (tests-read (counted c))) .pre .1 .1 .1
 
-read-field-requires : tie.Need-read-field-requires Inv-loop μ-loop
-read-field-requires c κs =
-    let here = c .before .before .before in
-    let lent = here .before .loop .inv .1 in
-    (in-map here, (lent .component-long, (lent .mask-long, lent .input-long)))
+-- what is left behind bit 1
+last-left : (c : tie.After-read-inputs-arg)
+    → c .before .fields-behind2 .result ≡ digit (start (threshold-read (tests-read (counted c))) .args .map) 2
+last-left c =
+    let one = c .before .before in
+    third-left _ _ _ (start (threshold-read (tests-read (counted c))) .pre .0) (rw (counted c .field-count .ensures) at (one .fields-behind .ensures))
+    (c .before .fields-behind2 .ensures)
 
-fields-behind-requires : tie.Need-fields-behind-requires Inv-loop μ-loop
-fields-behind-requires c κs = let here = turn (read-in c) in fields-bit (here .before .loop .inv .0) (here .loop-test .taken)
-
-add-k : tie.Need-add-k Inv-loop μ-loop
-add-k c = omega (arith, in-map (turn (read-in (c .before))))
-
-loop-less : tie.Need-loop-less Inv-loop μ-loop
-loop-less c = omega (arith, in-map (turn (read-in (c .before))))
-
-loop-again : tie.Need-loop-again Inv-loop μ-loop
-loop-again c =
-    let read = read-in (c .before) in
-    let here = turn read in
-    let was = here .before .loop in
-    let rows = read .read-field .last .1 .1 .1 .1 .1 .1 in
-    let component : length (rows .0) ≡ length (was .component) = search needs in
-    let mask : length (rows .1 .0) ≡ length (was .mask) = search needs in
-    let input : length (rows .1 .1 .0) ≡ length (was .input) = search needs in (
-      fields-more (was .inv .0) (here .loop-test .taken) (read .read-field .ensures) (c .before .first .ensures) (c .fields-behind .ensures),
-      record {
-        component-long = component ∙ was .inv .1 .component-long;
-        mask-long = mask ∙ was .inv .1 .mask-long;
-        input-long = input ∙ was .inv .1 .input-long;
-      },
-    )
-
-same-length : tie.Need-same-length Inv-loop μ-loop
-same-length c = c .before .loop .inv .1 .component-long ∙ sym (start (c .before .before) .pre .0)
-
-same-length-2 : tie.Need-same-length-2 Inv-loop μ-loop
-same-length-2 c = c .before .loop .inv .1 .mask-long ∙ sym (start (c .before .before) .pre .1 .0)
-
-same-length-3 : tie.Need-same-length-3 Inv-loop μ-loop
-same-length-3 c = c .before .loop .inv .1 .input-long ∙ sym (start (c .before .before) .pre .1 .1)
-
-returns : tie.Need-returns Inv-loop μ-loop
-returns c = fields-done (c .before .loop .inv .0) (c .loop-test .left)
+returns : tie.Need-returns
+unfolding gateField
+returns c =
+    let called = inputs-read c in
+    let tests = tests-read (counted (called .before)) in
+    let threshold = threshold-read tests in
+    let entry = start threshold in
+    let nothing = nothingGiven (entry .args .component .now) (entry .args .mask .now) (entry .args .input .now) in
+    let g = withThreshold (threshold .read-threshold .result .value) nothing in
+    let rows = tests .read-tests .last .1 .1 .1 .1 in
+    let h = withTestRow (tests .read-tests .result .value) (rows .0) (rows .1 .0) g in
+    let last : ℕ → Read Gate =
+    λ left. whereLeft left (inputs (entry .args .number)) h (drop (tests .read-tests .result .next) (entry .args .bytes .now)) in
+    three-fields (gateField (entry .args .counts .now) (entry .args .number)) (entry .args .map) nothing (entry .args .at) (entry .pre .0)
+    (threshold .read-threshold .ensures nothing) (tests .read-tests .ensures g) (c .before .first .ensures)
+    (subst (Reads _ _ _ _) (ap last (last-left (called .before))) (called .read-inputs .ensures h)) (c .first2 .ensures)
 
 pub read-fields-spec : {M : Type 1} → statement M
 read-fields-spec =
     tie.close
-    (tie.spec
-    Inv-loop
-    μ-loop
-    asks-nothing
-    loop-holds
-    read-field-requires
-    asks-nothing
-    fields-behind-requires
-    add-k
-    loop-less
-    loop-again
-    same-length
-    same-length-2
-    same-length-3
-    returns)
+    (tie.spec asks-nothing read-tests-requires asks-nothing fields-behind-requires fields-behind-requires-2 read-inputs-requires
+    asks-nothing asks-nothing (λ c. search needs) (λ c. search needs) (λ c. search needs) returns)

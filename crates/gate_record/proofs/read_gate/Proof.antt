@@ -9,7 +9,7 @@ use Rattle.reading.proofs.Calls.{asks-nothing}
 use Rattle.study.specs.Absent.{absentGate}
 use Rattle.gate_order.specs.Order.{inOrder}
 use Rattle.study.specs.declared.Gate.{Gate}
-use Rattle.gate_record.specs.Gate.{gateOf, gateField, gate, gateInOrder}
+use Rattle.gate_record.specs.Gate.{nothingGiven, gateField, gate, gateInOrder}
 use Rattle.gate_record.proofs.read_gate.Statement.{statement}
 use Rattle.gate_record.proofs.read_gate.Tie as tie
 
@@ -17,7 +17,7 @@ returns : tie.Need-returns
 unfolding gateInOrder gate
 returns c =
     let refused = c .if1 .taken in
-    let fields = stopped {n′ = 0} {v′ = absentGate} _ (c .before .before .map-at .ensures) refused in
+    let fields = stopped {n′ = 0} {v′ = absentGate} _ (c .before .before .map-at .ensures .reads) refused in
     stopped _ (stopped {n′ = 0} {v′ = absentGate} _ fields refused) refused
 
 -- the steps between the calls
@@ -42,9 +42,13 @@ map-read c = c .before .before .before
 read-fields-requires : tie.Need-read-fields-requires
 unfolding absentGate
 read-fields-requires c κs =
-    let absent = map-read (lent c) .before .absent-gate .ensures in (
-      ap (λ (a : Gate). length (a .component)) absent,
-      (ap (λ (a : Gate). length (a .mask)) absent, ap (λ (a : Gate). length (a .input)) absent),
+    let map = map-read (lent c) in
+    let absent = map .before .absent-gate .ensures in (
+      map .map-at .ensures .kept (lent c .before .if1 .left),
+      (
+        ap (λ (a : Gate). length (a .component)) absent,
+        (ap (λ (a : Gate). length (a .mask)) absent, ap (λ (a : Gate). length (a .input)) absent),
+      ),
     )
 
 returns-2 : tie.Need-returns-2
@@ -57,10 +61,10 @@ returns-2 c =
     let map = map-read component in
     let entry = map .before .before .before .before in
     let given : Gate → Read Gate =
-    λ a. fields (gateField (entry .args .counts .now) (entry .args .number)) (map .map-at .result .value) (gateOf 1 0 0 (a .component) (a .mask) (a .input))
+    λ a. fields (gateField (entry .args .counts .now) (entry .args .number)) (map .map-at .result .value) (nothingGiven (a .component) (a .mask) (a .input))
     (drop (map .map-at .result .next) (entry .args .bytes .now)) in
     let read-over = subst (Reads _ _ _ _) (ap given (map .before .absent-gate .ensures)) (read .read-fields .ensures) in
-    let fields = going _ (map .map-at .ensures) (component .before .if1 .left) read-over in
+    let fields = going _ (map .map-at .ensures .reads) (component .before .if1 .left) read-over in
     let whole = after _ fields (judged-last _ (c .before .threshold-fault .ensures)) (c .first .ensures) in
     let f = read .read-fields .result in
     finished inOrder whole

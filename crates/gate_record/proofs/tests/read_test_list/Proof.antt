@@ -25,7 +25,9 @@ abbrev turn : tie.After-first Inv-loop μ-loop → tie.In-loop Inv-loop μ-loop
 turn c = c .before .before
 
 abbrev start : tie.In-loop Inv-loop μ-loop → tie.Start Inv-loop μ-loop
-start c = let entered = c .before .before in entered .before .before .before .before
+start c =
+    let entered = c .before .before in
+    entered .before .before .before .before
 
 loop-holds : tie.Need-loop-holds Inv-loop μ-loop
 loop-holds c = (refl, refl, λ k g. repeat-start refl)
