@@ -1,5 +1,5 @@
 -- The first breach among numbered rules: what carries a loop that judges them, and what it means that there is none.
-use Prim.Native.Nat.{ℕ, zero, suc, _+_, _<_, _≤_}
+use Prim.Native.Nat.{ℕ, zero, suc, _+_, _-_, _<_, _≤_}
 use mathlib.Core.Path.{_≡_, refl, sym, ap, subst, _∙_}
 use mathlib.Core.Logic.{⊎-elim}
 use native.Mathlib.Nat.{sub-zero, eq-or-lt-of-le, le-refl}
@@ -7,7 +7,7 @@ use native.Mathlib.Omega.{arith}
 use Rattle.lists.specs.Run.{each}
 use Rattle.lists.proofs.Turns.{Turns, turns-start, turns-more, turns-done}
 use Rattle.rules.specs.Breach.{first, firstOf, inUse}
-use Rattle.rules.proofs.Kept.{first-kept, first-none, used-kept, unused-kept, in-use-none}
+use Rattle.rules.proofs.Kept.{first-kept, first-none, first-some, first-next, used-kept, unused-kept, in-use-none}
 
 -- one more rule is judged
 abbrev judging : (ℕ → ℕ) → ℕ → ℕ → ℕ
@@ -16,6 +16,12 @@ judging f k breach = first breach (f k)
 -- The rules below i of n have been judged, with the first breach among them.
 pub record FirstLeft (f : ℕ → ℕ) (n i breach : ℕ) : Type 0 where
   pub turns : Turns (λ (k b : ℕ). first b (f k)) n 0 0 i breach
+
+-- a breach stays through all later rules
+breach-stays : (f : ℕ → ℕ) (n i b : ℕ) → (b ≡ 0 → ⊥) → each (judging f) n i b ≡ b
+unfolding each
+breach-stays f zero i b some = refl
+breach-stays f (suc n) i b some = ap (each (judging f) n (i + 1)) (first-some b (f i) some) ∙ breach-stays f n (i + 1) b some
 
 module _ {f : ℕ → ℕ} {n : ℕ} where
   pub first-start : FirstLeft f n 0 0
@@ -31,6 +37,17 @@ module _ {f : ℕ → ℕ} {n : ℕ} where
   pub first-done : {i breach : ℕ} → FirstLeft f n i breach → n ≤ i → breach ≡ firstOf f n 0
   unfolding firstOf
   first-done l h = rw sub-zero at (turns-done (l .turns) h)
+
+  -- none of the rules below i is broken; where the next is kept, none up to it is, and where it is broken, it is the first
+  module _ {i next : ℕ} (l : FirstLeft f n i 0) (h : i < n) (e : next ≡ f i) where
+    pub none-more : next ≡ 0 → FirstLeft f n (i + 1) 0
+    none-more none = first-more l h e (sym (first-next 0 next refl ∙ none))
+
+    pub next-first : (next ≡ 0 → ⊥) → next ≡ firstOf f n 0
+    unfolding firstOf
+    next-first some =
+        let judged : FirstLeft f n (i + 1) next = first-more l h e (sym (first-next 0 next refl)) in
+        sym (breach-stays f (n - (i + 1)) (i + 1) next some) ∙ (rw sub-zero at (judged .turns .same))
 
 -- every rule from i on, n of them, is kept
 pub record AllKept (f : ℕ → ℕ) (n i : ℕ) : Type 0 where

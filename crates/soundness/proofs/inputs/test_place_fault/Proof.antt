@@ -1,0 +1,22 @@
+-- `soundness::inputs::test_place_fault` meets its contract: whether the place is in use decides by which rules it is judged.
+use mathlib.Core.Path.{ap, ap₂, _∙_}
+use borrow.Author.Needs.{needs}
+use borrow.Author.Tests.{lt-ltb, le-ltb}
+use Rattle.rules.specs.Breach.{first}
+use Rattle.rules.specs.Table.{maskFault}
+use Rattle.soundness.specs.Check.{testPlaceFault}
+use Rattle.soundness.proofs.inputs.test_place_fault.Statement.{statement}
+use Rattle.soundness.proofs.inputs.test_place_fault.Tie as tie
+
+returns : tie.Need-returns
+unfolding testPlaceFault
+returns c = rw (lt-ltb _ _ (c .before .before .before .before .if1 .taken)) (cc)
+
+returns-2 : tie.Need-returns-2
+unfolding testPlaceFault
+returns-2 c = rw (le-ltb _ _ (c .before .if1 .left)) (c .unused-fault .ensures)
+
+pub test-place-fault-spec : {M : Type 1} → statement M
+test-place-fault-spec =
+    tie.close
+    (tie.spec (λ c κs. search needs) (λ c κs. search needs) (λ c κs. search needs) (λ c κs. search needs) returns (λ c κs. search needs) returns-2)
