@@ -1,4 +1,5 @@
--- `soundness::inputs::gate_inputs_fault` meets its contract. No place so far is broken (`FirstLeft`), and the first that is ends the loop; the places left fall.
+-- `soundness::inputs::gate_inputs_fault` meets its contract. No place so far is broken (`FirstLeft`), and the first that is ends the loop; the places left
+-- fall.
 use Prim.Native.Nat.{ℕ, _-_}
 use native.Mathlib.Omega.{arith}
 use lib.ListN.{getD}
