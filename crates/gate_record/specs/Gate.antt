@@ -49,9 +49,17 @@ withInput j gate g =
       input = set (g .input) j gate;
     }
 
--- a gate of which nothing is given, with these places
-abbrev pub nothingGiven : List ℕ → List ℕ → List ℕ → Gate
-nothingGiven component mask input = record { threshold = 1; tests = 0; component = component; mask = mask; gates = 0; input = input }
+-- a gate of which nothing is given, as one that is absent but for its places
+abbrev pub nothingGiven : Gate → List ℕ → List ℕ → List ℕ → Gate
+nothingGiven absent component mask input =
+    record {
+      threshold = absent .threshold;
+      tests = absent .tests;
+      component = component;
+      mask = mask;
+      gates = absent .gates;
+      input = input;
+    }
 
 -- the tests of a gate are so many, and these are their places
 abbrev pub withTestRow : ℕ → List ℕ → List ℕ → Gate → Gate

@@ -60,17 +60,24 @@ fn read_input_list(bytes: &[u8], at: usize, number: usize, n: usize, input: &mut
 }
 
 // The last field, where one field is left to read: how many gate inputs there are. These go to their places.
-pub fn read_inputs(bytes: &[u8], at: usize, number: usize, left: u32, input: &mut [u8]) -> ByteRead
+pub fn read_inputs(
+    bytes: &[u8],
+    at: usize,
+    number: usize,
+    left: u32,
+    absent: u8,
+    input: &mut [u8],
+) -> ByteRead
     requires { ⌜ length (now input) ≡ mostGateInputs ⌝ }
     ensures { λ r.
-        ⌜ ((g : Gate) → ReadsAt (now (bytes .entry)) at (whereLeft left (inputs number) (withInputRow 0 (now (input .entry)) g)) (r .refusal) (r .next)
+        ⌜ ((g : Gate) → ReadsAt (now (bytes .entry)) at (whereLeft left (inputs number) (withInputRow absent (now (input .entry)) g)) (r .refusal) (r .next)
         (withInputRow (r .value) (now (input .exit)) g)) ⌝ }
 {
     if left != 1 {
         return ByteRead {
             refusal: 0,
             next: at,
-            value: 0,
+            value: absent,
         };
     }
     let n = inputs_at(bytes, at, MOST_GATE_INPUTS);

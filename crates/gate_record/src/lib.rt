@@ -47,16 +47,16 @@ struct FieldsRead {
 }
 
 // The field of bit 0, where the bit stands in the map. It is judged after the gate's last field.
-fn read_threshold(bytes: &[u8], at: usize, map: u8) -> ByteRead
+fn read_threshold(bytes: &[u8], at: usize, map: u8, absent: u8) -> ByteRead
     ensures { λ r.
-        ⌜ ((g : Gate) → ReadsAt (now (bytes .entry)) at (fieldAt (λ k. threshold) map 0 (withThreshold 1 g)) (r .refusal) (r .next)
+        ⌜ ((g : Gate) → ReadsAt (now (bytes .entry)) at (fieldAt (λ k. threshold) map 0 (withThreshold absent g)) (r .refusal) (r .next)
         (withThreshold (r .value) g)) ⌝ }
 {
     if map_digit(map, 0) != 1 {
         return ByteRead {
             refusal: 0,
             next: at,
-            value: 1,
+            value: absent,
         };
     }
     byte_at(bytes, at)
@@ -69,6 +69,7 @@ fn read_fields(
     counts: &[u8],
     number: usize,
     map: u8,
+    absent: Gate,
     component: &mut [u8],
     mask: &mut [u8],
     input: &mut [u8],
@@ -79,7 +80,7 @@ fn read_fields(
     requires input { ⌜ length (now input) ≡ mostGateInputs ⌝ }
     ensures { λ r.
         ⌜ ReadsAt (now (bytes .entry)) at
-        (fields (gateField (now (counts .entry)) number) map (nothingGiven (now (component .entry)) (now (mask .entry)) (now (input .entry))))
+        (fields (gateField (now (counts .entry)) number) map (nothingGiven absent (now (component .entry)) (now (mask .entry)) (now (input .entry))))
         (r .refusal) (r .next)
         (record {
           threshold = r .threshold;
@@ -90,10 +91,10 @@ fn read_fields(
           input = now (input .exit);
         }) ⌝ }
 {
-    let t = read_threshold(bytes, at, map);
-    let tests = read_tests(bytes, t.next, counts, map, component, mask);
+    let t = read_threshold(bytes, at, map, absent.threshold);
+    let tests = read_tests(bytes, t.next, counts, map, absent.tests, component, mask);
     let left = fields_behind(fields_behind(field_count(map), map, 0), map, 1);
-    let inputs = read_inputs(bytes, tests.next, number, left, input);
+    let inputs = read_inputs(bytes, tests.next, number, left, absent.gates, input);
     FieldsRead {
         refusal: first(first(t.refusal, tests.refusal), inputs.refusal),
         next: inputs.next,
@@ -125,6 +126,7 @@ pub fn read_gate(bytes: &[u8], at: usize, counts: &[u8], number: usize) -> GateR
         counts,
         number,
         m.value,
+        absent,
         &mut component,
         &mut mask,
         &mut input,

@@ -80,6 +80,7 @@ pub fn read_tests(
     at: usize,
     counts: &[u8],
     map: u8,
+    absent: u8,
     component: &mut [u8],
     mask: &mut [u8],
 ) -> ByteRead
@@ -87,14 +88,14 @@ pub fn read_tests(
     requires masks { ⌜ length (now mask) ≡ mostTests ⌝ }
     ensures { λ r.
         ⌜ ((g : Gate) → ReadsAt (now (bytes .entry)) at
-        (fieldAt (λ k. tests (now (counts .entry))) map 1 (withTestRow 0 (now (component .entry)) (now (mask .entry)) g)) (r .refusal) (r .next)
+        (fieldAt (λ k. tests (now (counts .entry))) map 1 (withTestRow absent (now (component .entry)) (now (mask .entry)) g)) (r .refusal) (r .next)
         (withTestRow (r .value) (now (component .exit)) (now (mask .exit)) g)) ⌝ }
 {
     if map_digit(map, 1) != 1 {
         return ByteRead {
             refusal: 0,
             next: at,
-            value: 0,
+            value: absent,
         };
     }
     let n = inputs_at(bytes, at, MOST_TESTS);

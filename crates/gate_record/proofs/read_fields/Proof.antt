@@ -60,9 +60,9 @@ returns c =
     let tests = tests-read (counted (called .before)) in
     let threshold = threshold-read tests in
     let entry = start threshold in
-    let nothing = nothingGiven (entry .args .component .now) (entry .args .mask .now) (entry .args .input .now) in
+    let nothing = nothingGiven (entry .args .absent) (entry .args .component .now) (entry .args .mask .now) (entry .args .input .now) in
     let g = withThreshold (threshold .read-threshold .result .value) nothing in
-    let rows = tests .read-tests .last .1 .1 .1 .1 in
+    let rows = tests .read-tests .last .1 .1 .1 .1 .1 in
     let h = withTestRow (tests .read-tests .result .value) (rows .0) (rows .1 .0) g in
     let last : ℕ → Read Gate =
     λ left. whereLeft left (inputs (entry .args .number)) h (drop (tests .read-tests .result .next) (entry .args .bytes .now)) in

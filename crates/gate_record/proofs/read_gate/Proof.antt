@@ -61,7 +61,7 @@ returns-2 c =
     let map = map-read component in
     let entry = map .before .before .before .before in
     let given : Gate → Read Gate =
-    λ a. fields (gateField (entry .args .counts .now) (entry .args .number)) (map .map-at .result .value) (nothingGiven (a .component) (a .mask) (a .input))
+    λ a. fields (gateField (entry .args .counts .now) (entry .args .number)) (map .map-at .result .value) (nothingGiven a (a .component) (a .mask) (a .input))
     (drop (map .map-at .result .next) (entry .args .bytes .now)) in
     let read-over = subst (Reads _ _ _ _) (ap given (map .before .absent-gate .ensures)) (read .read-fields .ensures) in
     let fields = going _ (map .map-at .ensures .reads) (component .before .if1 .left) read-over in

@@ -1,4 +1,4 @@
--- `gate_record::read_threshold` meets its contract: the byte is read where the bit stands, and otherwise the threshold is 1.
+-- `gate_record::read_threshold` meets its contract: the byte is read where the bit stands, and otherwise the threshold is the absent one.
 use mathlib.Core.Path.{refl, sym, _∙_}
 use borrow.Author.Tests.{ne-eqb}
 use borrow.Author.Needs.{needs}
