@@ -1,5 +1,4 @@
 -- `soundness::inputs::input_place_fault` meets its contract: whether the place is in use decides by which rule it is judged.
-use mathlib.Core.Path.{_∙_}
 use borrow.Author.Needs.{needs}
 use borrow.Author.Tests.{lt-ltb, le-ltb}
 use Rattle.soundness.specs.Check.{inputPlaceFault}

@@ -1,9 +1,6 @@
 -- `soundness::inputs::test_place_fault` meets its contract: whether the place is in use decides by which rules it is judged.
-use mathlib.Core.Path.{ap, ap₂, _∙_}
 use borrow.Author.Needs.{needs}
 use borrow.Author.Tests.{lt-ltb, le-ltb}
-use Rattle.rules.specs.Breach.{first}
-use Rattle.rules.specs.Table.{maskFault}
 use Rattle.soundness.specs.Check.{testPlaceFault}
 use Rattle.soundness.proofs.inputs.test_place_fault.Statement.{statement}
 use Rattle.soundness.proofs.inputs.test_place_fault.Tie as tie
