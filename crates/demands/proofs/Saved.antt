@@ -73,7 +73,7 @@ module _ (t : Study) (shaped : Shaped t) (s : Sound t) where
   unfolding opened answer answered refuse
   bytes-open =
       ap (λ (bytes : List ℕ). opened bytes) (sym (append-nil (studyBytes t)))
-      ∙ ap answer (study-back t s shaped .back [])
+      ∙ ap answer (study-back t shaped s [])
       ∙ ap (λ (u : Study). record { outcome = Done; study = u }) still
 
 -- what a call that was not refused left in the buffer

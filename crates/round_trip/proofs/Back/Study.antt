@@ -27,6 +27,7 @@ use Rattle.reading.proofs.Back.{Back, back-then, back-judged, back-finished, ba
 use Rattle.soundness.specs.Sound.{Sound}
 use Rattle.soundness.proofs.Ranges.{components-most, gates-most, loads-most, joint-most, counts-long, count-at, count-least}
 use Rattle.opening.specs.Opening.{count, componentAfter, componentRecord, gateRecord, loadRecord, placing, records, study}
+use Rattle.round_trip.specs.Laws.{ReadBack}
 use Rattle.round_trip.proofs.Places.{filledTo, filled-front, filled-next, filled-all}
 use Rattle.round_trip.proofs.Back.Component.{component-back}
 use Rattle.round_trip.proofs.Back.Gate.{gate-back, unused-gate}
@@ -114,10 +115,13 @@ module _ (t : Study) (s : Sound t) (shaped : Shaped t) where
 
   -- ---- the study
 
-  pub study-back : Back study (studyBytes t) t
+  whole-back : Back study (studyBytes t) t
   unfolding study records studyBytes
-  study-back =
+  whole-back =
       back-then _ (count-back mostComponents (t .components) (s .components))
       (back-then _ (count-back mostGates (t .gates) (s .gates))
       (back-then _ (count-back mostLoads (t .loads) (s .loads))
       (back-then _ components-back (back-then _ gates-back (back-finished _ loads-back)))))
+
+pub study-back : ReadBack
+study-back t shaped s = whole-back t s shaped .back

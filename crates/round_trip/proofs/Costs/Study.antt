@@ -20,11 +20,12 @@ use Rattle.study.specs.Joint.{states}
 use Rattle.study.specs.Places.{noGate}
 use Rattle.study.specs.Zero.{zeroComponent, zeroLoad, noComponents, noGates, noLoads}
 use Rattle.study_bytes.specs.Written.{componentBytes, gateBytes, loadBytes, componentsBytes, gatesBytes, loadsBytes, studyBytes}
-use Rattle.reading.specs.Reader.{Read, Reader, got, repeat}
+use Rattle.reading.specs.Reader.{Read, Reader, repeat}
 use Rattle.reading.proofs.Ends.{EndsIn, Ends, ends-then, ends-return, ends-weaker, ends-byte, ends-judge, ends-repeat}
 use Rattle.reading.proofs.Held.{Any}
 use Rattle.reading.proofs.Takes.{Counts}
 use Rattle.opening.specs.Opening.{count, componentAfter, componentRecord, gateRecord, loadRecord, placing, records, study}
+use Rattle.round_trip.specs.Laws.{NoneShorter}
 use Rattle.round_trip.proofs.Costs.Component.{component-costs}
 use Rattle.round_trip.proofs.Costs.Gate.{gate-costs}
 use Rattle.round_trip.proofs.Costs.Load.{load-costs}
@@ -108,7 +109,7 @@ reading-costs n =
     let t : Study = record { components = components; gates = gates; loads = loads; component = cs; gate = gs; load = ls } in
     ends-return (omega (arith, study-size t, c .taken, g .taken, l .taken, hc, hg, hl))))))))
 
-pub study-costs : (bytes : List ℕ) (t : Study) (rest : List ℕ) → study bytes ≡ got t rest → length (studyBytes t) + length rest ≤ length bytes
+pub study-costs : NoneShorter
 study-costs bytes t rest e =
     subst (λ (r : Read Study). EndsIn Any (λ (u : Study) (left : ℕ). length (studyBytes u) + left ≤ length bytes) r) e
     (reading-costs (length bytes) .ends bytes refl)
