@@ -15,20 +15,15 @@ use Rattle.probability.specs.Bounds.{factored, pathBound}
 
 -- a blank component, and a settled one
 
-module _ (rounding : ℕ) (probabilities entry : List ℕ) (i bound : ℕ) (inside : i < length entry) where
-  mark : getD entry i blankMark ≡ getD entry i 0
-  mark = getD-inside entry i blankMark 0 inside
-
-  pub blank-factor : getD entry i 0 ≡ blankMark → bound ≡ factored rounding probabilities entry i bound
+module _ (rounding : ℕ) (probabilities : List ℕ) (i mark bound : ℕ) where
+  pub blank-factor : mark ≡ blankMark → bound ≡ factored rounding probabilities i mark bound
   unfolding factored
-  blank-factor e = rw (eq-eqb (getD entry i blankMark) blankMark (mark ∙ e)) refl
+  blank-factor e = rw (eq-eqb mark blankMark e) refl
 
-  pub settled-factor : {r p : ℕ} → (getD entry i 0 ≡ blankMark → ⊥) → p ≡ probabilityAt probabilities i (getD entry i 0) → r ≡ scale rounding bound p
-      → r ≡ factored rounding probabilities entry i bound
+  pub settled-factor : {r p : ℕ} → (mark ≡ blankMark → ⊥) → p ≡ probabilityAt probabilities i mark → r ≡ scale rounding bound p
+      → r ≡ factored rounding probabilities i mark bound
   unfolding factored
-  settled-factor {r} {p} settled probability scaled =
-      let other : getD entry i blankMark ≡ blankMark → ⊥ = λ e. settled (sym mark ∙ e) in
-      rw (ne-eqb (getD entry i blankMark) blankMark other, mark, ← probability) scaled
+  settled-factor {r} {p} settled probability scaled = rw (ne-eqb mark blankMark settled, ← probability) scaled
 
 pub record Factored (rounding : ℕ) (probabilities entry : List ℕ) (n i bound : ℕ) : Type 0 where
   pub inside : i ≤ n
@@ -40,10 +35,12 @@ module _ {rounding : ℕ} {probabilities entry : List ℕ} {n : ℕ} where
   unfolding pathBound
   factors-start = record { inside = omega arith; made = refl; most = omega arith }
 
-  pub factors-more : {i bound r : ℕ} → Factored rounding probabilities entry n i bound → i < n → r ≡ factored rounding probabilities entry i bound → r ≤ one
-      → Factored rounding probabilities entry n (i + 1) r
+  pub factors-more : {i bound r : ℕ} → Factored rounding probabilities entry n i bound → i < n → n ≤ length entry
+      → r ≡ factored rounding probabilities i (getD entry i 0) bound → r ≤ one → Factored rounding probabilities entry n (i + 1) r
   unfolding pathBound
-  factors-more {i} {bound} {r} f h e most = record { inside = omega arith; made = rw (add-one, ← f .made) e; most = most }
+  factors-more {i} {bound} {r} f h long e most =
+      let own = getD-inside entry i blankMark 0 (omega (arith, h, long)) in
+      record { inside = omega arith; made = rw (add-one, ← f .made, own) e; most = most }
 
   pub factors-done : {i bound : ℕ} → Factored rounding probabilities entry n i bound → n ≤ i → bound ≡ pathBound rounding probabilities n entry
   factors-done {i} {bound} f h =

@@ -10,17 +10,16 @@ use Rattle.units.specs.Rounding.{down, up, scale}
 use Rattle.entries.specs.Entries.{blankMark, classBorne}
 use Rattle.probability.specs.Probabilities.{probabilityAt}
 
--- a bound with the factor of component i: a settled one's probability, and none of a blank one
-unfoldable pub factored : ℕ → List ℕ → List ℕ → ℕ → ℕ → ℕ
+-- a bound with the factor of component i, which has this mark: a settled one's probability, and none of a blank one
+unfoldable pub factored : ℕ → List ℕ → ℕ → ℕ → ℕ → ℕ
 unfolding scale
-factored rounding probabilities entry i bound =
-    cond (eqb (getD entry i blankMark) blankMark) bound (scale rounding bound (probabilityAt probabilities i (getD entry i blankMark)))
+factored rounding probabilities i mark bound = cond (eqb mark blankMark) bound (scale rounding bound (probabilityAt probabilities i mark))
 
 -- a path starts at one, and has the factors of its first n components in order
 unfoldable pub pathBound : ℕ → List ℕ → ℕ → List ℕ → ℕ
 unfolding factored
 pathBound rounding probabilities zero entry = one
-pathBound rounding probabilities (suc i) entry = factored rounding probabilities entry i (pathBound rounding probabilities i entry)
+pathBound rounding probabilities (suc i) entry = factored rounding probabilities i (getD entry i blankMark) (pathBound rounding probabilities i entry)
 
 -- the sum of the bounds of those paths whose class is kept; entries are of n components
 unfoldable pub total : ℕ → List ℕ → ℕ → (ℕ → Bool) → List (List ℕ) → ℕ

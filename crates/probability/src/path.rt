@@ -18,17 +18,15 @@ ghost use Rattle.probability.specs.Bounded.{Boundable, Bounded};
 ghost use Rattle.probability.specs.Probabilities.{AtMostOne};
 ghost use Rattle.probability.specs.Totals.{pathBounds};
 
-// A bound with the factor of component i, whose mark is given; a blank one has none.
-fn factored(rounding: u64, probabilities: &[u32], entry: &[u8], i: usize, bound: u64) -> u64
+// A bound with the factor of component i, which has this mark; a blank one has none.
+pub fn factored(rounding: u64, probabilities: &[u32], i: usize, mark: u8, bound: u64) -> u64
     requires { ⌜ rounding ≤ up ⌝ }
     requires { ⌜ AtMostOne (now probabilities) ⌝ }
     requires { ⌜ i < mostComponents ⌝ }
-    requires { ⌜ i < length (now entry) ⌝ }
     requires { ⌜ bound ≤ one ⌝ }
-    ensures { λ r. ⌜ r ≡ Bounds·factored rounding (now (probabilities .entry)) (now (entry .entry)) i bound ⌝ }
+    ensures { λ r. ⌜ r ≡ Bounds·factored rounding (now (probabilities .entry)) i mark bound ⌝ }
     ensures { λ r. ⌜ r ≤ one ⌝ }
 {
-    let mark = entry[i];
     if mark == BLANK {
         return bound;
     }
@@ -50,7 +48,7 @@ pub fn path_bound(rounding: u64, probabilities: &[u32], n: usize, entry: &[u8]) 
     let mut bound = ONE as u64;
     let mut i: usize = 0;
     while i < n {
-        bound = factored(rounding, probabilities, entry, i, bound);
+        bound = factored(rounding, probabilities, i, entry[i], bound);
         i = i + 1;
     }
     bound
