@@ -6,4 +6,8 @@ mod lent;
 mod list;
 mod marks;
 
+pub use blank::Ways;
+pub use blank::part;
+pub use blank::ways_at;
 pub use lent::list_lent;
+pub use marks::mark;

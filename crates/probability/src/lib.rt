@@ -7,6 +7,7 @@ mod totals;
 
 pub use loads::load_totals;
 pub use path::bound_at;
+pub use path::factored;
 pub use path::path_bound;
 pub use path::path_bounds;
 pub use probabilities::first_components;
