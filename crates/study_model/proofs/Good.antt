@@ -20,7 +20,7 @@ use Rattle.study.specs.Zero.{zeroComponent, zeroLoad}
 use Rattle.model.specs.Good.{Whole, Counted, StateProbabilities, Sizes, Good}
 use Rattle.soundness.specs.Sound.{Sound, SoundComponent}
 use Rattle.soundness.proofs.Ranges.{components-most, loads-most, joint-most, counts-few, count-at, count-least, count-most, probabilities-sum}
-use Rattle.study_model.specs.Model.{stateProbabilities, modelOf}
+use Rattle.study_model.specs.Model.{stateProbabilities, modelOf, modelBy}
 
 -- ---- one component
 
@@ -109,3 +109,8 @@ module _ (t : Study) (s : Sound t) where
   pub sound-good : Good (modelOf t)
   unfolding modelOf
   sound-good = record { counts = counted; probabilities = probabilities; loads = sizes }
+
+  -- whatever class table it is given
+  pub by-good : (classes : List ℕ) → Good (modelBy t classes)
+  unfolding modelOf modelBy
+  by-good classes = record { counts = sound-good .counts; probabilities = sound-good .probabilities; loads = sound-good .loads }

@@ -1,4 +1,7 @@
+pub mod ClassFront
 pub mod Good
+pub mod InUse
 pub mod ListRoom
+pub mod Reached
 pub mod Table
 pub mod TableFilled

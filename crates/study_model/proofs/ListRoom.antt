@@ -1,4 +1,4 @@
--- The list of a sound study: its classes are listable, and a buffer with room for any list takes it.
+-- A buffer with room for any list takes that of a good model.
 use Prim.Native.Nat.{ℕ, _≤_}
 use mathlib.Core.Path.{_≡_, refl, ap, _∙_}
 use mathlib.Core.List.{List}
@@ -48,22 +48,3 @@ module _ (m : Model) (good : Good m) (d : List ℕ) {answer : Listing} (room : l
   -- it is not refused
   pub list-taken : {n : ℕ} → answer ≡ Refused n → ⊥
   list-taken {n} e = let z : _≡_ {A = ℕ} 0 1 = cc (all) in omega arith
-
--- ---- the front of the class table
-
-module _ {t : Study} {counts : List ℕ} {joint : ℕ} (sound : Sound t) (is-counts : counts ≡ stateCounts t) (is-joint : joint ≡ product counts) where
-  pub joint-inside : {room : ℕ} → room ≡ mostJointStates → joint ≤ room
-  joint-inside places = omega (arith, places, is-joint, ap product is-counts, joint-most t sound)
-
-  pub table-classes : {table : List ℕ} → table ≡ classTable t → take joint table ≡ classesOf (modelOf t)
-  unfolding classesOf modelOf classes
-  table-classes is-table = rw (is-table, is-joint, is-counts) (table-front t)
-
-  -- what the code lists: the state counts and the front of the table
-  pub block-listable : {table : List ℕ} → table ≡ classTable t → Listable counts (take joint table)
-  unfolding modelOf
-  block-listable is-table = rw (table-classes is-table, is-counts) (good-listable (modelOf t) (sound-good t sound))
-
-  pub block-paths : {table : List ℕ} → table ≡ classTable t → paths counts (take joint table) ≡ pathsOf (modelOf t)
-  unfolding pathsOf modelOf
-  block-paths is-table = rw (table-classes is-table, is-counts) refl

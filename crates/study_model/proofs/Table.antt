@@ -17,31 +17,12 @@ use Rattle.soundness.specs.Sound.{Sound}
 use Rattle.soundness.proofs.Ranges.{components-most, counts-long}
 use Rattle.study_model.specs.Model.{stateProbabilities, placeProbabilities, modelOf}
 
-table-front : (t : Study) → take (t .components * mostStates) (placeProbabilities (t .component)) ≡ probabilityTable (modelOf t)
+-- the front of the table, as the code cuts it
+pub probabilities-front : (t : Study) → take (t .components * mostStates) (placeProbabilities (t .component)) ≡ probabilityTable (modelOf t)
 unfolding placeProbabilities probabilityTable modelOf
-table-front t =
+probabilities-front t =
     joined-front mostStates (t .components) (map stateProbabilities (t .component)) wide
     ∙ ap joined (take-map stateProbabilities (t .components) (t .component))
   where
     wide : Every (λ (row : List ℕ). length row ≡ mostStates) [] (map stateProbabilities (t .component))
     wide = every-map stateProbabilities zeroComponent [] (λ (row : List ℕ). length row ≡ mostStates) (t .component) (λ k h. refl)
-
--- slices that hold the list of a study's paths and the front of its table hold what its model is worked out of
-pub study-held : {t : Study} {paths : ℕ} {table probabilities list : List ℕ} → Sound t → length (t .component) ≡ mostComponents
-    → table ≡ placeProbabilities (t .component) → probabilities ≡ take (t .components * mostStates) table → Listed (modelOf t) paths list
-    → HeldOf (modelOf t) probabilities (t .components) list paths
-unfolding modelOf
-study-held {t} sound twelve is-table is-front listed =
-    record {
-      is-table = is-front ∙ ap (take (t .components * mostStates)) is-table ∙ table-front t;
-      number = sym (counts-long t sound twelve);
-      listed = listed;
-    }
-
--- the places of a study's components stand inside the table
-pub front-inside : {t : Study} {places : ℕ} → Sound t → places ≡ mostComponents * mostStates → t .components * mostStates ≤ places
-front-inside {t} sound e = omega (arith, e, components-most t sound)
-
--- the front of the table, as the code cuts it
-pub held-front : {m : Model} {table front list : List ℕ} {n paths : ℕ} → HeldOf m table n list paths → front ≡ table → HeldOf m front n list paths
-held-front held e = record { is-table = e ∙ held .is-table; number = held .number; listed = held .listed }

@@ -1,4 +1,4 @@
--- The model of a study: its classes come from its gates.
+-- The model of a study: its classes come from its gates, or out of a class table.
 use Prim.Native.Nat.{ℕ, _+_, _-_}
 use mathlib.Core.List.{List, [], _∷_, map}
 use lib.ListN.{take}
@@ -8,6 +8,7 @@ use Rattle.study.specs.declared.Component.{Component}
 use Rattle.study.specs.declared.Study.{Study}
 use Rattle.study.specs.Joint.{stateCounts}
 use Rattle.fault_tree.specs.Classes.{classOf}
+use Rattle.paths.specs.Blocks.{classAt}
 use Rattle.model.specs.Model.{Model}
 
 -- the probabilities of a component's states 0 to 3; state 0 is "up" and has the rest of one
@@ -19,13 +20,21 @@ unfoldable pub placeProbabilities : List Component → List ℕ
 unfolding joined
 placeProbabilities component = joined (map stateProbabilities component)
 
--- what a study is about: its components and loads in use, and the class of each joint state by its gates
-unfoldable pub modelOf : Study → Model
-unfolding classOf
-modelOf t =
+-- its components and loads in use, where the class of each joint state is given
+abbrev pub modelWith : Study → (List ℕ → ℕ) → Model
+modelWith t class =
     record {
       counts = stateCounts t;
       probabilities = map stateProbabilities (take (t .components) (t .component));
-      class = classOf t;
+      class = class;
       loads = take (t .loads) (t .load);
     }
+
+-- what a study is about: the class of each joint state is that by its gates
+unfoldable pub modelOf : Study → Model
+unfolding classOf
+modelOf t = modelWith t (classOf t)
+
+-- where a table has the class of each joint state by its number, wherever it comes from
+unfoldable pub modelBy : Study → List ℕ → Model
+modelBy t classes = modelWith t (classAt (stateCounts t) classes)

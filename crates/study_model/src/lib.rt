@@ -1,9 +1,11 @@
-// The model of a sound study: what everything behind the class table is worked out of. Here a study's structs become slices: a table of the
-// probabilities of its components' states, and the list of its paths. Not for callers from outside: those call `planning`.
+// A sound study as a model: what everything behind the class table is worked out of. Here a study's structs become slices: the state counts and
+// probabilities of its components, and the front of a class table, wherever that comes from. Not for callers from outside: those call `planning`.
+mod adding;
+mod block;
 mod listing;
 mod probabilities;
-mod slices;
 
+pub use adding::add_study_paths;
 pub use listing::list_lent;
-pub use slices::Sliced;
-pub use slices::slice_study;
+pub use listing::list_whole;
+pub use probabilities::study_probabilities;

@@ -2,18 +2,21 @@
 use rules::COMPONENT_PLACES;
 use rules::STATE_PLACES;
 use study::Component;
+use study::Study;
 use units::ONE;
-ghost use Prim.Native.Nat.{ℕ, _+_, _<_, _≤_};
+ghost use Prim.Native.Nat.{ℕ, _+_, _*_, _<_, _≤_};
 ghost use mathlib.Core.Path.{_≡_};
-ghost use lib.ListN.{length, getD};
+ghost use lib.ListN.{length, getD, take};
 ghost use Rattle.lists.specs.Rows.{put};
 ghost use Rattle.units.specs.One.{one};
 ghost use Rattle.rules.specs.Limits.{mostComponents, mostStates};
 ghost use Rattle.study.specs.Zero.{zeroComponent};
-ghost use Rattle.study_model.specs.Model.{stateProbabilities, placeProbabilities};
+ghost use Rattle.model.specs.Model.{probabilityTable};
+ghost use Rattle.soundness.specs.Sound.{Sound};
+ghost use Rattle.study_model.specs.Model.{stateProbabilities, placeProbabilities, modelOf};
 
 // The places of such a table.
-pub const PROBABILITY_PLACES: usize = 48;
+const PROBABILITY_PLACES: usize = 48;
 
 // The table with the probabilities of a component's states from a place on.
 fn with_states(
@@ -38,7 +41,7 @@ fn with_states(
 }
 
 // The probabilities of all component places.
-pub fn probability_table(component: [Component; COMPONENT_PLACES]) -> [u32; PROBABILITY_PLACES]
+fn probability_table(component: [Component; COMPONENT_PLACES]) -> [u32; PROBABILITY_PLACES]
     requires { ⌜ ((i : ℕ) → i < mostComponents → getD component i zeroComponent .p1 + getD component i zeroComponent .p2 + getD component i zeroComponent .p3 ≤ one) ⌝ }
     ensures { λ r. ⌜ r ≡ placeProbabilities component ⌝ }
 {
@@ -52,4 +55,13 @@ pub fn probability_table(component: [Component; COMPONENT_PLACES]) -> [u32; PROB
         i = i + 1;
     }
     table
+}
+
+// The table of a sound study; the probabilities of its components in use stand first.
+pub fn study_probabilities(t: Study) -> [u32; PROBABILITY_PLACES]
+    requires { ⌜ Sound t ⌝ }
+    ensures { λ r. ⌜ take (t .components * mostStates) r ≡ probabilityTable (modelOf t) ⌝ }
+{
+    let component = t.component;
+    probability_table(component)
 }
