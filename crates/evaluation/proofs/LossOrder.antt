@@ -1,7 +1,7 @@
 -- The upper bounds for the losses of a good model's loads are at most one, and no lower bound is above its upper one. What carries the second: both
 -- enclose one exact probability.
 use Prim.Native.Nat.{ℕ, _<_, _≤_}
-use mathlib.Core.Path.{_≡_, _∙_}
+use mathlib.Core.Path.{_≡_}
 use mathlib.Core.List.{List}
 use native.Mathlib.Nat.{one-le-pow, min-le-left, le-trans, le-of-mul-le-mul-right}
 use native.Mathlib.Omega.{arith}
@@ -11,17 +11,13 @@ use Rattle.lists.proofs.Tabulated.{getD-tabulate}
 use Rattle.units.specs.One.{one}
 use Rattle.units.specs.Rounding.{up}
 use Rattle.rules.specs.Limits.{mostLoads}
-use Rattle.entries.specs.Entries.{entriesOf}
 use Rattle.model.specs.Good.{Good}
-use Rattle.model.specs.Held.{Held}
 use Rattle.model.specs.Model.{Model, components, pathsOf, probabilityTable}
 use Rattle.probability.specs.Bounds.{total}
-use Rattle.probability.specs.Totals.{lowerLoads, upperLoads}
 use Rattle.accuracy.proofs.Totals.{total-within}
 use Rattle.indices.specs.Losses.{LossBounds}
 use Rattle.evaluation.specs.Bounds.{lowerOf, upperOf, loadLowers, loadUppers}
 use Rattle.evaluation.specs.Losses.{LossesOf}
-use Rattle.evaluation.proofs.Bounding.{held-values}
 
 -- the pair of a load among those of all
 pub lower-at : (m : Model) (j : ℕ) → j < mostLoads → getD (loadLowers m) j 0 ≡ lowerOf m (λ (class : ℕ). bit class j)
@@ -44,17 +40,9 @@ module _ (m : Model) (good : Good m) where
         ordered = λ j h. rw (lower-at m j h, upper-at m j h) (lower-below j);
       }
 
--- as the code finds them from slices
-pub held-losses : {probabilities list lower upper : List ℕ} {n paths : ℕ} → Held probabilities n list paths
-    → lower ≡ lowerLoads probabilities n (entriesOf n paths list) → upper ≡ upperLoads probabilities n (entriesOf n paths list)
-    → LossesOf probabilities n (entriesOf n paths list) lower upper
-held-losses held is-lower is-upper =
-    record {
-      lowers = is-lower;
-      uppers = is-upper;
-      bounds =
-          rw (is-lower ∙ held-values (held .holds) lowerLoads, is-upper ∙ held-values (held .holds) upperLoads) (model-losses (held .model) (held .holds .listed .good));
-    }
+-- as the code finds them
+pub losses-found : {lower upper : List ℕ} (m : Model) → Good m → lower ≡ loadLowers m → upper ≡ loadUppers m → LossesOf m lower upper
+losses-found m good is-lower is-upper = record { lowers = is-lower; uppers = is-upper; bounds = rw (is-lower, is-upper) (model-losses m good) }
 
 -- what holds of all load places holds of those in use
 pub fewer-losses : {lower upper : List ℕ} {most n : ℕ} → n ≤ most → LossBounds lower upper most → LossBounds lower upper n

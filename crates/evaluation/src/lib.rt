@@ -1,11 +1,12 @@
-// What is worked out of a model: bounds of its paths, classes and loads, and the figures, from slices that hold its probabilities and the list of
-// its paths. No study is known here. Not for callers from outside: those call `planning`.
+// What is worked out of a model: bounds of its paths, classes and loads, and the figures. Classes and loads need no list of paths. Not for callers from
+// outside: those call `planning`.
+mod classes;
 mod figures;
 mod losses;
-mod slices;
+mod paths;
 
+pub use classes::write_classes;
 pub use figures::figures_from;
 pub use losses::Losses;
 pub use losses::loss_bounds;
-pub use slices::write_classes;
-pub use slices::write_paths;
+pub use paths::write_paths;

@@ -1,12 +1,14 @@
 // Bounds for the losses of all loads.
-use probability::SUMS_MOST;
-use probability::load_totals;
+use entries::Class;
 use rules::LOAD_PLACES;
-use units::DOWN;
-use units::ONE;
-use units::UP;
-ghost use Rattle.entries.specs.Entries.{entriesOf};
-ghost use Rattle.model.specs.Held.{Held};
+use study::Study;
+use study_model::add_study_paths;
+use totals::no_totals;
+ghost use Prim.Native.Nat.{_≤_};
+ghost use lib.ListN.{length};
+ghost use Rattle.rules.specs.Limits.{mostJointStates};
+ghost use Rattle.soundness.specs.Sound.{Sound};
+ghost use Rattle.study_model.specs.Model.{modelBy};
 ghost use Rattle.evaluation.specs.Losses.{LossesOf};
 
 // The bounds of all load places.
@@ -15,12 +17,14 @@ pub struct Losses {
     pub upper: [u64; LOAD_PLACES],
 }
 
-// The bounds for the loss of each load, from the list of a model's paths.
-pub fn loss_bounds(probabilities: &[u32], n: usize, list: &[u8], paths: usize) -> Losses
-    requires { ⌜ Held (now probabilities) n (now list) paths ⌝ }
-    ensures { λ r. ⌜ LossesOf (now (probabilities .entry)) n (entriesOf n paths (now (list .entry))) (r .lower) (r .upper) ⌝ }
+// The bounds for the loss of each load of a sound study under a class table.
+pub fn loss_bounds(t: Study, classes: &[Class]) -> Losses
+    requires { ⌜ Sound t ⌝ }
+    requires { ⌜ mostJointStates ≤ length (now classes) ⌝ }
+    ensures { λ r. ⌜ LossesOf (modelBy t (now (classes .entry))) (r .lower) (r .upper) ⌝ }
 {
-    let lower = load_totals(DOWN, SUMS_MOST, probabilities, n, list, paths);
-    let upper = load_totals(UP, ONE as u64, probabilities, n, list, paths);
+    let mut lower = no_totals();
+    let mut upper = no_totals();
+    add_study_paths(true, t, classes, &mut lower, &mut upper);
     Losses { lower, upper }
 }

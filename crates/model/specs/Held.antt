@@ -1,4 +1,4 @@
--- Slices that hold what is worked out of: the table of a good model's probabilities, and the list of its paths.
+-- Slices that hold what the bounds of paths are worked out of: the list of a good model's paths, and the table of its probabilities.
 use Prim.Native.Nat.{ℕ}
 use mathlib.Core.Path.{_≡_}
 use mathlib.Core.List.{List}
@@ -20,8 +20,3 @@ pub record HeldOf (m : Model) (table : List ℕ) (n : ℕ) (list : List ℕ) (pa
   pub is-table : table ≡ probabilityTable m
   pub number : n ≡ components m
   pub listed : Listed m paths list
-
--- which model it is does not matter to what is worked out
-pub record Held (table : List ℕ) (n : ℕ) (list : List ℕ) (paths : ℕ) : Type 0 where
-  pub model : Model
-  pub holds : HeldOf model table n list paths

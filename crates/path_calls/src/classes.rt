@@ -2,14 +2,12 @@
 use crate::pairs::pair_fault;
 use answers::Outcome;
 use entries::CLASS_PLACES;
-use entries::empty_list;
 use evaluation::write_classes;
-use probability::first_components;
+use fault_tree::class_table;
 use rules::first;
 use rules::unsound_fault;
 use soundness::is_sound;
 use study::Study;
-use study_model::slice_study;
 ghost use Prim.Native.Nat.{_≤_};
 ghost use mathlib.Core.Path.{_≡_};
 ghost use lib.ListN.{length};
@@ -37,12 +35,8 @@ fn bound_classes(t: Study, lower: &mut [u64], upper: &mut [u64])
     ensures lower { λ r. ⌜ now (lower .exit) ≡ put (now (lower .entry)) 0 (classLowers (modelOf t)) ⌝ }
     ensures upper { λ r. ⌜ now (upper .exit) ≡ put (now (upper .entry)) 0 (classUppers (modelOf t)) ⌝ }
 {
-    let mut list = empty_list();
-    let slices = slice_study(t, &mut list);
-    let paths = slices.paths as usize;
-    let table = slices.probabilities;
-    let n = t.components as usize;
-    write_classes(first_components(&table, n), n, &list, paths, lower, upper);
+    let classes = class_table(t);
+    write_classes(t, &classes, lower, upper);
 }
 
 // Bounds for the classes of a study, at the front of two slices, a place for each class. Refused by 16, 18, in this order.

@@ -1,5 +1,6 @@
 // The call for the list of a study's paths.
 use answers::Listing;
+use fault_tree::class_table;
 use rules::unsound_fault;
 use soundness::is_sound;
 use study::Study;
@@ -17,5 +18,6 @@ pub fn list_paths(study: Study, buffer: &mut [u8]) -> Listing
     if fault != 0 {
         return Listing::Refused(fault);
     }
-    list_lent(study, buffer)
+    let classes = class_table(study);
+    list_lent(study, &classes, buffer)
 }

@@ -3,11 +3,13 @@ use crate::pairs::pair_fault;
 use answers::CountAnswer;
 use entries::empty_list;
 use evaluation::write_paths;
+use fault_tree::class_table;
 use probability::first_components;
 use rules::unsound_fault;
 use soundness::is_sound;
 use study::Study;
-use study_model::slice_study;
+use study_model::list_whole;
+use study_model::study_probabilities;
 ghost use mathlib.Core.Path.{_≡_};
 ghost use lib.ListN.{length};
 ghost use Rattle.answers.specs.Answered.{answered, filled};
@@ -25,17 +27,18 @@ fn bound_paths(t: Study, lower: &mut [u64], upper: &mut [u64]) -> CountAnswer
     ensures lower { λ r. ⌜ now (lower .exit) ≡ filled (pathsRoom t (now (lower .entry)) (now (upper .entry))) (pathLowers (modelOf t)) (now (lower .entry)) ⌝ }
     ensures upper { λ r. ⌜ now (upper .exit) ≡ filled (pathsRoom t (now (lower .entry)) (now (upper .entry))) (pathUppers (modelOf t)) (now (upper .entry)) ⌝ }
 {
+    let classes = class_table(t);
     let mut list = empty_list();
-    let slices = slice_study(t, &mut list);
-    let paths = slices.paths as usize;
+    let number = list_whole(t, &classes, &mut list);
+    let paths = number as usize;
     let fault = pair_fault(paths, lower.len(), upper.len());
     if fault != 0 {
         return CountAnswer::Refused(fault);
     }
-    let table = slices.probabilities;
+    let table = study_probabilities(t);
     let n = t.components as usize;
     write_paths(first_components(&table, n), n, &list, paths, lower, upper);
-    CountAnswer::Count(slices.paths)
+    CountAnswer::Count(number)
 }
 
 // Bounds for the paths of a study, in the order of its list, at the front of two slices. Refused by 16, 18, in this order.

@@ -1,11 +1,9 @@
--- What one more path of a list adds to a total.
-use Prim.Native.Nat.{ℕ, _+_, _<_}
-use mathlib.Core.Path.{_≡_, refl}
+-- A total, with every entry in step.
+use Prim.Native.Nat.{ℕ}
+use mathlib.Core.Path.{_≡_}
 use mathlib.Core.Bool.{Bool}
-use mathlib.Core.List.{List, []}
-use lib.ListN.{length, getD, take}
-use Rattle.lists.specs.Counting.{counted, those, sumOver}
-use Rattle.lists.proofs.Adding.{add-next}
+use mathlib.Core.List.{List}
+use Rattle.lists.specs.Counting.{counted, sumOver}
 use Rattle.lists.proofs.SumOver.{sum-over-those}
 use Rattle.entries.specs.Entries.{classBorne}
 use Rattle.probability.specs.Bounds.{pathBound, total}
@@ -18,11 +16,3 @@ module _ (rounding : ℕ) (probabilities : List ℕ) (n : ℕ) (keep : ℕ → B
   pub total-terms : (entries : List (List ℕ)) → total rounding probabilities n keep entries ≡ sumOver term entries
   unfolding total
   total-terms entries = sum-over-those (λ (entry : List ℕ). keep (classBorne n entry)) (pathBound rounding probabilities n) entries
-
-  pub total-none : total rounding probabilities n keep [] ≡ 0
-  unfolding total those sumOver
-  total-none = refl
-
-  pub total-next : (entries : List (List ℕ)) (k : ℕ) → k < length entries
-      → total rounding probabilities n keep (take (k + 1) entries) ≡ total rounding probabilities n keep (take k entries) + term (getD entries k [])
-  total-next entries k h = rw (total-terms (take (k + 1) entries), total-terms (take k entries)) (add-next term entries k [] h)

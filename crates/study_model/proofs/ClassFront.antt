@@ -16,7 +16,7 @@ use Rattle.fault_tree.specs.Classes.{classes, classTable}
 use Rattle.fault_tree.proofs.Tables.{table-front}
 use Rattle.paths.specs.Blocks.{Listable}
 use Rattle.paths.specs.Paths.{paths}
-use Rattle.model.specs.Model.{classesOf, pathsOf}
+use Rattle.model.specs.Model.{components, classesOf, pathsOf, probabilityTable}
 use Rattle.model.proofs.Classes.{classes-long, class-at, good-listable}
 use Rattle.study_model.specs.Model.{modelOf, modelBy}
 use Rattle.study_model.proofs.Good.{by-good}
@@ -44,6 +44,13 @@ module _ {t : Study} (table : List ℕ) (sound : Sound t) (room : mostJointState
   pub table-paths : table ≡ classTable t → pathsOf (modelBy t table) ≡ pathsOf (modelOf t)
   unfolding pathsOf modelBy modelOf classesOf classes
   table-paths e = ap (paths (stateCounts t)) (sym block-is ∙ ap (take (product (stateCounts t))) e ∙ table-front t)
+
+  -- and with it all that is worked out of paths
+  pub table-values : {A : Type 0} → table ≡ classTable t → (f : List ℕ → ℕ → List (List ℕ) → A)
+      → f (probabilityTable (modelBy t table)) (components (modelBy t table)) (pathsOf (modelBy t table))
+      ≡ f (probabilityTable (modelOf t)) (components (modelOf t)) (pathsOf (modelOf t))
+  unfolding modelBy modelOf probabilityTable
+  table-values e f = ap (f (probabilityTable (modelOf t)) (components (modelOf t))) (table-paths e)
 
 -- ---- what the code lists: state counts and a block
 

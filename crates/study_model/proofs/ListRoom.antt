@@ -1,12 +1,10 @@
 -- A buffer with room for any list takes that of a good model.
 use Prim.Native.Nat.{ℕ, _≤_}
-use mathlib.Core.Path.{_≡_, refl, ap, _∙_}
+use mathlib.Core.Path.{_≡_, _∙_}
 use mathlib.Core.List.{List}
 use native.Mathlib.Omega.{arith}
-use lib.ListN.{length, take}
+use lib.ListN.{length}
 use Rattle.lists.specs.Rows.{joined}
-use Rattle.lists.specs.Product.{product}
-use Rattle.rules.specs.Limits.{mostJointStates}
 use Rattle.rules.specs.Table.{roomFault}
 use Rattle.rules.proofs.Rows.{room-none}
 use Rattle.answers.specs.Answered.{answered, filled}
@@ -17,18 +15,8 @@ use Rattle.answers.proofs.Answered.{answered-done, filled-done}
 use Rattle.entries.specs.Entries.{listBytes}
 use Rattle.model.specs.Held.{Listed as Holds}
 use Rattle.model.specs.Good.{Good}
-use Rattle.model.specs.Model.{Model, classesOf, pathsOf}
-use Rattle.paths.specs.Blocks.{Listable}
+use Rattle.model.specs.Model.{Model, pathsOf}
 use Rattle.paths.specs.Paths.{paths}
-use Rattle.study.specs.declared.Study.{Study}
-use Rattle.study.specs.Joint.{stateCounts}
-use Rattle.soundness.specs.Sound.{Sound}
-use Rattle.soundness.proofs.Ranges.{joint-most}
-use Rattle.fault_tree.specs.Classes.{classes, classTable}
-use Rattle.fault_tree.proofs.Tables.{table-front}
-use Rattle.study_model.specs.Model.{modelOf}
-use Rattle.study_model.proofs.Good.{sound-good}
-use Rattle.model.proofs.Classes.{good-listable}
 use Rattle.model.proofs.Listing.{list-most, listed}
 
 module _ (m : Model) (good : Good m) (d : List ℕ) {answer : Listing} (room : listBytes ≤ length d)

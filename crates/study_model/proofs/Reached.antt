@@ -1,16 +1,14 @@
 -- Slices of a sound study under a class table: a walk may begin there, and what it brings is what the model's paths bring.
-use Prim.Native.Nat.{ℕ, _≤_}
-use mathlib.Core.Path.{_≡_, refl, ap, _∙_}
+use Prim.Native.Nat.{ℕ}
+use mathlib.Core.Path.{_≡_, refl}
 use mathlib.Core.Bool.{Bool}
 use mathlib.Core.List.{List}
 use native.Mathlib.Omega.{arith}
-use lib.ListN.{length}
 use Rattle.units.specs.One.{one}
 use Rattle.study.specs.declared.Study.{Study}
 use Rattle.study.specs.Joint.{stateCounts}
 use Rattle.soundness.specs.Sound.{Sound}
-use Rattle.model.specs.Model.{classesOf, probabilityTable, pathsOf}
-use Rattle.model.proofs.Classes.{good-block}
+use Rattle.model.specs.Model.{classesOf, probabilityTable}
 use Rattle.model.proofs.Table.{table-most}
 use Rattle.totals.specs.Places.{Adds}
 use Rattle.totals.specs.Walk.{Reached, bringsAll}

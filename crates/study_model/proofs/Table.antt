@@ -1,8 +1,7 @@
 -- The table of a study's probabilities holds those of its model in front.
-use Prim.Native.Nat.{ℕ, _*_, _≤_}
+use Prim.Native.Nat.{ℕ, _*_}
 use mathlib.Core.Path.{_≡_, refl, sym, ap, _∙_}
 use mathlib.Core.List.{List, [], map}
-use native.Mathlib.Omega.{arith}
 use lib.ListN.{length, take}
 use Rattle.lists.specs.Rows.{joined}
 use Rattle.lists.proofs.Elements.{Every, every-map}
@@ -12,10 +11,10 @@ use Rattle.rules.specs.Limits.{mostComponents, mostStates}
 use Rattle.study.specs.declared.Study.{Study}
 use Rattle.study.specs.Zero.{zeroComponent}
 use Rattle.model.specs.Held.{Listed, HeldOf}
-use Rattle.model.specs.Model.{Model, probabilityTable}
+use Rattle.model.specs.Model.{probabilityTable}
 use Rattle.soundness.specs.Sound.{Sound}
-use Rattle.soundness.proofs.Ranges.{components-most, counts-long}
-use Rattle.study_model.specs.Model.{stateProbabilities, placeProbabilities, modelOf}
+use Rattle.soundness.proofs.Ranges.{counts-long}
+use Rattle.study_model.specs.Model.{stateProbabilities, placeProbabilities, modelOf, modelBy}
 
 -- the front of the table, as the code cuts it
 pub probabilities-front : (t : Study) → take (t .components * mostStates) (placeProbabilities (t .component)) ≡ probabilityTable (modelOf t)
@@ -26,3 +25,9 @@ probabilities-front t =
   where
     wide : Every (λ (row : List ℕ). length row ≡ mostStates) [] (map stateProbabilities (t .component))
     wide = every-map stateProbabilities zeroComponent [] (λ (row : List ℕ). length row ≡ mostStates) (t .component) (λ k h. refl)
+
+-- beside the list of a study's paths under a class table it is what their bounds are worked out of
+pub study-held : {t : Study} (classes : List ℕ) {probabilities list : List ℕ} {paths : ℕ} → Sound t → length (t .component) ≡ mostComponents
+    → probabilities ≡ probabilityTable (modelOf t) → Listed (modelBy t classes) paths list → HeldOf (modelBy t classes) probabilities (t .components) list paths
+unfolding modelOf modelBy probabilityTable
+study-held {t} classes sound twelve is-table listed = record { is-table = is-table; number = sym (counts-long t sound twelve); listed = listed }

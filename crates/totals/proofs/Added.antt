@@ -1,4 +1,4 @@
--- Laws of adding to totals: nothing, something at one place alone, and one thing behind another.
+-- Laws of adding to totals: nothing, something at one place alone, one thing behind another, and to places that were cleared first.
 use Prim.Native.Nat.{ℕ, _+_, _<_, _≤_, min}
 use mathlib.Core.Path.{_≡_, refl, ap, _∙_}
 use mathlib.Core.Bool.{Bool, true, false}
@@ -9,7 +9,7 @@ use lib.Dec.{eqb}
 use lib.ListN.{length, getD, set, length-set}
 use lib.Seq.{getD-set-same, getD-set-other}
 use borrow.Author.Tests.{eqb-true, eqb-false}
-use Rattle.totals.specs.Places.{Totals, Adds}
+use Rattle.totals.specs.Places.{Totals, Placed, Cleared, Adds}
 
 module _ {most places : ℕ} where
   -- totals stay totals
@@ -59,3 +59,17 @@ module _ {most places : ℕ} where
       at : (p : ℕ) → p < places → (b : Bool) → eqb p i ≡ b → getD (set d i r) p 0 ≡ min most (getD d p 0 + more p)
       at p h true same = rw (eqb-true p i same) (getD-set-same d i r 0 (omega (arith, inside, t .room)) ∙ e)
       at p h false other = getD-set-other d i p r 0 (eqb-false p i other) ∙ omega (arith, others p (eqb-false p i other), t .each p h)
+
+  -- places that were cleared hold totals
+  pub cleared-totals : {d d′ : List ℕ} → Cleared places d d′ → places ≤ length d → Totals most places d′
+  cleared-totals none room = record { room = omega (arith, room, none .size); each = λ p h. omega (arith, none .here p h) }
+
+  -- and have then what is added, at most so much, whatever stood there before
+  pub cleared-adds : {more value : ℕ → ℕ} {d₀ d d′ : List ℕ} → Cleared places d₀ d → Adds most places more d d′ → ((p : ℕ) → min most (more p) ≡ value p)
+      → Placed places value d₀ d′
+  cleared-adds {more} {value} none a same =
+      record {
+        size = a .sums .size ∙ none .size;
+        here = λ p h. omega (arith, a .sums .here p h, none .here p h, same p);
+        behind = λ k h. a .sums .behind k h ∙ none .behind k h;
+      }

@@ -1,20 +1,20 @@
 -- A bound that goes on along a path comes to the bound of its entry. What carries it: the factor of the last component may as well be taken last.
-use Prim.Native.Nat.{ℕ, zero, suc, _+_, _*_}
+use Prim.Native.Nat.{ℕ, zero, suc, _+_}
 use mathlib.Core.Path.{_≡_, refl, sym, ap, _∙_}
 use mathlib.Core.Bool.{Bool}
 use mathlib.Core.List.{List, [], _∷_, _++_}
-use native.Mathlib.Nat.{add-zero, add-suc, zero-add}
-use native.Mathlib.Numerals.{add-one}
+use native.Mathlib.Nat.{add-zero, zero-add}
 use native.Mathlib.Omega.{arith}
 use lib.ListN.{length, getD, drop}
 use lib.Seq.{getD-drop}
 use Rattle.lists.specs.Counting.{counted, sumOver}
-use Rattle.lists.proofs.SumOver.{sum-over-append, sum-over-map, sum-over-those}
+use Rattle.lists.proofs.SumOver.{sum-over-append, sum-over-map}
 use Rattle.units.specs.One.{one}
 use Rattle.entries.specs.Entries.{blankMark, classBorne, entry}
 use Rattle.paths.specs.Paths.{paths}
 use Rattle.paths.proofs.Ways.{headed}
 use Rattle.probability.specs.Bounds.{factored, pathBound, total}
+use Rattle.probability.proofs.TotalTerms.{total-terms}
 use Rattle.totals.specs.Places.{countsAt}
 use Rattle.totals.specs.Walk.{onward, broughtBy, brings, bringsAll}
 use Rattle.totals.specs.Laws.{WalkAddsUp}
@@ -73,10 +73,10 @@ module _ (rounding : ℕ) (probabilities : List ℕ) where
     brought-leaf i bound class = add-zero (counted (keep class) bound)
 
     brought-all : (n : ℕ) (entries : List (List ℕ)) → broughtBy rounding probabilities 0 n one keep entries ≡ total rounding probabilities n keep entries
-    unfolding broughtBy total
+    unfolding broughtBy
     brought-all n entries =
         (λ k. sumOver (λ (entry : List ℕ). counted (keep (classBorne n entry)) (onward-all n entry k)) entries)
-        ∙ sym (sum-over-those (λ (entry : List ℕ). keep (classBorne n entry)) (pathBound rounding probabilities n) entries)
+        ∙ sym (total-terms rounding probabilities n keep entries)
 
 pub walk-adds-up : WalkAddsUp
 unfolding brings bringsAll

@@ -5,7 +5,7 @@ use mathlib.Core.Bool.{Bool, true, false}
 use mathlib.Core.List.{List}
 use native.Mathlib.Omega.{arith}
 use lib.Dec.{eqb, ltb}
-use lib.ListN.{length, getD, set, length-set}
+use lib.ListN.{length, getD, set, replicate, length-set, getD-replicate}
 use lib.Seq.{getD-set-same, getD-set-other, ext-getD}
 use borrow.Author.Tests.{eqb-true, eqb-false, ltb-true, ltb-false}
 use Rattle.lists.specs.Rows.{put}
@@ -13,7 +13,7 @@ use Rattle.lists.specs.Tabulate.{tabulate}
 use Rattle.lists.proofs.Fronts.{getD-put, put-behind}
 use Rattle.lists.proofs.Puts.{put-size}
 use Rattle.lists.proofs.Tabulated.{length-tabulate, getD-tabulate}
-use Rattle.totals.specs.Places.{Placed}
+use Rattle.totals.specs.Places.{Placed, Cleared}
 
 -- ---- one place after the other
 
@@ -73,3 +73,8 @@ placed-put {places} {value} {d} {d′} a room =
     at k false past =
         let behind = ltb-false k places past in
         a .behind k behind ∙ sym (put-behind d (tabulate value places) k (omega (arith, behind, long)))
+
+-- ---- an array of zeros is cleared
+
+pub zeros-cleared : {places : ℕ} {d : List ℕ} → d ≡ replicate places 0 → Cleared places d d
+zeros-cleared {places} {d} e = record { size = refl; here = λ p h. rw e (getD-replicate {A = ℕ} places p 0 0 h); behind = λ k h. refl }

@@ -1,24 +1,40 @@
--- `evaluation::losses::loss_bounds` meets its contract: sums of lower bounds have no limit, and the bounds enclose exact probabilities.
-use mathlib.Core.Path.{_∙_}
-use native.Mathlib.Omega.{arith}
-use Rattle.probability.proofs.Most.{upper-loads}
-use Rattle.evaluation.proofs.Bounding.{held-boundable, loads-lower}
-use Rattle.evaluation.proofs.LossOrder.{held-losses}
+-- `evaluation::losses::loss_bounds` meets its contract: the arrays hold nothing before the paths are added, and the bounds enclose exact probabilities.
+use Rattle.study_model.proofs.Good.{by-good}
+use Rattle.totals.proofs.Added.{cleared-totals}
+use Rattle.totals.proofs.Placed.{zeros-cleared}
+use Rattle.evaluation.proofs.Bounding.{lower-losses, upper-losses}
+use Rattle.evaluation.proofs.LossOrder.{losses-found}
 use borrow.Author.Needs.{needs}
 use Rattle.evaluation.proofs.losses.loss_bounds.Statement.{statement}
 use Rattle.evaluation.proofs.losses.loss_bounds.Tie as tie
 
-load-totals-requires : tie.Need-load-totals-requires
-load-totals-requires c κs = (omega arith, (held-boundable (c .before .before .pre .holds), omega arith))
+abbrev start : tie.After-no-totals2 → tie.Start
+start c = c .before .before .before
 
-load-totals-requires-2 : tie.Need-load-totals-requires-2
-load-totals-requires-2 c κs = (omega arith, (held-boundable (c .before .before .before .pre .holds), omega arith))
+add-study-paths-requires : tie.Need-add-study-paths-requires
+add-study-paths-requires c κs =
+    let zeros = c .before .before in
+    let pre = start zeros .pre in
+    let lowers = zeros-cleared (zeros .before .no-totals .ensures) in
+    let uppers = zeros-cleared (zeros .no-totals2 .ensures) in
+    (pre .0, (pre .1, (cleared-totals lowers (search needs), cleared-totals uppers (search needs))))
 
 returns : tie.Need-returns
 returns c =
-    let held = c .before .before .before .before .pre in
-    held-losses held (c .before .load-totals .ensures ∙ loads-lower (held-boundable (held .holds))) (c .load-totals2 .ensures ∙ upper-loads _ _ _)
+    let call = c .before .before in
+    let zeros = call .before .before .before in
+    let good = by-good _ (start zeros .pre .0) _ in
+    losses-found _ good
+    (lower-losses _ good (zeros .before .no-totals .ensures) (call .add-study-paths .ensures .0))
+    (upper-losses _ good (zeros .no-totals2 .ensures) (call .add-study-paths .ensures .1))
 
 pub loss-bounds-spec : {M : Type 1} → statement M
 loss-bounds-spec =
-    tie.close (tie.spec load-totals-requires (λ c. search needs) load-totals-requires-2 returns)
+    tie.close
+    (tie.spec
+    (λ c κs. search needs)
+    (λ c κs. search needs)
+    (λ c. search needs)
+    (λ c. search needs)
+    add-study-paths-requires
+    returns)

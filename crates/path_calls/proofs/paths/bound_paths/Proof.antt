@@ -1,45 +1,70 @@
--- `path_calls::paths::bound_paths` meets its contract: the slices hold what the study's model is worked out of, and their number of paths is the need.
+-- `path_calls::paths::bound_paths` meets its contract: the page holds the list of the study's paths, and their number is the need.
 use Prim.Native.Nat.{ℕ}
-use mathlib.Core.Path.{_≡_, sym, ap, _∙_}
+use mathlib.Core.Path.{_≡_, sym, ap, subst, _∙_}
+use mathlib.Core.List.{List}
 use lib.ListN.{length}
 use denote.Ref.{now}
 use Rattle.lists.specs.Rows.{put}
+use Rattle.lists.proofs.Maps.{mapped}
+use Rattle.rules.specs.Limits.{mostComponents}
 use Rattle.answers.specs.declared.counts.CountAnswer.the-variants.{Count, Refused}
 use Rattle.answers.proofs.Answered.{answered-done, answered-refused, filled-done, filled-refused}
 use Rattle.model.specs.Held.{HeldOf}
 use Rattle.model.specs.Model.{pathsOf}
 use Rattle.probability.specs.Totals.{lowerBounds, upperBounds}
-use Rattle.study_model.specs.Model.{modelOf}
+use Rattle.study_model.specs.Model.{modelOf, modelBy}
+use Rattle.study_model.proofs.ClassFront.{table-paths, table-values}
+use Rattle.study_model.proofs.InUse.{fours-in-use}
+use Rattle.study_model.proofs.Table.{study-held}
 use Rattle.evaluation.proofs.Bounding.{held-boundable, held-values}
 use Rattle.path_calls.specs.Bounds.{pairRoom, pairFault}
 use Rattle.path_calls.proofs.Judged.{pair-room}
-use Rattle.study_model.proofs.Table.{front-inside, held-front}
 use borrow.Author.Needs.{needs}
 use Rattle.path_calls.proofs.paths.bound_paths.Statement.{statement}
 use Rattle.path_calls.proofs.paths.bound_paths.Tie as tie
 
-abbrev sliced : tie.After-pair-fault → tie.After-slice-study
-sliced c = c .before .before .before
+abbrev listed : tie.After-pair-fault → tie.After-list-whole
+listed c = c .before .before
 
-abbrev start : tie.After-slice-study → tie.Start
-start c = c .before .before .before .before .before
+abbrev tabled : tie.After-list-whole → tie.After-class-table
+tabled c = c .before .before .before .before
 
--- the breach is that of as many places as the study has paths
+abbrev start : tie.After-class-table → tie.Start
+start c = c .before .before .before
+
+abbrev begun : tie.After-pair-fault → tie.Start
+begun c = start (tabled (listed c))
+
+-- the page has as many paths as the study
+number-is : (c : tie.After-pair-fault) → listed c .list-whole .result ≡ length (pathsOf (modelOf (begun c .args .t)))
+number-is c =
+    let table = tabled (listed c) in
+    listed c .list-whole .ensures .number
+    ∙ ap length (table-paths (table .class-table .result) (begun c .pre) (search needs) (table .class-table .ensures))
+
+-- and the breach is that of as many places
 fault-is : (c : tie.After-pair-fault)
-    → c .pair-fault .result
-    ≡ pairRoom (length (pathsOf (modelOf (start (sliced c) .args .t)))) (now (start (sliced c) .args .lower)) (now (start (sliced c) .args .upper))
+    → c .pair-fault .result ≡ pairRoom (length (pathsOf (modelOf (begun c .args .t)))) (now (begun c .args .lower)) (now (begun c .args .upper))
 fault-is c =
-    let args = start (sliced c) .args in
-    c .pair-fault .ensures
-    ∙ ap (λ (need : ℕ). pairFault need (length (now (args .lower))) (length (now (args .upper)))) (sliced c .slice-study .ensures .listed .number)
+    let args = begun c .args in
+    c .pair-fault .ensures ∙ ap (λ (need : ℕ). pairFault need (length (now (args .lower))) (length (now (args .upper)))) (number-is c)
 
-abbrev judged : tie.After-first-components → tie.After-pair-fault
-judged c = c .before .before .before .before .before
+-- the steps in front of the writing
+abbrev kept : tie.After-first-components → tie.Else1
+kept c = c .before .before .before .before
+
+-- a place for each component
+twelve : (c : tie.Start) → length (c .args .t .component) ≡ mostComponents
+twelve c = search (mapped, needs)
 
 held : (c : tie.After-first-components)
-    → HeldOf (modelOf (start (sliced (judged c)) .args .t)) (now (c .first-components .result)) (start (sliced (judged c)) .args .t .components)
-    (sliced (judged c) .slice-study .last .1 .0) (sliced (judged c) .slice-study .result .paths)
-held c = held-front (sliced (judged c) .slice-study .ensures) (c .first-components .ensures)
+    → let call = listed (kept c .before) in
+    HeldOf (modelBy (start (tabled call) .args .t) (tabled call .class-table .result)) (now (c .first-components .result))
+    (start (tabled call) .args .t .components) (call .list-whole .last .1 .1 .0) (call .list-whole .result)
+held c =
+    let call = listed (kept c .before) in
+    let begin = start (tabled call) in
+    study-held (tabled call .class-table .result) (begin .pre) (twelve begin) (c .first-components .ensures ∙ c .before .before .before .study-probabilities .ensures) (call .list-whole .ensures)
 
 returns : tie.Need-returns
 returns c =
@@ -47,25 +72,31 @@ returns c =
     rw (← fault-is (c .before)) (sym (answered-refused Refused _ _ taken), (sym (filled-refused _ _ _ taken), sym (filled-refused _ _ _ taken)))
 
 first-components-requires : tie.Need-first-components-requires
-first-components-requires c κs = front-inside (start (sliced (c .before .before .before .before)) .pre) (search needs)
+first-components-requires c κs = fours-in-use (begun (c .before .before .before .before) .pre) (search needs)
 
 write-paths-requires : tie.Need-write-paths-requires
 write-paths-requires c κs =
     let front = c .before .before .before in
-    let none = front .before .before .before .before .if1 .left in
-    let room = pair-room (sym (judged front .pair-fault .ensures) ∙ none) in
+    let room = pair-room (sym (kept front .before .pair-fault .ensures) ∙ kept front .if1 .left) in
     (held-boundable (held front), (room .in-lower, room .in-upper))
 
 returns-2 : tie.Need-returns-2
 returns-2 c =
     let written = c .before .before .before .before in
     let front = written .before .before .before .before in
-    let args = start (sliced (judged front)) .args in
-    let none = sym (fault-is (judged front)) ∙ front .before .before .before .before .if1 .left in (
-      ap Count (sliced (judged front) .slice-study .ensures .listed .number) ∙ sym (answered-done Refused _ _ none),
+    let judged = kept front .before in
+    let args = begun judged .args in
+    let table = tabled (listed judged) in
+    let values = table-values (table .class-table .result) (begun judged .pre) (search needs) (table .class-table .ensures) in
+    let none = sym (fault-is judged) ∙ kept front .if1 .left in (
+      ap Count (number-is judged) ∙ sym (answered-done Refused _ _ none),
       (
-        written .write-paths .ensures .0 ∙ ap (put (now (args .lower)) 0) (held-values (held front) lowerBounds) ∙ sym (filled-done _ _ _ none),
-        written .write-paths .ensures .1 ∙ ap (put (now (args .upper)) 0) (held-values (held front) upperBounds) ∙ sym (filled-done _ _ _ none),
+        written .write-paths .ensures .0
+            ∙ ap (put (now (args .lower)) 0) (held-values (held front) lowerBounds ∙ values lowerBounds)
+            ∙ sym (filled-done _ _ _ none),
+        written .write-paths .ensures .1
+            ∙ ap (put (now (args .upper)) 0) (held-values (held front) upperBounds ∙ values upperBounds)
+            ∙ sym (filled-done _ _ _ none),
       ),
     )
 
@@ -74,11 +105,14 @@ bound-paths-spec =
     tie.close
     (tie.spec
     (λ c κs. search needs)
+    (λ c κs. search needs)
+    (λ c. search needs)
     (λ c. search needs)
     (λ c κs. search needs)
     (λ c. search needs)
     (λ c κs. search needs)
     returns
+    (λ c κs. search needs)
     (λ c. search needs)
     (λ c. search needs)
     first-components-requires

@@ -1,11 +1,9 @@
 -- `study_model::adding::add_study_paths` meets its contract: the slices hold the state counts, the classes and the probabilities of the model.
 use mathlib.Core.Path.{_≡_, sym, ap, _∙_}
-use native.Mathlib.Omega.{arith}
 use lib.ListN.{length, take}
 use lib.Seq.{length-take-le}
 use denote.Ref.{now}
 use Rattle.rules.specs.Limits.{mostComponents}
-use Rattle.study.specs.Joint.{stateCounts}
 use Rattle.study_model.proofs.InUse.{in-use, fours-in-use}
 use Rattle.study_model.proofs.Reached.{Slices, slices-reached, slices-bring}
 use borrow.Author.Needs.{needs}

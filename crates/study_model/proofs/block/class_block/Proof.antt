@@ -1,5 +1,4 @@
 -- `study_model::block::class_block` meets its contract: as many classes as there are joint states stand at the front of the table.
-use Prim.Native.Nat.{_≤_}
 use mathlib.Core.Path.{_≡_, sym, ap, _∙_}
 use native.Mathlib.Omega.{arith}
 use lib.ListN.{length, take}

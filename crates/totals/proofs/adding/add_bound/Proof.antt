@@ -1,5 +1,4 @@
 -- `totals::adding::add_bound` meets its contract: the two ways in which a path counts at places.
-use Rattle.totals.specs.Places.{placesOf, countsAt}
 use borrow.Author.Needs.{needs}
 use Rattle.totals.proofs.adding.add_bound.Statement.{statement}
 use Rattle.totals.proofs.adding.add_bound.Tie as tie
