@@ -8,7 +8,7 @@ use Rattle.answers.specs.declared.bounds.BoundsAnswer.the-variants.{Refused}
 use Rattle.answers.proofs.Answered.{answered-done, answered-refused}
 use Rattle.loss_calls.specs.Bounds.{loadBounded}
 use Rattle.loss_calls.specs.Losses.{HasLoad}
-use Rattle.loss_calls.proofs.StudySlices.{loss-pair}
+use Rattle.loss_calls.proofs.Pairs.{loss-pair}
 use borrow.Author.Needs.{needs}
 use Rattle.loss_calls.proofs.loads.load_bounds.Statement.{statement}
 use Rattle.loss_calls.proofs.loads.load_bounds.Tie as tie
