@@ -1,15 +1,29 @@
--- What opening answers decides the text of a report.
-use Prim.Native.Nat.{ℕ}
+-- What opening answers decides the text of a report, and the text of a study's model is that under the class table of its gates.
+use Prim.Native.Nat.{ℕ, _≤_}
 use mathlib.Core.Path.{_≡_, sym, ap, subst, _∙_}
-use mathlib.Core.List.{List}
+use mathlib.Core.List.{List, [], _∷_}
+use lib.ListN.{length}
+use Rattle.lists.specs.Rows.{joined}
+use Rattle.text.specs.Letters.{letters}
+use Rattle.text.specs.Lines.{numberLine}
+use Rattle.rules.specs.Limits.{mostJointStates}
+use Rattle.study.specs.declared.Study.{Study}
 use Rattle.answers.specs.declared.outcome.Outcome.{Outcome}
 use Rattle.answers.specs.declared.outcome.Outcome.the-variants.{Done, Refused}
 use Rattle.answers.specs.declared.outcome.StudyAnswer.{StudyAnswer}
 use Rattle.soundness.specs.Sound.{Sound}
 use Rattle.opening.specs.Opening.{opened}
 use Rattle.opening.proofs.Opened.Study.{opened-sound}
-use Rattle.study_model.specs.Model.{modelOf}
-use Rattle.report_text.specs.Report.{modelText, refusedText, textBy, reportText}
+use Rattle.fault_tree.specs.Classes.{classTable}
+use Rattle.probability.specs.Totals.{lowerClasses, upperClasses, lowerLoads, upperLoads}
+use Rattle.study_model.specs.Model.{modelOf, modelBy}
+use Rattle.study_model.proofs.ClassFront.{table-values}
+use Rattle.evaluation.specs.Figures.{figuresBy}
+use Rattle.report_lines.specs.Classes.{allBearing, classLines}
+use Rattle.report_lines.specs.Figures.{figureLines}
+use Rattle.report_lines.specs.Loads.{loadLines}
+use Rattle.report_lines.specs.Paths.{pathLines}
+use Rattle.report_text.specs.Report.{classesText, lossesText, modelText, refusedText, textBy, reportText}
 
 module _ (bytes : List ℕ) {answer : StudyAnswer} (e : answer ≡ opened bytes) where
   by-answer : {o : Outcome} → answer .outcome ≡ o → textBy o (answer .study) ≡ reportText bytes
@@ -27,3 +41,19 @@ module _ (bytes : List ℕ) {answer : StudyAnswer} (e : answer ≡ opened bytes)
   pub opened-study : answer .outcome ≡ Done → Sound (answer .study)
   opened-study done =
       subst (λ (a : StudyAnswer). Sound (a .study)) (sym e) (opened-sound bytes (ap (λ (a : StudyAnswer). a .outcome) (sym e) ∙ done))
+
+pub table-text : {t : Study} (table : List ℕ) → Sound t → mostJointStates ≤ length table → table ≡ classTable t
+    → modelText (modelBy t table) ≡ modelText (modelOf t)
+unfolding modelText classesText lossesText modelBy modelOf
+table-text {t} table sound room e =
+    table-values table sound room e
+    (λ p n entries.
+    joined
+    (numberLine (letters "PATHS") (length entries)
+    ∷ pathLines p n entries
+    ∷ classLines (allBearing n entries) (lowerClasses p n entries) (upperClasses p n entries)
+    ∷ joined
+    (loadLines (lowerLoads p n entries) (upperLoads p n entries) (length (modelOf t .loads))
+    ∷ figureLines (figuresBy (lowerLoads p n entries) (upperLoads p n entries) (modelOf t .loads))
+    ∷ [])
+    ∷ []))

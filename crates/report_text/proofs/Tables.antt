@@ -11,8 +11,10 @@ use Rattle.lists.proofs.Tabulated.{length-tabulate}
 use Rattle.rules.specs.Limits.{mostLoads}
 use Rattle.study.specs.declared.Load.{Load}
 use Rattle.answers.specs.declared.figures.FiguresAnswer.{FiguresAnswer}
-use Rattle.entries.specs.Entries.{classPlaces}
-use Rattle.probability.specs.Totals.{lowerClasses, upperClasses, lowerLoads, upperLoads}
+use Rattle.entries.specs.Entries.{classPlaces, entriesOf}
+use Rattle.model.specs.Held.{Listed}
+use Rattle.model.specs.Model.{Model, components}
+use Rattle.evaluation.specs.Bounds.{classLowers, classUppers, loadLowers, loadUppers}
 use Rattle.evaluation.specs.Figures.{figuresBy}
 use Rattle.evaluation.specs.Losses.{LossesOf}
 use Rattle.report_lines.specs.Classes.{allBearing, classLines}
@@ -20,23 +22,25 @@ use Rattle.report_lines.specs.Figures.{figureLines}
 use Rattle.report_lines.specs.Loads.{loadLines}
 use Rattle.report_text.specs.Report.{classesText}
 
-module _ (probabilities : List ℕ) (n : ℕ) (entries : List (List ℕ)) where
-  pub classes-are : {bearing lower upper : List ℕ} (d e : List ℕ) → bearing ≡ allBearing n entries → lower ≡ put d 0 (lowerClasses probabilities n entries)
-      → classPlaces ≡ length d → upper ≡ put e 0 (upperClasses probabilities n entries) → classPlaces ≡ length e
-      → classLines bearing lower upper ≡ classesText probabilities n entries
+module _ {m : Model} where
+  pub classes-are : {n paths : ℕ} {list bearing lower upper : List ℕ} (d e : List ℕ) → Listed m paths list → n ≡ components m
+      → bearing ≡ allBearing n (entriesOf n paths list) → lower ≡ put d 0 (classLowers m) → classPlaces ≡ length d → upper ≡ put e 0 (classUppers m)
+      → classPlaces ≡ length e → classLines bearing lower upper ≡ classesText m
   unfolding classesText
-  classes-are d e borne low room high room′ =
-      let low-whole = low ∙ put-whole d (lowerClasses probabilities n entries) (length-tabulate _ classPlaces ∙ room) in
-      let high-whole = high ∙ put-whole e (upperClasses probabilities n entries) (length-tabulate _ classPlaces ∙ room′) in
-      λ i. classLines (borne i) (low-whole i) (high-whole i)
+  classes-are {n} {paths} {list} d e listed number borne low room high room′ =
+      let all =
+      borne ∙ ap (λ (k : ℕ). allBearing k (entriesOf k paths list)) number ∙ ap (allBearing (components m)) (listed .entries) in
+      let low-whole = low ∙ put-whole d (classLowers m) (length-tabulate _ classPlaces ∙ room) in
+      let high-whole = high ∙ put-whole e (classUppers m) (length-tabulate _ classPlaces ∙ room′) in
+      λ i. classLines (all i) (low-whole i) (high-whole i)
 
-  module _ {lower upper : List ℕ} (losses : LossesOf probabilities n entries lower upper) where
+  module _ {lower upper : List ℕ} (losses : LossesOf m lower upper) where
     pub loads-are : (load : List Load) (loads : ℕ) → length load ≡ mostLoads → loads ≤ mostLoads
-        → loadLines lower upper loads ≡ loadLines (lowerLoads probabilities n entries) (upperLoads probabilities n entries) (length (take loads load))
+        → loadLines lower upper loads ≡ loadLines (loadLowers m) (loadUppers m) (length (take loads load))
     loads-are load loads places few =
         let number = sym (length-take-le loads load (omega (arith, places))) in
         λ i. loadLines (losses .lowers i) (losses .uppers i) (number i)
 
     pub figures-are : {answer : FiguresAnswer} (loads : List Load) → answer ≡ figuresBy lower upper loads
-        → figureLines answer ≡ figureLines (figuresBy (lowerLoads probabilities n entries) (upperLoads probabilities n entries) loads)
+        → figureLines answer ≡ figureLines (figuresBy (loadLowers m) (loadUppers m) loads)
     figures-are loads e = ap figureLines e ∙ (λ i. figureLines (figuresBy (losses .lowers i) (losses .uppers i) loads))

@@ -6,14 +6,13 @@ use Rattle.lists.specs.Rows.{joined}
 use Rattle.text.specs.Letters.{letters}
 use Rattle.text.specs.Lines.{field, numberLine}
 use Rattle.words.specs.Words.{refusalWord}
-use Rattle.study.specs.declared.Load.{Load}
 use Rattle.study.specs.declared.Study.{Study}
 use Rattle.answers.specs.declared.outcome.Outcome.{Outcome}
 use Rattle.answers.specs.declared.outcome.Outcome.the-variants.{Done, Refused}
 use Rattle.model.specs.Model.{Model, components, pathsOf, probabilityTable}
-use Rattle.probability.specs.Totals.{lowerClasses, upperClasses, lowerLoads, upperLoads}
 use Rattle.opening.specs.Opening.{opened}
 use Rattle.study_model.specs.Model.{modelOf}
+use Rattle.evaluation.specs.Bounds.{classLowers, classUppers, loadLowers, loadUppers}
 use Rattle.evaluation.specs.Figures.{figuresBy}
 use Rattle.report_lines.specs.Paths.{pathLines}
 use Rattle.report_lines.specs.Classes.{allBearing, classLines}
@@ -24,38 +23,29 @@ use Rattle.report_lines.specs.Figures.{figureLines}
 abbrev pub reportBytes : ℕ
 reportBytes = 180224
 
--- ---- the text from a table of probabilities, the entries of n components, and loads
+-- ---- the text of a model
 
 -- the lines of the classes that occur
-unfoldable pub classesText : List ℕ → ℕ → List (List ℕ) → List ℕ
-classesText probabilities n entries =
-    classLines (allBearing n entries) (lowerClasses probabilities n entries) (upperClasses probabilities n entries)
+unfoldable pub classesText : Model → List ℕ
+classesText m = classLines (allBearing (components m) (pathsOf m)) (classLowers m) (classUppers m)
 
 -- the lines of the loads, then those of the figures: both tell of losses
-unfoldable pub lossesText : List ℕ → ℕ → List (List ℕ) → List Load → List ℕ
-lossesText probabilities n entries loads =
-    joined
-    (loadLines (lowerLoads probabilities n entries) (upperLoads probabilities n entries) (length loads)
-    ∷ figureLines (figuresBy (lowerLoads probabilities n entries) (upperLoads probabilities n entries) loads)
-    ∷ [])
+unfoldable pub lossesText : Model → List ℕ
+lossesText m =
+    joined (loadLines (loadLowers m) (loadUppers m) (length (m .loads)) ∷ figureLines (figuresBy (loadLowers m) (loadUppers m) (m .loads)) ∷ [])
 
 -- the number of paths, then paths, classes, loads and figures
-unfoldable pub listText : List ℕ → ℕ → List (List ℕ) → List Load → List ℕ
+unfoldable pub modelText : Model → List ℕ
 unfolding classesText lossesText
-listText probabilities n entries loads =
+modelText m =
     joined
-    (numberLine (letters "PATHS") (length entries)
-    ∷ pathLines probabilities n entries
-    ∷ classesText probabilities n entries
-    ∷ lossesText probabilities n entries loads
+    (numberLine (letters "PATHS") (length (pathsOf m))
+    ∷ pathLines (probabilityTable m) (components m) (pathsOf m)
+    ∷ classesText m
+    ∷ lossesText m
     ∷ [])
 
 -- ---- the report
-
--- the text of a model
-unfoldable pub modelText : Model → List ℕ
-unfolding listText
-modelText m = listText (probabilityTable m) (components m) (pathsOf m) (m .loads)
 
 -- the line of a refused study: the number and its word
 unfoldable pub refusedText : ℕ → List ℕ

@@ -1,6 +1,6 @@
 // The report of a study as text in a lent buffer.
 mod buffer;
-mod list_text;
+mod model_text;
 mod reporting;
 
 pub use buffer::empty_report;

@@ -1,13 +1,15 @@
 // The call for the report of a study's bytes.
 use crate::buffer::empty_report;
-use crate::list_text::list_text;
+use crate::model_text::model_text;
 use answers::CountAnswer;
 use answers::Outcome;
 use entries::empty_list;
+use fault_tree::class_table;
 use lent_text::hand_over;
 use probability::first_components;
 use study::Study;
-use study_model::slice_study;
+use study_model::list_whole;
+use study_model::study_probabilities;
 use text::copy;
 use text::field;
 use words::write_word;
@@ -26,18 +28,18 @@ fn sound_text(t: Study, out: &mut [u8]) -> usize
     requires { ⌜ reportBytes ≤ length (now out) ⌝ }
     ensures { λ r. ⌜ Wrote (now (out .entry)) 0 (modelText (modelOf t)) (now (out .exit)) r ⌝ }
 {
+    let classes = class_table(t);
     let mut list = empty_list();
-    let slices = slice_study(t, &mut list);
-    let table = slices.probabilities;
+    let paths = list_whole(t, &classes, &mut list) as usize;
+    let table = study_probabilities(t);
     let n = t.components as usize;
-    let load = t.load;
-    list_text(
+    model_text(
+        t,
+        &classes,
         first_components(&table, n),
         n,
         &list,
-        slices.paths as usize,
-        load,
-        t.loads,
+        paths,
         out,
     )
 }

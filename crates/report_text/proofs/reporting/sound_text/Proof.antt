@@ -1,58 +1,81 @@
--- `report_text::reporting::sound_text` meets its contract: the slices hold what the study's model is worked out of.
-use mathlib.Core.Path.{sym}
+-- `report_text::reporting::sound_text` meets its contract: the class table is that of the study's gates, and the list and the table of probabilities
+-- stand beside it.
+use Prim.Native.Nat.{_≤_}
+use mathlib.Core.Path.{_≡_, sym, _∙_}
+use lib.ListN.{length}
 use denote.Ref.{now}
+use Rattle.lists.proofs.Maps.{mapped}
+use Rattle.rules.specs.Limits.{mostComponents, mostJointStates}
 use Rattle.model.specs.Held.{HeldOf}
-use Rattle.soundness.proofs.Ranges.{loads-most}
-use Rattle.study_model.specs.Model.{modelOf}
-use Rattle.study_model.proofs.Good.{sound-good}
-use Rattle.study_model.proofs.Table.{front-inside, held-front}
-use Rattle.evaluation.proofs.Bounding.{held-values}
-use Rattle.report_text.specs.Report.{modelText, listText}
+use Rattle.study_model.specs.Model.{modelBy}
+use Rattle.study_model.proofs.InUse.{fours-in-use}
+use Rattle.study_model.proofs.Table.{study-held}
+use Rattle.report_text.proofs.Opened.{table-text}
 use borrow.Author.Needs.{needs}
 use Rattle.report_text.proofs.reporting.sound_text.Statement.{statement}
 use Rattle.report_text.proofs.reporting.sound_text.Tie as tie
 
-abbrev sliced : tie.After-first-components → tie.After-slice-study
-sliced c = c .before .before .before .before .before .before
+abbrev listed : tie.After-first-components → tie.After-list-whole
+listed c = c .before .before .before .before .before .before
 
-abbrev start : tie.After-slice-study → tie.Start
-start c = c .before .before .before .before
+abbrev tabled : tie.After-list-whole → tie.After-class-table
+tabled c = c .before .before .before .before
+
+abbrev start : tie.After-class-table → tie.Start
+start c = c .before .before
+
+-- a place for each component
+twelve : (c : tie.Start) → length (c .args .t .component) ≡ mostComponents
+twelve c = search (mapped, needs)
+
+-- and one for each joint state
+table-room : (c : tie.After-class-table) → mostJointStates ≤ length (c .class-table .result)
+table-room c = search needs
 
 held : (c : tie.After-first-components)
-    → HeldOf (modelOf (start (sliced c) .args .t)) (now (c .first-components .result)) (start (sliced c) .args .t .components)
-    (sliced c .slice-study .last .1 .0) (sliced c .slice-study .result .paths)
-held c = held-front (sliced c .slice-study .ensures) (c .first-components .ensures)
+    → let call = listed c in
+    HeldOf (modelBy (start (tabled call) .args .t) (tabled call .class-table .result)) (now (c .first-components .result))
+    (start (tabled call) .args .t .components) (call .list-whole .last .1 .1 .0) (call .list-whole .result)
+held c =
+    let call = listed c in
+    let begin = start (tabled call) in
+    study-held (tabled call .class-table .result) (begin .pre .0) (twelve begin)
+    (c .first-components .ensures ∙ c .before .before .before .before .study-probabilities .ensures) (call .list-whole .ensures)
 
 first-components-requires : tie.Need-first-components-requires
-first-components-requires c κs = front-inside (start (c .before .before .before .before .before) .pre .0) (search needs)
+first-components-requires c κs =
+    let call = c .before .before .before .before .before in
+    fours-in-use (start (tabled call) .pre .0) (search needs)
 
-list-text-requires : tie.Need-list-text-requires
-unfolding modelOf
-list-text-requires c κs =
-    let front = c .before .before .before in
-    let pre = start (sliced front) .pre in
-    (record { model = _; holds = held front }, (loads-most _ (pre .0), (sound-good _ (pre .0) .loads, pre .1)))
+model-text-requires : tie.Need-model-text-requires
+model-text-requires c κs =
+    let front = c .before .before in
+    let table = tabled (listed front) in
+    let pre = start table .pre in
+    (pre .0, (table-room table, (held front, pre .1)))
 
 returns : tie.Need-returns
-unfolding modelText modelOf
 returns c =
     let written = c .before .before in
-    let front = written .before .before .before .before in
-    let loads = modelOf (start (sliced front) .args .t) .loads in
-    rw (sym (held-values (held front) (λ p n entries. listText p n entries loads))) (written .list-text .ensures)
+    let table = tabled (listed (written .before .before .before)) in
+    rw (sym (table-text (table .class-table .result) (start table .pre .0) (table-room table) (table .class-table .ensures))) (written .model-text .ensures)
 
 pub sound-text-spec : {M : Type 1} → statement M
 sound-text-spec =
     tie.close
     (tie.spec
     (λ c κs. search needs)
+    (λ c κs. search needs)
+    (λ c. search needs)
+    (λ c. search needs)
+    (λ c κs. search needs)
     (λ c. search needs)
     (λ c κs. search needs)
     (λ c. search needs)
     (λ c. search needs)
+    (λ c. search needs)
     first-components-requires
     (λ c. search needs)
-    (λ c. search needs)
-    list-text-requires
+    model-text-requires
     (λ c. search needs)
     returns)
