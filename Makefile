@@ -1,5 +1,5 @@
 # The commands of this repository; `make help` lists them. The toolchain's `rt` must be on the PATH; tests and benchmark also use `cargo` and `cc`.
-.PHONY: report check test bench fmt help
+.PHONY: report check test bench stack fmt help
 
 # The study whose report `make report` prints.
 STUDY = studies/case_a.hex
@@ -24,6 +24,10 @@ test: ## Prove every crate from nothing, see every must-fail edit refused, run t
 bench: ## Time the proved report, opening and writing beside a plain Rust port of the same algorithm
 	@rt staticlib exports > /dev/null
 	@cd harness && cargo run --offline --quiet --release --bin bench
+
+stack: ## Print how many bytes of stack the calls need, for the heaviest study and a small one
+	@rt staticlib exports > /dev/null
+	@scripts/stack.sh
 
 fmt: ## Lay out every source, definition and proof
 	@rt fmt

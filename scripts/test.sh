@@ -50,9 +50,7 @@ program_at_its_edges() {
 }
 
 calls_from_c() {
-    mkdir -p harness/target &&
-        cc -std=c99 -Wall -Wextra -Werror -Iinclude harness/c/call.c target/staticlib/libexports.a -o harness/target/call &&
-        harness/target/call | cmp - harness/c/call.out
+    scripts/compile.sh call && harness/target/call | cmp - harness/c/call.out
 }
 
 comparison_from_rust() {
@@ -63,6 +61,7 @@ check "studies through the program" studies_have_their_reports
 check "the program at its edges" program_at_its_edges
 check "the library for C and Rust" rt staticlib exports
 check "calls from C" calls_from_c
+check "the stack that calls need" scripts/stack.sh
 check "comparison with a second implementation" comparison_from_rust
 echo "$passed passed, $failed failed"
 test "$failed" -eq 0
