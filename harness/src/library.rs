@@ -9,6 +9,9 @@ pub const LONGEST_STUDY: usize = 2023;
 /// Room for any report.
 pub const REPORT_BYTES: usize = 180_224;
 
+/// The places that class bounds need in each slice.
+pub const CLASS_PLACES: usize = 256;
+
 /// A result, or the number of the refusal table by which the call was refused.
 pub type Answer<T> = Result<T, u8>;
 

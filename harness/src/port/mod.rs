@@ -1,9 +1,11 @@
-//! A port of the proved report, opening and writing to plain Rust, step for step the same: what the proved code is timed against.
+//! A port of the proved report, opening, writing and bounds of classes and loads to plain Rust, step for step the same: what the proved code is
+//! timed against.
 mod bounds;
 mod calls;
 mod classes;
 mod figures;
 mod image;
+mod model;
 mod opening;
 mod ordering;
 mod page;
@@ -12,7 +14,8 @@ mod report;
 mod soundness;
 mod study;
 mod text;
+mod totals;
 mod writing;
 
-pub use calls::{open, write};
+pub use calls::{class_bounds, load_bounds, open, write};
 pub use report::report;

@@ -5,13 +5,13 @@ use super::study::COMPONENT_PLACES;
 pub const BLANK: u8 = 255;
 
 /// How many ways paths go on at the first component, and how many classes each has.
-struct Ways {
-    blank: bool,
-    number: usize,
-    size: usize,
+pub struct Ways {
+    pub blank: bool,
+    pub number: usize,
+    pub size: usize,
 }
 
-fn ways_at(counts: &[u8], block: &[u8]) -> Ways {
+pub fn ways_at(counts: &[u8], block: &[u8]) -> Ways {
     let states = usize::from(counts[0]);
     let size = block.len() / states;
     let (first, others) = block.split_at(size);

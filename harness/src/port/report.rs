@@ -1,16 +1,17 @@
 //! The report of a study's bytes, composed in a buffer of its own and then copied.
-use super::bounds::*;
-use super::classes::class_table;
+use super::bounds::{path_bound, DOWN, UP};
 use super::figures::{figures_of, Enclosure};
+use super::model::{Model, Probabilities};
 use super::opening::open;
 use super::paths::{count_paths, list_paths, BLANK};
 use super::study::*;
 use super::text::Text;
+use super::totals::{class_totals, load_totals, Losses, CLASS_PLACES};
 
 /// Room for the longest list: 4,096 entries of 13 bytes.
 const LIST_BYTES: usize = 53_248;
 
-/// The list of a study's paths.
+/// The list of a model's paths.
 struct List {
     bytes: [u8; LIST_BYTES],
     paths: usize,
@@ -18,12 +19,8 @@ struct List {
 }
 
 impl List {
-    fn of(study: &Study) -> List {
-        let all = study.state_counts();
-        let counts = &all[..usize::from(study.components)];
-        let joint_states = counts.iter().map(|&states| usize::from(states)).product();
-        let table = class_table(study, counts, joint_states);
-        let block = &table[..joint_states];
+    fn of(model: &Model) -> List {
+        let (counts, block) = (model.counts(), model.block());
         let mut list = List {
             bytes: [0; LIST_BYTES],
             paths: count_paths(counts, block),
@@ -90,16 +87,14 @@ fn write_paths(text: &mut Text, probabilities: &Probabilities, list: &List) {
 }
 
 /// The classes that occur: which these are is not told by bounds, since a path may have probability 0.
-fn write_classes(text: &mut Text, probabilities: &Probabilities, list: &List) {
+fn write_classes(text: &mut Text, model: &Model, list: &List) {
     let mut occurs = [false; CLASS_PLACES];
     for entry in list.entries().chunks_exact(list.width) {
         occurs[usize::from(entry[list.width - 1])] = true;
     }
     let mut lower = [0; CLASS_PLACES];
     let mut upper = [0; CLASS_PLACES];
-    let (entries, width) = (list.entries(), list.width);
-    class_totals(DOWN, u64::MAX, probabilities, entries, width, &mut lower);
-    class_totals(UP, ONE, probabilities, entries, width, &mut upper);
+    class_totals(model, &mut lower, &mut upper);
     for class in (0..CLASS_PLACES).filter(|&class| occurs[class]) {
         text.push(b"K ");
         text.number(class as u64);
@@ -112,10 +107,8 @@ fn write_figure(text: &mut Text, name: &[u8], figure: &Enclosure) {
     text.bounds(figure.lower, figure.upper);
 }
 
-fn write_loads(text: &mut Text, probabilities: &Probabilities, list: &List, loads: &[Load]) {
-    let (entries, width) = (list.entries(), list.width);
-    let lower = load_totals(DOWN, u64::MAX, probabilities, entries, width);
-    let upper = load_totals(UP, ONE, probabilities, entries, width);
+fn write_loads(text: &mut Text, model: &Model, loads: &[Load]) {
+    let Losses { lower, upper } = load_totals(model);
     for j in 0..loads.len() {
         text.push(b"L ");
         text.number(j as u64);
@@ -136,11 +129,11 @@ fn write_loads(text: &mut Text, probabilities: &Probabilities, list: &List, load
 }
 
 fn write_study(text: &mut Text, study: &Study) {
-    let list = List::of(study);
-    let probabilities = probability_table(study);
-    write_paths(text, &probabilities, &list);
-    write_classes(text, &probabilities, &list);
-    write_loads(text, &probabilities, &list, study.loads());
+    let model = Model::of(study);
+    let list = List::of(&model);
+    write_paths(text, &model.probabilities, &list);
+    write_classes(text, &model, &list);
+    write_loads(text, &model, study.loads());
 }
 
 /// The number of bytes of the report, which fills the front of the lent text; 18 where it has no room for it.

@@ -3,6 +3,7 @@
 pub const COMPONENT_PLACES: usize = 12;
 pub const GATE_PLACES: usize = 32;
 pub const LOAD_PLACES: usize = 8;
+pub const STATE_PLACES: usize = 4;
 pub const TEST_PLACES: usize = 12;
 pub const INPUT_PLACES: usize = 31;
 pub const MOST_JOINT_STATES: usize = 4096;
