@@ -2,10 +2,13 @@
 mod inputs;
 mod timing;
 
-use harness::library::{self, LONGEST_STUDY, REPORT_BYTES, STUDY_BYTES};
+use harness::library::{self, CLASS_PLACES, LONGEST_STUDY, REPORT_BYTES, STUDY_BYTES};
 use harness::port;
 use inputs::Input;
-use timing::{side_by_side, Times};
+use timing::{side_by_side, Answer, Call, Times};
+
+/// The load whose bounds are timed; every study has it.
+const LOAD: usize = 0;
 
 fn print_head(title: &str) {
     println!("\n{title}");
@@ -31,18 +34,55 @@ fn print_row(input: &Input, times: Option<Times>) {
 }
 
 fn report(input: &Input) {
-    let calls = [library::report, port::report];
+    let calls: [Call<u8>; 2] = [library::report, port::report];
     print_row(input, side_by_side(calls, &input.bytes, REPORT_BYTES));
 }
 
 fn open(input: &Input) {
-    let calls = [library::open, port::open];
+    let calls: [Call<u8>; 2] = [library::open, port::open];
     print_row(input, side_by_side(calls, &input.bytes, STUDY_BYTES));
 }
 
 fn write(input: &Input) {
-    let calls = [library::write, port::write];
+    let calls: [Call<u8>; 2] = [library::write, port::write];
     print_row(input, side_by_side(calls, &input.image(), LONGEST_STUDY));
+}
+
+/// Asks for the bounds of all classes, the lower ones in the first half of the places.
+fn in_halves(
+    call: fn(&[u8], &mut [u64], &mut [u64]) -> Answer,
+    image: &[u8],
+    places: &mut [u64],
+) -> Answer {
+    let (lower, upper) = places.split_at_mut(CLASS_PLACES);
+    call(image, lower, upper)
+}
+
+fn class_bounds(input: &Input) {
+    let calls: [Call<u64>; 2] = [
+        |image, places| in_halves(library::class_bounds, image, places),
+        |image, places| in_halves(port::class_bounds, image, places),
+    ];
+    let room = 2 * CLASS_PLACES;
+    print_row(input, side_by_side(calls, &input.image(), room));
+}
+
+/// Asks for the bounds of a load, the lower one in the first of two places.
+fn in_two_places(
+    call: fn(&[u8], usize, &mut u64, &mut u64) -> Answer,
+    image: &[u8],
+    places: &mut [u64],
+) -> Answer {
+    let (lower, upper) = places.split_at_mut(1);
+    call(image, LOAD, &mut lower[0], &mut upper[0])
+}
+
+fn load_bounds(input: &Input) {
+    let calls: [Call<u64>; 2] = [
+        |image, places| in_two_places(library::load_bounds, image, places),
+        |image, places| in_two_places(port::load_bounds, image, places),
+    ];
+    print_row(input, side_by_side(calls, &input.image(), 2));
 }
 
 fn main() {
@@ -60,6 +100,10 @@ fn main() {
     studies.iter().for_each(open);
     print_head("Writing");
     studies.iter().for_each(write);
+    print_head("Bounds of all classes");
+    studies.iter().for_each(class_bounds);
+    print_head("Bounds of a load");
+    studies.iter().for_each(load_bounds);
     print_head("Growth of reports: two-state components, four loads on voting gates");
     inputs::growing().iter().for_each(report);
 }

@@ -8,10 +8,10 @@ pub const BATCHES: usize = 15;
 /// About how long a batch is to last.
 const BATCH: Duration = Duration::from_millis(8);
 
-type Answer = Result<usize, u8>;
+pub type Answer = Result<usize, u8>;
 
-/// A call that makes something of the given bytes in the lent ones.
-type Call = fn(&[u8], &mut [u8]) -> Answer;
+/// A call that makes something of the given bytes in lent places.
+pub type Call<T> = fn(&[u8], &mut [T]) -> Answer;
 
 /// Microseconds for one call of each.
 pub struct Times {
@@ -19,15 +19,15 @@ pub struct Times {
     pub port: f64,
 }
 
-/// What a call answers, and what it leaves in so many lent bytes.
-fn made(call: Call, given: &[u8], room: usize) -> (Answer, Vec<u8>) {
-    let mut lent = vec![0; room];
+/// What a call answers, and what it leaves in so many lent places.
+fn made<T: Clone + Default>(call: Call<T>, given: &[u8], room: usize) -> (Answer, Vec<T>) {
+    let mut lent = vec![T::default(); room];
     let answer = call(given, &mut lent);
     (answer, lent)
 }
 
 /// Microseconds for each of so many calls.
-fn batch(call: Call, calls: u32, given: &[u8], lent: &mut [u8]) -> f64 {
+fn batch<T>(call: Call<T>, calls: u32, given: &[u8], lent: &mut [T]) -> f64 {
     let start = Instant::now();
     for _ in 0..calls {
         let answer = call(black_box(given), black_box(&mut *lent));
@@ -37,7 +37,7 @@ fn batch(call: Call, calls: u32, given: &[u8], lent: &mut [u8]) -> f64 {
 }
 
 /// How many calls fill a batch; the first ones also warm up.
-fn calls_for(call: Call, given: &[u8], lent: &mut [u8]) -> u32 {
+fn calls_for<T>(call: Call<T>, given: &[u8], lent: &mut [T]) -> u32 {
     let mut calls = 1;
     loop {
         let each = batch(call, calls, given, lent);
@@ -54,12 +54,16 @@ fn median(mut times: Vec<f64>) -> f64 {
 }
 
 /// A proved call beside its port; None where they do not make the same of what is given.
-pub fn side_by_side(both: [Call; 2], given: &[u8], room: usize) -> Option<Times> {
+pub fn side_by_side<T: Clone + Default + PartialEq>(
+    both: [Call<T>; 2],
+    given: &[u8],
+    room: usize,
+) -> Option<Times> {
     let [proved, port] = both;
     if made(proved, given, room) != made(port, given, room) {
         return None;
     }
-    let lent = &mut vec![0; room];
+    let lent = &mut vec![T::default(); room];
     let calls = both.map(|call| calls_for(call, given, lent));
     let (mut proved_times, mut port_times) = (Vec::new(), Vec::new());
     for _ in 0..BATCHES {
