@@ -56,6 +56,13 @@ impl Lent<u64> {
     pub fn words(random: &mut Random, room: usize) -> Lent<u64> {
         Lent::around(random.words(room + 2 * MARGIN))
     }
+
+    /// Lent places that all hold a number.
+    pub fn full_of(number: u64, random: &mut Random, room: usize) -> Lent<u64> {
+        let mut lent = Lent::words(random, room);
+        lent.room().fill(number);
+        lent
+    }
 }
 
 /// A room that is enough, now and then with some to spare, or that is not.

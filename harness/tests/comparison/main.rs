@@ -16,7 +16,7 @@ const FIRST_SEED: u64 = 0;
 /// More room than the longest word needs.
 const MOST_ROOM: usize = 16;
 
-/// Each refusal, each kind of figures and each kind of order must be met this often, or the inputs say too little about it.
+/// Each refusal, each kind of figures, of order and of lent slices must be met this often, or the inputs say too little about it.
 const OFTEN: usize = 300;
 
 /// Items that studies have, and others that they lack.
@@ -127,9 +127,14 @@ fn assert_enough(tally: &Tally) {
     often(tally.falling, "inputs given in falling order");
     often(tally.repeated, "inputs given twice");
     often(tally.disordered.least(), "images out of order alone");
-    often(tally.written, "written");
-    often(tally.not_written[16], "not written by 16");
-    often(tally.not_written[18], "not written by 18");
+    for (answers, call) in [
+        (&tally.written, "writing"),
+        (&tally.in_full, "bounds of classes in full slices"),
+    ] {
+        often(answers.given, call);
+        often(answers.refused[16], &format!("{call}, refused by 16"));
+        often(answers.refused[18], &format!("{call}, refused by 18"));
+    }
 }
 
 fn main() {

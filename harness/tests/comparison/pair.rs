@@ -1,4 +1,5 @@
 //! One input under both implementations: each call is made twice on equal space, and everything must be alike afterwards.
+mod classes;
 mod saving;
 
 use crate::lent::{room, Lent};
@@ -33,13 +34,12 @@ fn list_size(shown: &[u8]) -> (usize, usize) {
     }
 }
 
-/// Two slices for bounds: half of the pairs have the room that is needed.
-fn two_slices(random: &mut Random, need: usize) -> (Lent<u64>, Lent<u64>) {
-    let rooms = match random.below(2) {
+/// The places of two slices for bounds: half of the pairs have as many as are needed.
+fn two_rooms(random: &mut Random, need: usize) -> [usize; 2] {
+    match random.below(2) {
         0 => [need, need],
         _ => [(); 2].map(|_| room(random, need)),
-    };
-    (Lent::words(random, rooms[0]), Lent::words(random, rooms[1]))
+    }
 }
 
 /// What both made of a call.
@@ -207,26 +207,15 @@ impl<'a> Pair<'a> {
     pub fn path_bounds(&mut self, random: &mut Random, image: &[u8]) {
         let image = shown(random, image);
         let (paths, _) = list_size(image.held());
-        let (lower, upper) = two_slices(random, paths);
+        let slices = two_rooms(random, paths).map(|room| Lent::words(random, room));
         self.compare(
             "bound paths",
-            (image, lower, upper),
-            |(image, lower, upper)| library::path_bounds(image.held(), lower.room(), upper.room()),
-            |(image, lower, upper)| {
-                reference::path_bounds(image.held(), lower.room(), upper.room())
+            (image, slices),
+            |(image, [lower, upper])| {
+                library::path_bounds(image.held(), lower.room(), upper.room())
             },
-        );
-    }
-
-    pub fn class_bounds(&mut self, random: &mut Random, image: &[u8]) {
-        let image = shown(random, image);
-        let (lower, upper) = two_slices(random, 256);
-        self.compare(
-            "bound classes",
-            (image, lower, upper),
-            |(image, lower, upper)| library::class_bounds(image.held(), lower.room(), upper.room()),
-            |(image, lower, upper)| {
-                reference::class_bounds(image.held(), lower.room(), upper.room())
+            |(image, [lower, upper])| {
+                reference::path_bounds(image.held(), lower.room(), upper.room())
             },
         );
     }

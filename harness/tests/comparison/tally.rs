@@ -4,6 +4,22 @@ use harness::reference::image;
 use harness::reference::study::Study;
 use std::fmt;
 
+/// How often a kind of call was answered, and how often it was refused, by number.
+#[derive(Default)]
+pub struct Answers {
+    pub given: usize,
+    pub refused: [usize; 20],
+}
+
+impl Answers {
+    pub fn count(&mut self, answer: Result<usize, u8>) {
+        match answer {
+            Ok(_) => self.given += 1,
+            Err(number) => self.refused[usize::from(number)] += 1,
+        }
+    }
+}
+
 #[derive(Default)]
 pub struct Tally {
     pub inputs: usize,
@@ -19,11 +35,12 @@ pub struct Tally {
     pub given: Disorder,
     pub falling: usize,
     pub repeated: usize,
-    /// How often a study was written, and how often that was refused, by number.
-    pub written: usize,
-    pub not_written: [usize; 20],
+    /// Studies written out.
+    pub written: Answers,
     /// Images that break no rule but that of order.
     pub disordered: Disorder,
+    /// Bounds of classes in slices full of the largest number.
+    pub in_full: Answers,
 }
 
 impl Tally {
@@ -46,13 +63,6 @@ impl Tally {
     pub fn count_image(&mut self, image: &[u8]) {
         if let Some(study) = image::read_in_any_order(image) {
             self.disordered.count(&study);
-        }
-    }
-
-    pub fn count_write(&mut self, answer: Result<usize, u8>) {
-        match answer {
-            Ok(_) => self.written += 1,
-            Err(number) => self.not_written[usize::from(number)] += 1,
         }
     }
 
@@ -81,10 +91,15 @@ impl fmt::Display for Tally {
             "sound studies with inputs out of order by {}; in falling order: {}, twice: {}",
             self.given, self.falling, self.repeated
         )?;
-        write!(
+        writeln!(
             line,
             "{} times written and opened again, refused by 16: {}, by 18: {}; images out of order alone, by {}",
-            self.written, self.not_written[16], self.not_written[18], self.disordered
+            self.written.given, self.written.refused[16], self.written.refused[18], self.disordered
+        )?;
+        write!(
+            line,
+            "slices full of the largest number: {} times with the bounds of classes that cleared ones have, left full by 16: {}, by 18: {}",
+            self.in_full.given, self.in_full.refused[16], self.in_full.refused[18]
         )
     }
 }

@@ -24,7 +24,7 @@ impl Pair<'_> {
                 |(image, lent)| library::write(image.held(), lent.room()),
                 |(image, lent)| reference::write(image.held(), lent.room()),
             );
-            self.tally.count_write(both.answer);
+            self.tally.written.count(both.answer);
             if let Ok(size) = both.answer {
                 let written = &both.lent.1.held()[..size];
                 self.open_again(random, written, &image.held()[..STUDY_BYTES]);

@@ -1,0 +1,55 @@
+//! Bounds of classes, in slices that hold any numbers, in slices full of the largest number, and in cleared ones.
+use super::{shown, two_rooms, Agreed, Pair};
+use crate::lent::Lent;
+use harness::generate::Random;
+use harness::library::{self, CLASS_PLACES};
+use harness::reference::calls as reference;
+
+/// No bound is as large.
+const LARGEST: u64 = u64::MAX;
+
+/// Slices for lower and upper bounds.
+type Slices = [Lent<u64>; 2];
+
+impl Pair<'_> {
+    pub fn class_bounds(&mut self, random: &mut Random, image: &[u8]) {
+        let image = &shown(random, image);
+        let rooms = two_rooms(random, CLASS_PLACES);
+        self.bound_classes(image, rooms.map(|room| Lent::words(random, room)));
+        let [full, cleared] = [LARGEST, 0].map(|number| {
+            let slices = rooms.map(|room| Lent::full_of(number, random, room));
+            self.bound_classes(image, slices)
+        });
+        self.assert_overwritten(&full, &cleared);
+        self.tally.in_full.count(full.answer);
+    }
+
+    fn bound_classes(&mut self, image: &Lent<u8>, slices: Slices) -> Agreed<Slices> {
+        let both = self.compare(
+            "bound classes",
+            (image.clone(), slices),
+            |(image, [lower, upper])| {
+                library::class_bounds(image.held(), lower.room(), upper.room())
+            },
+            |(image, [lower, upper])| {
+                reference::class_bounds(image.held(), lower.room(), upper.room())
+            },
+        );
+        let (_, lent) = both.lent;
+        Agreed {
+            answer: both.answer,
+            lent,
+        }
+    }
+
+    /// Full slices end as cleared ones do in the places named, and keep the largest number in all others: in every place where the call is refused.
+    fn assert_overwritten(&self, full: &Agreed<Slices>, cleared: &Agreed<Slices>) {
+        let named = full.answer.map_or(0, |_| CLASS_PLACES);
+        for (full, cleared) in full.lent.iter().zip(&cleared.lent) {
+            let (bounds, others) = full.held().split_at(named);
+            let same = *bounds == cleared.held()[..named];
+            let kept = others.iter().all(|&place| place == LARGEST);
+            assert!(same && kept, "seed {}: full slices", self.seed);
+        }
+    }
+}
