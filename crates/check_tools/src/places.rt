@@ -1,5 +1,5 @@
-// Shows what two lent slices of 64-bit places hold after a call: lower and upper bounds at their front, and how many places behind them kept
-// their number.
+// Shows what two lent slices of 64-bit places hold after a call: lower and upper bounds at their front, how many places behind them kept their
+// number, and how many hold the same as those of cleared slices.
 use crate::numbers;
 use crate::numbers::one_if;
 ghost use Prim.Native.Nat.{_≤_};
@@ -8,7 +8,7 @@ ghost use lib.ListN.{length};
 ghost use Rattle.io.specs.Counts.{Counts};
 
 // What each place holds before a call: the largest number, which is no bound.
-const UNTOUCHED: u64 = 18446744073709551615;
+pub const UNTOUCHED: u64 = 18446744073709551615;
 
 // 512 places that no call has touched.
 pub fn untouched_places() -> [u64; 512]
@@ -67,14 +67,22 @@ fn touched_from(places: &[u64], from: usize, touched: bool) -> u64
     count
 }
 
+// How many places of both slices from one on were touched or not, as asked for.
+fn both_touched_from(lower: &[u64], upper: &[u64], from: usize, touched: bool) -> u64
+    requires { ⌜ length (now lower) ≤ 512 ⌝ }
+    requires { ⌜ length (now upper) ≤ 512 ⌝ }
+{
+    touched_from(lower, from, touched) + touched_from(upper, from, touched)
+}
+
 // Shows how many places of both slices from one on were not touched, and how many were, on a line.
 fn show_touched(lower: &[u64], upper: &[u64], from: usize)
     requires { ⌜ length (now lower) ≤ 512 ⌝ }
     requires { ⌜ length (now upper) ≤ 512 ⌝ }
 {
     numbers::two(
-        touched_from(lower, from, false) + touched_from(upper, from, false),
-        touched_from(lower, from, true) + touched_from(upper, from, true),
+        both_touched_from(lower, upper, from, false),
+        both_touched_from(lower, upper, from, true),
     );
 }
 
@@ -90,4 +98,28 @@ pub fn show_filled(refusal: u8, count: u32, lower: &[u64], upper: &[u64], classe
     }
     show_bounds(lower, upper, count as usize, classes);
     show_touched(lower, upper, count as usize);
+}
+
+// How many places of a slice hold the same number as those of another.
+fn alike(places: &[u64], others: &[u64]) -> u64
+    ensures { λ r. ⌜ r ≤ length (now (places .entry)) ⌝ }
+{
+    let mut count: u64 = 0;
+    let mut i: usize = 0;
+    while i < places.len() {
+        count = count + one_if(places[i] == place_at(others, i));
+        i = i + 1;
+    }
+    count
+}
+
+// Shows how many places of both slices hold the same as those of slices that were cleared before the call, and how many were not touched, on a line.
+pub fn show_overwritten(lower: &[u64], upper: &[u64], cleared_lower: &[u64], cleared_upper: &[u64])
+    requires { ⌜ length (now lower) ≤ 512 ⌝ }
+    requires { ⌜ length (now upper) ≤ 512 ⌝ }
+{
+    numbers::two(
+        alike(lower, cleared_lower) + alike(upper, cleared_upper),
+        both_touched_from(lower, upper, 0, false),
+    );
 }

@@ -32,12 +32,17 @@
 //                                 behind them hold FILL, and how many do not
 //     y FIELD ITEM PLACE VALUE    alters a field of a copy as `a` does, and writes it out as `x` does into 64 bytes that hold 170
 //
+// Behind the refusal of `o`, `p`, `c`, `m` and `a` stands on the same line what the bounds of the classes of the study that the call returned leave in two
+// slices of 300 places that all hold 18,446,744,073,709,551,615: how many places then hold the same as those of slices that were cleared
+// before, and how many still hold that number.
+//
 // P1, P2, P3, N and VALUE have four bytes, lowest byte first, SIZE, LOWER and UPPER have two, and the others one. A byte that is missing counts as 0. Any
 // other letter does nothing.
 use crate::filled::bound;
 use crate::filled::list;
 use crate::filled::word;
 use crate::filled::write;
+use crate::overwritten::overwrite;
 use crate::told::bound_load;
 use crate::told::figures;
 use check_tools::alter::altered;
@@ -59,9 +64,10 @@ fn refusal(answer: StudyAnswer) -> u64 {
     }
 }
 
-// Writes the refusal of a call on a line, and hands on the study that the call returned.
+// Writes the refusal of a call and what becomes of full slices on a line, and hands on the study that the call returned.
 fn answered(answer: StudyAnswer) -> Study {
-    numbers::number(refusal(answer), true);
+    numbers::number(refusal(answer), false);
+    overwrite(answer.study);
     answer.study
 }
 

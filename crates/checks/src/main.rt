@@ -2,6 +2,7 @@
 // are right; `stdout` holds them, worked out by hand or, for lists and bounds, by a second program from all joint states.
 mod commands;
 mod filled;
+mod overwritten;
 mod script;
 mod told;
 
