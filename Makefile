@@ -1,4 +1,4 @@
-# The commands of this repository; `make help` lists them. The toolchain's `rt` must be on the PATH; tests and benchmark also use `cargo` and `cc`.
+# The commands of this repository; `make help` lists them. The toolchain's `rt` must be on the PATH; tests, benchmark and the measure of the stack also use `cargo` or `cc`.
 .PHONY: report check test bench stack fmt help
 
 # The study whose report `make report` prints.
@@ -21,7 +21,7 @@ check: ## Prove one crate and what it depends on: CRATE=name. What has not chang
 test: ## Prove every crate from nothing, see every must-fail edit refused, run the programs, compare with a second implementation
 	@scripts/test.sh
 
-bench: ## Time the proved report, opening and writing beside a plain Rust port of the same algorithm
+bench: ## Time the proved report, opening, writing and bounds of classes and loads beside a plain Rust port of the same algorithms
 	@rt staticlib exports > /dev/null
 	@cd harness && cargo run --offline --quiet --release --bin bench
 
