@@ -4,7 +4,7 @@ use mathlib.Core.Path.{_≡_, ap, _∙_}
 use mathlib.Core.List.{List, _++_}
 use native.Mathlib.Omega.{arith}
 use lib.ListN.{length, getD, drop, List·getD-append}
-use lib.Seq.{drop-at, getD-append-add, getD-drop}
+use lib.Seq.{getD-append-add, getD-drop}
 use Rattle.lists.specs.Rows.{put}
 
 -- what stands behind it is as it was
@@ -21,8 +21,3 @@ put-behind d x k h =
 pub getD-put : (d x : List ℕ) (i n : ℕ) → i < length x → getD (put d 0 x) i n ≡ getD x i n
 unfolding put
 getD-put d x i n h = List·getD-append x (drop (0 + length x) d) n i h
-
--- a list of the same length put over it
-pub put-over : (d x y : List ℕ) → length x ≡ length y → put (put d 0 x) 0 y ≡ put d 0 y
-unfolding put
-put-over d x y e = ap (λ (l : List ℕ). y ++ l) (drop-at x (drop (0 + length x) d) (0 + length y) (omega (arith, e)) ∙ ap (λ (n : ℕ). drop (0 + n) d) e)

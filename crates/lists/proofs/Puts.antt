@@ -5,8 +5,8 @@ use mathlib.Core.List.{List, [], _∷_, _++_, append-nil, append-assoc}
 use native.Mathlib.Nat.{add-zero, add-assoc}
 use native.Mathlib.Numerals.{add-one}
 use native.Mathlib.Omega.{arith}
-use lib.ListN.{length, take, drop, set, length-append, length-drop, length-set, take-append-drop, drop-of-length-le}
-use lib.Seq.{set-append-left, set-split, take-at, drop-append-add, drop-drop, length-take-le, append-snoc}
+use lib.ListN.{length, take, drop, set, length-append, length-drop, take-append-drop, drop-of-length-le}
+use lib.Seq.{set-split, take-at, drop-append-add, drop-drop, length-take-le, append-snoc}
 use Rattle.lists.specs.Rows.{put}
 
 -- what is put, with what stands in front of it
@@ -52,11 +52,6 @@ put-one d at n h = set-split d at n h ∙ sym (append-snoc (take at d) n (drop (
 pub put-whole : (d x : List ℕ) → length x ≡ length d → put d 0 x ≡ x
 unfolding put
 put-whole d x e = ap (λ (l : List ℕ). x ++ l) (drop-of-length-le d {i = 0 + length x} (omega (arith, e))) ∙ append-nil x
-
--- one element anew among those put at the front
-pub put-set : (d x : List ℕ) (i n : ℕ) → i < length x → set (put d 0 x) i n ≡ put d 0 (set x i n)
-unfolding put
-put-set d x i n h = set-append-left x (drop (0 + length x) d) i n h ∙ ap (λ (k : ℕ). set x i n ++ drop (0 + k) d) (sym (length-set x i n))
 
 -- x is due at a place of d₀; so far that has made d of it, and y is still to be put from p on.
 pub record Due (d₀ : List ℕ) (at : ℕ) (x d : List ℕ) (p : ℕ) (y : List ℕ) : Type 0 where

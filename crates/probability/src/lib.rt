@@ -1,9 +1,8 @@
-// Bounds of paths, classes and loads from a list of paths and a table of probabilities. Gates and studies are not known here. Not for callers
-// from outside: those call `planning`.
+// Bounds of paths, from a list of them and a table of probabilities, and the factor that each component brings. Gates and studies are not known here.
+// Not for callers from outside: those call `planning`.
 mod path;
 mod probabilities;
 
-pub use path::bound_at;
 pub use path::factored;
 pub use path::path_bound;
 pub use path::path_bounds;
