@@ -6,7 +6,7 @@ use native.Mathlib.Omega.{arith}
 use lib.ListN.{length, getD, take}
 use lib.Seq.{length-take-le, getD-take, ext-getD}
 use Rattle.lists.specs.Product.{product}
-use Rattle.rules.specs.Limits.{mostJointStates}
+use Rattle.rules.specs.Limits.{mostComponents, mostStates, mostJointStates}
 use Rattle.joint_states.proofs.Numbered.{with-number}
 use Rattle.study.specs.declared.Study.{Study}
 use Rattle.study.specs.Joint.{stateCounts}
@@ -20,15 +20,16 @@ use Rattle.model.specs.Model.{components, classesOf, pathsOf, probabilityTable}
 use Rattle.model.proofs.Classes.{classes-long, class-at, good-listable}
 use Rattle.study_model.specs.Model.{modelOf, modelBy}
 use Rattle.study_model.proofs.Good.{by-good}
+use Rattle.study_model.proofs.InUse.{counts-small}
 
 module _ {t : Study} (table : List ℕ) (sound : Sound t) (room : mostJointStates ≤ length table) where
-  pub front-inside : product (stateCounts t) ≤ length table
+  front-inside : product (stateCounts t) ≤ length table
   front-inside = omega (arith, joint-most t sound, room)
 
   front-long : length (take (product (stateCounts t)) table) ≡ product (stateCounts t)
   front-long = length-take-le (product (stateCounts t)) table front-inside
 
-  pub block-is : take (product (stateCounts t)) table ≡ classesOf (modelBy t table)
+  block-is : take (product (stateCounts t)) table ≡ classesOf (modelBy t table)
   unfolding modelBy
   block-is =
       ext-getD 0 (take (product (stateCounts t)) table) (classesOf (modelBy t table)) (front-long ∙ sym (classes-long (modelBy t table)))
@@ -52,13 +53,30 @@ module _ {t : Study} (table : List ℕ) (sound : Sound t) (room : mostJointState
   unfolding modelBy modelOf probabilityTable
   table-values e f = ap (f (probabilityTable (modelOf t)) (components (modelOf t))) (table-paths e)
 
--- ---- what the code lists: state counts and a block
+-- ---- as the code cuts it
 
-module _ {t : Study} (table counts block : List ℕ) (sound : Sound t) (is-counts : counts ≡ stateCounts t) (is-block : block ≡ classesOf (modelBy t table)) where
-  pub block-listable : Listable counts block
+-- the state counts of a sound study's components, and the front of a table for them
+pub record Cut (t : Study) (table counts block : List ℕ) : Type 0 where
+  pub sound : Sound t
+  pub room : mostJointStates ≤ length table
+  pub is-counts : counts ≡ stateCounts t
+  pub is-block : block ≡ take (product counts) table
+
+-- where the table may be cut
+pub cut-inside : {t : Study} (table counts : List ℕ) → Sound t → mostJointStates ≤ length table → counts ≡ stateCounts t
+    → (length counts ≤ mostComponents) × (((k : ℕ) → k < length counts → getD counts k 0 ≤ mostStates) × (product counts ≤ length table))
+cut-inside {t} table counts sound room e =
+    let small = counts-small sound counts e in
+    (small .0, (small .1, rw e (front-inside table sound room)))
+
+module _ {t : Study} {table counts block : List ℕ} (cut : Cut t table counts block) where
+  cut-is : block ≡ classesOf (modelBy t table)
+  cut-is = cut .is-block ∙ ap (λ (l : List ℕ). take (product l) table) (cut .is-counts) ∙ block-is table (cut .sound) (cut .room)
+
+  pub cut-listable : Listable counts block
   unfolding modelBy
-  block-listable = rw (is-block, is-counts) (good-listable (modelBy t table) (by-good t sound table))
+  cut-listable = rw (cut-is, cut .is-counts) (good-listable (modelBy t table) (by-good t (cut .sound) table))
 
-  pub block-paths : paths counts block ≡ pathsOf (modelBy t table)
+  pub cut-paths : paths counts block ≡ pathsOf (modelBy t table)
   unfolding pathsOf modelBy
-  block-paths = rw (is-block, is-counts) refl
+  cut-paths = rw (cut-is, cut .is-counts) refl

@@ -6,31 +6,27 @@ use mathlib.Core.List.{List}
 use native.Mathlib.Omega.{arith}
 use Rattle.units.specs.One.{one}
 use Rattle.study.specs.declared.Study.{Study}
-use Rattle.study.specs.Joint.{stateCounts}
-use Rattle.soundness.specs.Sound.{Sound}
-use Rattle.model.specs.Model.{classesOf, probabilityTable}
+use Rattle.model.specs.Model.{probabilityTable}
 use Rattle.model.proofs.Table.{table-most}
 use Rattle.totals.specs.Places.{Adds}
 use Rattle.totals.specs.Walk.{Reached, bringsAll}
 use Rattle.totals.proofs.Added.{adds-alike}
 use Rattle.study_model.specs.Model.{modelOf, modelBy}
 use Rattle.study_model.specs.Totals.{pathsBring}
-use Rattle.study_model.proofs.ClassFront.{block-listable, block-paths}
+use Rattle.study_model.proofs.ClassFront.{Cut, cut-listable, cut-paths}
 use Rattle.study_model.proofs.Good.{sound-good}
 
 pub record Slices (t : Study) (table counts block probabilities : List ℕ) : Type 0 where
-  pub sound : Sound t
-  pub is-counts : counts ≡ stateCounts t
-  pub is-block : block ≡ classesOf (modelBy t table)
+  pub cut : Cut t table counts block
   pub is-table : probabilities ≡ probabilityTable (modelOf t)
 
 module _ {t : Study} {table counts block probabilities : List ℕ} (held : Slices t table counts block probabilities) where
   pub slices-reached : Reached counts block probabilities 0 one one
   slices-reached =
-      let listable = block-listable table counts block (held .sound) (held .is-counts) (held .is-block) in
+      let listable = cut-listable (held .cut) in
       record {
         whole = listable .whole;
-        table = record { each = λ k. rw (held .is-table) (table-most (modelOf t) (sound-good t (held .sound)) k) };
+        table = record { each = λ k. rw (held .is-table) (table-most (modelOf t) (sound-good t (held .cut .sound)) k) };
         few = omega (arith, listable .components);
         low-most = omega arith;
         high-most = omega arith;
@@ -39,7 +35,7 @@ module _ {t : Study} {table counts block probabilities : List ℕ} (held : Slice
   brings-are : (loadwise : Bool) (rounding place : ℕ) → bringsAll loadwise rounding probabilities counts block place ≡ pathsBring loadwise rounding (modelBy t table) place
   unfolding bringsAll pathsBring modelBy modelOf probabilityTable
   brings-are loadwise rounding place =
-      rw (block-paths table counts block (held .sound) (held .is-counts) (held .is-block), held .is-table, held .is-counts) refl
+      rw (cut-paths (held .cut), held .is-table, held .cut .is-counts) refl
 
   pub slices-bring : (loadwise : Bool) (rounding : ℕ) {most places : ℕ} {d d′ : List ℕ} → Adds most places (bringsAll loadwise rounding probabilities counts block) d d′
       → Adds most places (pathsBring loadwise rounding (modelBy t table)) d d′

@@ -34,11 +34,12 @@ pub fn add_study_paths(
     let component = t.component;
     let n = t.components as usize;
     let all = state_counts(component);
+    let counts = &all[..n];
     let table = study_probabilities(t);
     add_totals(
         loadwise,
-        &all[..n],
-        class_block(t, classes),
+        counts,
+        class_block(counts, classes),
         first_components(&table, n),
         lower,
         upper,

@@ -1,25 +1,19 @@
-// The part of a class table that a study uses.
+// The part of a class table that components use.
 use entries::Class;
-use study::Study;
 use study::joint_states;
-use study::state_counts;
-ghost use Prim.Native.Nat.{_≤_};
+ghost use Prim.Native.Nat.{ℕ, _<_, _≤_};
 ghost use mathlib.Core.Path.{_≡_};
-ghost use lib.ListN.{length};
-ghost use Rattle.rules.specs.Limits.{mostJointStates};
-ghost use Rattle.model.specs.Model.{classesOf};
-ghost use Rattle.soundness.specs.Sound.{Sound};
-ghost use Rattle.study_model.specs.Model.{modelBy};
+ghost use lib.ListN.{length, getD, take};
+ghost use Rattle.lists.specs.Product.{product};
+ghost use Rattle.rules.specs.Limits.{mostComponents, mostStates};
 
-// The classes of a sound study's joint states, in front of those that a table has room for.
-pub fn class_block(t: Study, classes: &[Class]) -> &[Class]
-    requires { ⌜ Sound t ⌝ }
-    requires { ⌜ mostJointStates ≤ length (now classes) ⌝ }
-    ensures { λ r. ⌜ now r ≡ classesOf (modelBy t (now (classes .entry))) ⌝ }
+// The classes of the joint states of components with these state counts, in front of all that a table has room for.
+pub fn class_block<'a>(counts: &[u8], classes: &'a [Class]) -> &'a [Class]
+    requires { ⌜ length (now counts) ≤ mostComponents ⌝ }
+    requires { ⌜ ((k : ℕ) → k < length (now counts) → getD (now counts) k 0 ≤ mostStates) ⌝ }
+    requires { ⌜ product (now counts) ≤ length (now classes) ⌝ }
+    ensures { λ r. ⌜ now r ≡ take (product (now (counts .entry))) (now (classes .entry)) ⌝ }
 {
-    let component = t.component;
-    let n = t.components as usize;
-    let all = state_counts(component);
-    let joint = joint_states(&all[..n]) as usize;
+    let joint = joint_states(counts) as usize;
     &classes[..joint]
 }

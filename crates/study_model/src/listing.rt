@@ -25,7 +25,8 @@ pub fn list_lent(t: Study, classes: &[Class], buffer: &mut [u8]) -> Listing
     let component = t.component;
     let n = t.components as usize;
     let all = state_counts(component);
-    event_tree::list_lent(&all[..n], class_block(t, classes), buffer)
+    let counts = &all[..n];
+    event_tree::list_lent(counts, class_block(counts, classes), buffer)
 }
 
 // Lists the paths in a buffer that has room for any list, and answers how many there are.

@@ -1,9 +1,11 @@
--- `study_model::adding::add_study_paths` meets its contract: the slices hold the state counts, the classes and the probabilities of the model.
+-- `study_model::adding::add_study_paths` meets its contract: the slices hold the state counts, the classes and the probabilities of the model (`Slices`).
 use mathlib.Core.Path.{_≡_, sym, ap, _∙_}
 use lib.ListN.{length, take}
 use lib.Seq.{length-take-le}
 use denote.Ref.{now}
 use Rattle.rules.specs.Limits.{mostComponents}
+use Rattle.study.specs.Joint.{stateCounts}
+use Rattle.study_model.proofs.ClassFront.{cut-inside}
 use Rattle.study_model.proofs.InUse.{in-use, fours-in-use}
 use Rattle.study_model.proofs.Reached.{Slices, slices-reached, slices-bring}
 use borrow.Author.Needs.{needs}
@@ -13,39 +15,48 @@ use Rattle.study_model.proofs.adding.add_study_paths.Tie as tie
 abbrev start : tie.After-state-counts → tie.Start
 start c = c .before .before .before .before .before .before
 
--- the steps in front of the call
-abbrev counted : tie.After-first-components → tie.After-state-counts
-counted c = c .before .before .before .before .before
+-- the state counts, from behind the classes
+abbrev counted : tie.After-class-block → tie.After-state-counts
+counted c = c .before .before .before
+
+counts-are : (c : tie.After-state-counts) → take (start c .args .t .components) (c .state-counts .result) ≡ stateCounts (start c .args .t)
+counts-are c = ap (take (start c .args .t .components)) (c .state-counts .ensures)
 
 array-share-prefix-all : tie.Need-array-share-prefix-all
 array-share-prefix-all c =
-    let twelve : length (c .before .state-counts .result) ≡ mostComponents = search needs in
-    in-use (start (c .before) .pre .0) twelve
+    let twelve : length (c .state-counts .result) ≡ mostComponents = search needs in
+    in-use (start c .pre .0) twelve
 
-slice-aggregate-add-totals : tie.Need-slice-aggregate-add-totals
-slice-aggregate-add-totals c = sym (length-take-le _ _ (array-share-prefix-all (c .before)))
+slice-aggregate-counts : tie.Need-slice-aggregate-counts
+slice-aggregate-counts c = sym (length-take-le _ _ (array-share-prefix-all (c .before)))
+
+class-block-requires : tie.Need-class-block-requires
+class-block-requires c κs =
+    let counts = c .before .before in
+    let begin = start counts in
+    cut-inside (now (begin .args .classes)) _ (begin .pre .0) (begin .pre .1 .0) (counts-are counts)
 
 first-components-requires : tie.Need-first-components-requires
-first-components-requires c κs = fours-in-use (start (c .before .before .before .before) .pre .0) (search needs)
+first-components-requires c κs = fours-in-use (start (counted (c .before)) .pre .0) (search needs)
 
 -- what is handed on
 slices : (c : tie.After-first-components)
-    → let args = start (counted c) .args in
-    Slices (args .t) (now (args .classes)) (take (args .t .components) (counted c .state-counts .result)) (now (c .before .before .class-block .result))
+    → let block = c .before .before in
+    let args = start (counted block) .args in
+    Slices (args .t) (now (args .classes)) (take (args .t .components) (counted block .state-counts .result)) (now (block .class-block .result))
     (now (c .first-components .result))
 slices c =
-    let begin = start (counted c) in
+    let block = c .before .before in
+    let pre = start (counted block) .pre in
     record {
-      sound = begin .pre .0;
-      is-counts = ap (take (begin .args .t .components)) (counted c .state-counts .ensures);
-      is-block = c .before .before .class-block .ensures;
-      is-table = c .first-components .ensures ∙ c .before .before .before .before .study-probabilities .ensures;
+      cut = record { sound = pre .0; room = pre .1 .0; is-counts = counts-are (counted block); is-block = block .class-block .ensures };
+      is-table = c .first-components .ensures ∙ block .before .study-probabilities .ensures;
     }
 
 add-totals-requires : tie.Need-add-totals-requires
 add-totals-requires c κs =
-    let held = slices (c .before .before) in
-    (slices-reached held, start (counted (c .before .before)) .pre .1 .1)
+    let front = c .before .before in
+    (slices-reached (slices front), start (counted (front .before .before)) .pre .1 .1)
 
 returns : tie.Need-returns
 returns c =
@@ -59,10 +70,10 @@ add-study-paths-spec =
     (tie.spec
     (λ c. search needs)
     (λ c κs. search needs)
-    (λ c κs. search needs)
     array-share-prefix-all
-    slice-aggregate-add-totals
+    slice-aggregate-counts
     (λ c κs. search needs)
+    class-block-requires
     (λ c. search needs)
     first-components-requires
     add-totals-requires
