@@ -1,8 +1,8 @@
 -- The bounds of paths, classes and loads enclose the exact probabilities: those of any good model do, and so do those that a call answered, since it
 -- answers only of a sound study, whose model is good, and fills the places with that model's bounds.
-use Prim.Native.Nat.{ℕ}
-use mathlib.Core.Path.{_≡_, ap}
-use mathlib.Core.List.{[], _∷_}
+use Prim.Native.Nat.{ℕ, _<_}
+use mathlib.Core.Path.{_≡_, sym, ap, _∙_}
+use mathlib.Core.List.{List, [], _∷_}
 use native.Mathlib.Omega.{arith}
 use lib.Dec.{eqb}
 use lib.ListN.{length, length-map}
@@ -10,6 +10,8 @@ use Rattle.lists.specs.Bits.{bit}
 use Rattle.lists.proofs.Maps.{getD-map-inside}
 use Rattle.lists.proofs.Tabulated.{getD-tabulate, length-tabulate}
 use Rattle.units.specs.Rounding.{down, up}
+use Rattle.study.specs.declared.Study.{Study}
+use Rattle.answers.specs.declared.outcome.Outcome.the-variants.{Done}
 use Rattle.answers.specs.Told.{outcomeTold, countTold, boundsTold, pairValues}
 use Rattle.answers.proofs.Answered.{filled-front}
 use Rattle.entries.specs.Entries.{classPlaces}
@@ -21,11 +23,11 @@ use Rattle.accuracy.proofs.Totals.{total-within}
 use Rattle.study_model.specs.Model.{modelOf}
 use Rattle.study_model.proofs.Good.{sound-good}
 use Rattle.evaluation.specs.Bounds.{lowerOf, upperOf, pathLowers, pathUppers, classLowers, classUppers}
-use Rattle.path_calls.specs.Bounds.{pairBreach}
+use Rattle.path_calls.specs.Bounds.{pairBreach, classesBounded, lowerOfClasses, upperOfClasses}
 use Rattle.loss_calls.specs.Bounds.{lossOf}
 use Rattle.demands.specs.Calls.{pathBounds as forPaths, classBounds as forClasses, loadBounds as forLoad}
 use Rattle.demands.specs.Demand2.{PathsWithin, ClassesWithin, LossesWithin}
-use Rattle.demands.specs.Demand2.{PathBoundsAnswered, ClassBoundsAnswered, LoadBoundsAnswered}
+use Rattle.demands.specs.Demand2.{SameAt, PathBoundsAnswered, ClassBoundsAnswered, ClassBoundsAlike, LoadBoundsAnswered}
 use Rattle.demands.proofs.Finished.{finished}
 
 -- ---- any good model
@@ -72,16 +74,31 @@ path-bounds-answered t lower upper n answer i h =
     )
     (paths-within m (sound-good t (done .is-sound)) i (omega (arith, count)))
 
-pub class-bounds-answered : ClassBoundsAnswered
+-- the places of classes then hold the bounds of the model
+classes-left : (t : Study) (lower upper : List ℕ) → classesBounded t lower upper ≡ Done → (c : ℕ) → c < classPlaces
+    → SameAt c (lowerOfClasses t lower upper) (upperOfClasses t lower upper) (classLowers (modelOf t)) (classUppers (modelOf t))
 unfolding pairBreach
+classes-left t lower upper answer c h =
+    let none = finished (forClasses lower upper) t [] (ap outcomeTold answer) .none in
+    let m = modelOf t in
+    record {
+      lowers =
+          filled-front _ (classLowers m) lower none c (omega (arith, length-tabulate (λ (c : ℕ). lowerOf m (λ (class : ℕ). eqb class c)) classPlaces));
+      uppers =
+          filled-front _ (classUppers m) upper none c (omega (arith, length-tabulate (λ (c : ℕ). upperOf m (λ (class : ℕ). eqb class c)) classPlaces));
+    }
+
+pub class-bounds-answered : ClassBoundsAnswered
 class-bounds-answered t lower upper answer c h =
     let done = finished (forClasses lower upper) t [] (ap outcomeTold answer) in
-    let m = modelOf t in
-    rw (
-      filled-front _ (classLowers m) lower (done .none) c (omega (arith, length-tabulate (λ (c : ℕ). lowerOf m (λ (class : ℕ). eqb class c)) classPlaces)),
-      filled-front _ (classUppers m) upper (done .none) c (omega (arith, length-tabulate (λ (c : ℕ). upperOf m (λ (class : ℕ). eqb class c)) classPlaces)),
-    )
-    (classes-within m (sound-good t (done .is-sound)) c h)
+    let left = classes-left t lower upper answer c h in
+    rw (left .lowers, left .uppers) (classes-within (modelOf t) (sound-good t (done .is-sound)) c h)
+
+pub class-bounds-alike : ClassBoundsAlike
+class-bounds-alike t lower upper lower′ upper′ answer answer′ c h =
+    let left = classes-left t lower upper answer c h in
+    let left′ = classes-left t lower′ upper′ answer′ c h in
+    record { lowers = left .lowers ∙ sym (left′ .lowers); uppers = left .uppers ∙ sym (left′ .uppers) }
 
 pub load-bounds-answered : LoadBoundsAnswered
 load-bounds-answered t j pair answer =

@@ -139,6 +139,17 @@ ClassBoundsAnswered =
     (t : Study) (lower upper : List ℕ) → classesBounded t lower upper ≡ Done
     → (c : ℕ) → c < classPlaces → ClassWithin (modelOf t) c (getD (lowerOfClasses t lower upper) c 0) (getD (upperOfClasses t lower upper) c 0)
 
+-- the same stands at place k of both slices of a pair
+pub record SameAt (k : ℕ) (lower upper lower′ upper′ : List ℕ) : Type 0 where
+  pub lowers : getD lower k 0 ≡ getD lower′ k 0
+  pub uppers : getD upper k 0 ≡ getD upper′ k 0
+
+-- What stood in the slices before does not matter: two pairs that the call is lent for a study, one full of the largest number and one cleared, say, end alike in the places of classes.
+abbrev pub ClassBoundsAlike : Type 0
+ClassBoundsAlike =
+    (t : Study) (lower upper lower′ upper′ : List ℕ) → classesBounded t lower upper ≡ Done → classesBounded t lower′ upper′ ≡ Done → (c : ℕ) → c < classPlaces
+    → SameAt c (lowerOfClasses t lower upper) (upperOfClasses t lower upper) (lowerOfClasses t lower′ upper′) (upperOfClasses t lower′ upper′)
+
 -- The call for a load answers a pair: these are the bounds for its loss.
 abbrev pub LoadBoundsAnswered : Type 0
 LoadBoundsAnswered = (t : Study) (j : ℕ) (pair : Enclosure) → loadBounded t j ≡ Bounds pair → LossWithin (modelOf t) j (pair .lower) (pair .upper)
