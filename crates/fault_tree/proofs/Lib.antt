@@ -1,4 +1,5 @@
 pub mod ClassBits
+pub mod GateRows
 pub mod GateTruths
 pub mod OnesCounted
 pub mod SoundReadable

@@ -1,6 +1,7 @@
 // The fault trees of a study: the truth of its gates in a joint state, the class of a joint state, and the class table. Probabilities are not
 // known here. Not for callers from outside: those call `planning`.
 mod class;
+mod rows;
 mod table;
 mod truth;
 

@@ -1,5 +1,7 @@
 // The classes of all joint states.
 use crate::class::class_by;
+use crate::rows::ROW_PLACES;
+use crate::rows::input_rows;
 use crate::truth::gate_true;
 use crate::truth::no_truths;
 use entries::Class;
@@ -37,6 +39,7 @@ fn fill_table(t: Study, counts: &[u8], x: &mut [u8]) -> [Class; JOINT_STATE_PLAC
     let gate = t.gate;
     let load = t.load;
     let gates = t.gates as usize;
+    let rows = input_rows(gate, gates);
     let joint = joint_states(counts) as usize;
     let mut table = cleared_table();
     let mut k: usize = 0;
@@ -45,7 +48,7 @@ fn fill_table(t: Study, counts: &[u8], x: &mut [u8]) -> [Class; JOINT_STATE_PLAC
         let mut i: usize = 0;
         while i < gates {
             let g = gate[i];
-            let holds = gate_true(g, x, &truths);
+            let holds = gate_true(g, &rows, i * ROW_PLACES, x, &truths);
             truths[i] = holds;
             i = i + 1;
         }

@@ -5,8 +5,8 @@ use mathlib.Core.List.{List, [], _∷_, _++_, append-nil, append-assoc}
 use native.Mathlib.Nat.{add-zero, add-assoc}
 use native.Mathlib.Numerals.{add-one}
 use native.Mathlib.Omega.{arith}
-use lib.ListN.{length, take, drop, set, length-append, length-drop, take-append-drop, drop-of-length-le}
-use lib.Seq.{set-split, take-at, drop-append-add, drop-drop, length-take-le, append-snoc}
+use lib.ListN.{length, getD, take, drop, set, List·getD-append, length-append, length-drop, take-append-drop, drop-of-length-le}
+use lib.Seq.{set-split, getD-take, getD-append-add, take-at, drop-append-add, drop-drop, length-take-le, append-snoc}
 use Rattle.lists.specs.Rows.{put}
 
 -- what is put, with what stands in front of it
@@ -20,6 +20,24 @@ length-put d at x h =
 
 pub put-size : (d d′ : List ℕ) (at : ℕ) (x : List ℕ) → at + length x ≤ length d → d′ ≡ put d at x → length d′ ≡ length d
 put-size d d′ at x h e = ap length e ∙ length-put d at x h
+
+-- what stands in front of it is as it was
+pub getD-put-before : (d : List ℕ) (at : ℕ) (x : List ℕ) (k : ℕ) → at + length x ≤ length d → k < at → getD (put d at x) k 0 ≡ getD d k 0
+unfolding put
+getD-put-before d at x k h less =
+    let front = length-take-le at d (omega (arith, h)) in
+    List·getD-append (take at d ++ x) (drop (at + length x) d) 0 k (omega (arith, length-front d at x h, less))
+    ∙ List·getD-append (take at d) x 0 k (omega (arith, front, less))
+    ∙ getD-take at d k 0 less
+
+-- and it stands there
+pub getD-put-at : (d : List ℕ) (at : ℕ) (x : List ℕ) (j : ℕ) → at + length x ≤ length d → j < length x → getD (put d at x) (at + j) 0 ≡ getD x j 0
+unfolding put
+getD-put-at d at x j h less =
+    let front = length-take-le at d (omega (arith, h)) in
+    List·getD-append (take at d ++ x) (drop (at + length x) d) 0 (at + j) (omega (arith, length-front d at x h, less))
+    ∙ ap (λ (n : ℕ). getD (take at d ++ x) (n + j) 0) (sym front)
+    ∙ getD-append-add (take at d) x j 0
 
 -- nothing changes where nothing is put
 put-none : (d : List ℕ) (at : ℕ) → put d at [] ≡ d

@@ -8,6 +8,7 @@ use Rattle.lists.specs.Product.{product}
 use Rattle.rules.specs.Limits.{mostGates}
 use Rattle.soundness.proofs.Ranges.{loads-most, gates-most, joint-most}
 use Rattle.fault_tree.specs.Classes.{classOf}
+use Rattle.fault_tree.proofs.GateRows.{row-in}
 use Rattle.fault_tree.proofs.SoundReadable.{counts-inside, counts-small, gate-readable}
 use Rattle.fault_tree.proofs.Tables.{Tabled, tabled-start, tabled-more, tabled-inside, tabled-done}
 use Rattle.fault_tree.proofs.GateTruths.{Evaluated, evaluated-start, evaluated-more, evaluated-long, evaluated-done}
@@ -15,21 +16,25 @@ use Rattle.fault_tree.proofs.table.fill_table.Statement.{statement}
 use Rattle.fault_tree.proofs.table.fill_table.Tie as tie
 
 abbrev Inv-loop2 : tie.InvT-loop2
-Inv-loop2 t counts x gate load gates joint table k truths₀ i₀ truths i = Evaluated gate x gates i truths
+Inv-loop2 t counts x gate load gates rows joint table k truths₀ i₀ truths i = Evaluated gate x gates i truths
 
 abbrev μ-loop2 : tie.MeasureT-loop2
-μ-loop2 t counts x gate load gates joint table k truths₀ i₀ truths i = gates - i
+μ-loop2 t counts x gate load gates rows joint table k truths₀ i₀ truths i = gates - i
 
 abbrev Inv-loop : tie.InvT-loop
-Inv-loop t counts x₀ gate load gates joint table₀ k₀ x table k = Tabled t counts joint k x table
+Inv-loop t counts x₀ gate load gates rows joint table₀ k₀ x table k = Tabled t counts joint k x table
 
 abbrev μ-loop : tie.MeasureT-loop
-μ-loop t counts x₀ gate load gates joint table₀ k₀ x table k = joint - k
+μ-loop t counts x₀ gate load gates rows joint table₀ k₀ x table k = joint - k
 
 -- ---- the steps of the code, and what comes before them
 
 abbrev start : tie.After-struct-known Inv-loop2 μ-loop2 Inv-loop μ-loop → tie.Start Inv-loop2 μ-loop2 Inv-loop μ-loop
 start c = c .before .before .before .before .before
+
+-- the rows of inputs, from the first turn on
+abbrev rowed : tie.At-loop Inv-loop2 μ-loop2 Inv-loop μ-loop → tie.After-input-rows Inv-loop2 μ-loop2 Inv-loop μ-loop
+rowed c = c .before .before .before
 
 -- from a gate to its joint state, from the last gate, and from the end of the turn to the last gate
 abbrev turn : tie.In-loop2 Inv-loop2 μ-loop2 Inv-loop μ-loop → tie.In-loop Inv-loop2 μ-loop2 Inv-loop μ-loop
@@ -46,21 +51,24 @@ gate-inside c = omega (arith, gates-most _ (turn c .before .loop .inv .sound), c
 
 -- ---- the needs
 
+input-rows-requires : tie.Need-input-rows-requires Inv-loop2 μ-loop2 Inv-loop μ-loop
+input-rows-requires c κs = gates-most _ (start c .pre .sound)
+
 joint-states-requires : tie.Need-joint-states-requires Inv-loop2 μ-loop2 Inv-loop μ-loop
 joint-states-requires c κs =
-    let b = start c .pre in
+    let b = start (c .before) .pre in
     (counts-inside _ _ (b .sound) (b .same), counts-small _ _ (b .sound) (b .same))
 
 cast-joint : tie.Need-cast-joint Inv-loop2 μ-loop2 Inv-loop μ-loop
 cast-joint c =
-    let b = start (c .before) .pre in
+    let b = start (c .before .before) .pre in
     record { fits = omega (arith, c .joint-states .ensures, ap product (b .same), joint-most _ (b .sound)) }
 
 cleared-table-requires : tie.Need-cleared-table-requires Inv-loop2 μ-loop2 Inv-loop μ-loop
 cleared-table-requires c κs = tt
 
 loop-holds : tie.Need-loop-holds Inv-loop2 μ-loop2 Inv-loop μ-loop
-loop-holds c = tabled-start (start (c .before .before) .pre) (c .before .joint-states .ensures) (c .cleared-table .ensures)
+loop-holds c = tabled-start (start (c .before .before .before) .pre) (c .before .joint-states .ensures) (c .cleared-table .ensures)
 
 no-truths-requires : tie.Need-no-truths-requires Inv-loop2 μ-loop2 Inv-loop μ-loop
 no-truths-requires c κs = tt
@@ -74,27 +82,33 @@ mul-g c = omega arith
 array-copy-out-g : tie.Need-array-copy-out-g Inv-loop2 μ-loop2 Inv-loop μ-loop
 array-copy-out-g c = gate-inside c
 
-slice-aggregate-gate-true : tie.Need-slice-aggregate-gate-true Inv-loop2 μ-loop2 Inv-loop μ-loop
-slice-aggregate-gate-true c = sym (evaluated-long (c .before .before .before .before .loop2 .inv))
+mul-gate-true : tie.Need-mul-gate-true Inv-loop2 μ-loop2 Inv-loop μ-loop
+mul-gate-true c = record { fits = omega (arith, gate-inside (c .before .before)) }
+
+slice-aggregate-gate-true-2 : tie.Need-slice-aggregate-gate-true-2 Inv-loop2 μ-loop2 Inv-loop μ-loop
+slice-aggregate-gate-true-2 c = sym (evaluated-long (c .before .before .before .before .before .loop2 .inv))
 
 gate-true-requires : tie.Need-gate-true-requires Inv-loop2 μ-loop2 Inv-loop μ-loop
 gate-true-requires c κs =
-    let at = c .before .before .before in
+    let at = c .before .before .before .before in
     let tabled = turn at .before .loop .inv in
-    gate-readable _ _ (tabled .sound) (tabled .same) _ _ (tabled .joint) (evaluated-long (at .before .loop2 .inv)) _ (at .loop2-test .taken)
+    let taken = at .loop2-test .taken in (
+      row-in (rowed (turn at .before) .input-rows .ensures) (gates-most _ (tabled .sound)) taken,
+      gate-readable _ _ (tabled .sound) (tabled .same) _ _ (tabled .joint) (evaluated-long (at .before .loop2 .inv)) _ taken,
+    )
 
 array-write-truths : tie.Need-array-write-truths Inv-loop2 μ-loop2 Inv-loop μ-loop
-array-write-truths c = gate-inside (c .before .before .before .before)
+array-write-truths c = gate-inside (c .before .before .before .before .before)
 
 add-i : tie.Need-add-i Inv-loop2 μ-loop2 Inv-loop μ-loop
 add-i c = omega arith
 
 loop2-less : tie.Need-loop2-less Inv-loop2 μ-loop2 Inv-loop μ-loop
-loop2-less c = omega (arith, c .before .before .before .before .loop2-test .taken)
+loop2-less c = omega (arith, c .before .before .before .before .before .loop2-test .taken)
 
 loop2-again : tie.Need-loop2-again Inv-loop2 μ-loop2 Inv-loop μ-loop
 loop2-again c =
-    let at = c .before .before .before .before in
+    let at = c .before .before .before .before .before in
     evaluated-more (at .before .loop2 .inv) (at .loop2-test .taken) (c .gate-true .ensures)
 
 slice-aggregate-class-by : tie.Need-slice-aggregate-class-by Inv-loop2 μ-loop2 Inv-loop μ-loop
@@ -131,7 +145,7 @@ loop-again c =
 same-length : tie.Need-same-length Inv-loop2 μ-loop2 Inv-loop μ-loop
 same-length c =
     let at = c .before in
-    at .loop .inv .joint .long ∙ sym (start (at .before .before .before) .pre .joint .long)
+    at .loop .inv .joint .long ∙ sym (start (rowed at .before) .pre .joint .long)
 
 returns : tie.Need-returns Inv-loop2 μ-loop2 Inv-loop μ-loop
 returns c = tabled-done (c .before .loop .inv) (c .loop-test .left)
@@ -145,6 +159,7 @@ fill-table-spec =
     Inv-loop
     μ-loop
     (λ c. search needs)
+    input-rows-requires
     joint-states-requires
     cast-joint
     cleared-table-requires
@@ -153,7 +168,9 @@ fill-table-spec =
     loop2-holds
     mul-g
     array-copy-out-g
-    slice-aggregate-gate-true
+    (λ c. search needs)
+    mul-gate-true
+    slice-aggregate-gate-true-2
     gate-true-requires
     array-write-truths
     add-i
