@@ -28,17 +28,17 @@ module _ {g : Gate} {rows rows′ : List ℕ} {at : ℕ} (wrote : RowPut g rows 
   fits : at + length (inputRow g) ≤ length rows
   fits = omega (arith, room, row-long)
 
-  pub row-size : length rows′ ≡ length rows
+  row-size : length rows′ ≡ length rows
   row-size = put-size rows rows′ at (inputRow g) fits (wrote .holds)
 
-  pub row-before : (k : ℕ) → k < at → getD rows′ k 0 ≡ getD rows k 0
+  row-before : (k : ℕ) → k < at → getD rows′ k 0 ≡ getD rows k 0
   row-before k h = rw (wrote .holds) (getD-put-before rows at (inputRow g) k fits h)
 
   -- place k of the row
   row-at : (k : ℕ) → k < rowPlaces → getD rows′ (at + k) 0 ≡ getD (inputRow g) k 0
   row-at k h = rw (wrote .holds) (getD-put-at rows at (inputRow g) k fits (omega (arith, h, row-long)))
 
-  pub row-of : RowOf g rows′ at
+  row-of : RowOf g rows′ at
   row-of = record { component = component; mask = mask; input = input }
     where
       component : (j : ℕ) → j < mostTests → getD rows′ (at + j) 0 ≡ getD (g .component) j 0
