@@ -20,7 +20,8 @@ pub const ROW_PLACES: usize = INPUTS + INPUT_PLACES;
 
 pub const ROWS_PLACES: usize = GATE_PLACES * ROW_PLACES;
 
-fn no_rows() -> [u8; ROWS_PLACES]
+// Room for the rows of all gates.
+pub fn no_rows() -> [u8; ROWS_PLACES]
     ensures { λ r. ⌜ rowsPlaces ≡ length r ⌝ }
 {
     [0; ROWS_PLACES]
@@ -39,17 +40,16 @@ fn put_row(rows: &mut [u8], at: usize, g: Gate)
     copy(rows, inputs, &input);
 }
 
-// The rows of the first n gates.
-pub fn input_rows(gate: [Gate; GATE_PLACES], n: usize) -> [u8; ROWS_PLACES]
+// Writes the rows of the first n gates.
+pub fn put_rows(rows: &mut [u8], gate: [Gate; GATE_PLACES], n: usize)
     requires { ⌜ n ≤ mostGates ⌝ }
-    ensures { λ r. ⌜ RowsOf gate n r ⌝ }
+    requires { ⌜ rowsPlaces ≡ length (now rows) ⌝ }
+    ensures { λ r. ⌜ RowsOf gate n (now (rows .exit)) ⌝ }
 {
-    let mut rows = no_rows();
     let mut i: usize = 0;
     while i < n {
         let g = gate[i];
-        put_row(&mut rows, i * ROW_PLACES, g);
+        put_row(rows, i * ROW_PLACES, g);
         i = i + 1;
     }
-    rows
 }

@@ -1,7 +1,8 @@
 // The classes of all joint states.
 use crate::class::class_by;
 use crate::rows::ROW_PLACES;
-use crate::rows::input_rows;
+use crate::rows::no_rows;
+use crate::rows::put_rows;
 use crate::truth::gate_true;
 use crate::truth::no_truths;
 use entries::Class;
@@ -39,7 +40,8 @@ fn fill_table(t: Study, counts: &[u8], x: &mut [u8]) -> [Class; JOINT_STATE_PLAC
     let gate = t.gate;
     let load = t.load;
     let gates = t.gates as usize;
-    let rows = input_rows(gate, gates);
+    let mut rows = no_rows();
+    put_rows(&mut rows, gate, gates);
     let joint = joint_states(counts) as usize;
     let mut table = cleared_table();
     let mut k: usize = 0;

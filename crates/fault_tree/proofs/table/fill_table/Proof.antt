@@ -33,8 +33,11 @@ abbrev start : tie.After-struct-known Inv-loop2 μ-loop2 Inv-loop μ-loop → ti
 start c = c .before .before .before .before .before
 
 -- the rows of inputs, from the first turn on
-abbrev rowed : tie.At-loop Inv-loop2 μ-loop2 Inv-loop μ-loop → tie.After-input-rows Inv-loop2 μ-loop2 Inv-loop μ-loop
-rowed c = c .before .before .before
+abbrev rowed : tie.At-loop Inv-loop2 μ-loop2 Inv-loop μ-loop → tie.After-put-rows Inv-loop2 μ-loop2 Inv-loop μ-loop
+rowed c = c .before .before .before .before
+
+abbrev begun : tie.After-put-rows Inv-loop2 μ-loop2 Inv-loop μ-loop → tie.Start Inv-loop2 μ-loop2 Inv-loop μ-loop
+begun c = start (c .before .before .before)
 
 -- from a gate to its joint state, from the last gate, and from the end of the turn to the last gate
 abbrev turn : tie.In-loop2 Inv-loop2 μ-loop2 Inv-loop μ-loop → tie.In-loop Inv-loop2 μ-loop2 Inv-loop μ-loop
@@ -51,24 +54,24 @@ gate-inside c = omega (arith, gates-most _ (turn c .before .loop .inv .sound), c
 
 -- ---- the needs
 
-input-rows-requires : tie.Need-input-rows-requires Inv-loop2 μ-loop2 Inv-loop μ-loop
-input-rows-requires c κs = gates-most _ (start c .pre .sound)
+put-rows-requires : tie.Need-put-rows-requires Inv-loop2 μ-loop2 Inv-loop μ-loop
+put-rows-requires c κs = (gates-most _ (start (c .before .before) .pre .sound), c .before .no-rows .ensures)
 
 joint-states-requires : tie.Need-joint-states-requires Inv-loop2 μ-loop2 Inv-loop μ-loop
 joint-states-requires c κs =
-    let b = start (c .before) .pre in
+    let b = begun (c .before) .pre in
     (counts-inside _ _ (b .sound) (b .same), counts-small _ _ (b .sound) (b .same))
 
 cast-joint : tie.Need-cast-joint Inv-loop2 μ-loop2 Inv-loop μ-loop
 cast-joint c =
-    let b = start (c .before .before) .pre in
+    let b = begun (c .before .before) .pre in
     record { fits = omega (arith, c .joint-states .ensures, ap product (b .same), joint-most _ (b .sound)) }
 
 cleared-table-requires : tie.Need-cleared-table-requires Inv-loop2 μ-loop2 Inv-loop μ-loop
 cleared-table-requires c κs = tt
 
 loop-holds : tie.Need-loop-holds Inv-loop2 μ-loop2 Inv-loop μ-loop
-loop-holds c = tabled-start (start (c .before .before .before) .pre) (c .before .joint-states .ensures) (c .cleared-table .ensures)
+loop-holds c = tabled-start (begun (c .before .before .before) .pre) (c .before .joint-states .ensures) (c .cleared-table .ensures)
 
 no-truths-requires : tie.Need-no-truths-requires Inv-loop2 μ-loop2 Inv-loop μ-loop
 no-truths-requires c κs = tt
@@ -93,7 +96,7 @@ gate-true-requires c κs =
     let at = c .before .before .before .before in
     let tabled = turn at .before .loop .inv in
     let taken = at .loop2-test .taken in (
-      row-in (rowed (turn at .before) .input-rows .ensures) (gates-most _ (tabled .sound)) taken,
+      row-in (rowed (turn at .before) .put-rows .ensures) (gates-most _ (tabled .sound)) taken,
       gate-readable _ _ (tabled .sound) (tabled .same) _ _ (tabled .joint) (evaluated-long (at .before .loop2 .inv)) _ taken,
     )
 
@@ -145,7 +148,7 @@ loop-again c =
 same-length : tie.Need-same-length Inv-loop2 μ-loop2 Inv-loop μ-loop
 same-length c =
     let at = c .before in
-    at .loop .inv .joint .long ∙ sym (start (rowed at .before) .pre .joint .long)
+    at .loop .inv .joint .long ∙ sym (begun (rowed at) .pre .joint .long)
 
 returns : tie.Need-returns Inv-loop2 μ-loop2 Inv-loop μ-loop
 returns c = tabled-done (c .before .loop .inv) (c .loop-test .left)
@@ -159,7 +162,9 @@ fill-table-spec =
     Inv-loop
     μ-loop
     (λ c. search needs)
-    input-rows-requires
+    (λ c κs. search needs)
+    (λ c. search needs)
+    put-rows-requires
     joint-states-requires
     cast-joint
     cleared-table-requires
