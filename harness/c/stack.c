@@ -20,7 +20,7 @@
 #define PAINT 0xA5
 
 /* What the bounds of classes and loads and the figures may need: they hold no list of paths, which alone would be more. */
-#define TOTALS_LIMIT 16384
+#define TOTALS_LIMIT 20480
 
 #define NO_LIMIT STACK_BYTES
 
