@@ -58,7 +58,8 @@ int64_t grid_list_paths(const uint8_t *study, size_t study_len, uint8_t *buffer,
 /* Writes the bounds of each path, in units of a billionth, at the front of both slices. Answers the number of paths. Refused by 16, 18. */
 int64_t grid_path_bounds(const uint8_t *study, size_t study_len, uint64_t *lower, size_t lower_len, uint64_t *upper, size_t upper_len);
 
-/* Writes the bounds of each class at places 0 to 255 of both slices, 0 for a class that does not occur. Answers 0. Refused by 16, 18. */
+/* Writes the bounds of each class at places 0 to 255 of both slices, whatever stood there; 0 for a class that does not occur. Answers 0. Refused
+ * by 16, 18. */
 int64_t grid_class_bounds(const uint8_t *study, size_t study_len, uint64_t *lower, size_t lower_len, uint64_t *upper, size_t upper_len);
 
 /* Writes the bounds for the loss of a load. Answers 0. Refused by 16, 17. */

@@ -144,7 +144,8 @@ pub record SameAt (k : ℕ) (lower upper lower′ upper′ : List ℕ) : Type 0 
   pub lowers : getD lower k 0 ≡ getD lower′ k 0
   pub uppers : getD upper k 0 ≡ getD upper′ k 0
 
--- What stood in the slices before does not matter: two pairs that the call is lent for a study, one full of the largest number and one cleared, say, end alike in the places of classes.
+-- What stood in the slices before does not matter: two pairs that the call is lent for a study, one full of the largest number and one cleared,
+-- say, end alike in the places of classes.
 abbrev pub ClassBoundsAlike : Type 0
 ClassBoundsAlike =
     (t : Study) (lower upper lower′ upper′ : List ℕ) → classesBounded t lower upper ≡ Done → classesBounded t lower′ upper′ ≡ Done → (c : ℕ) → c < classPlaces

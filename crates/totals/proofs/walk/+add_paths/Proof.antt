@@ -8,6 +8,7 @@ use borrow.Fn.Kinds.{In, Out}
 use borrow.Fn.PlainCycle.{Measures, is, falls, and}
 use Rattle.units.specs.One.{one}
 use Rattle.units.specs.Rounding.{down, up}
+use Rattle.rules.specs.Limits.{mostComponents}
 use Rattle.event_tree.proofs.Fork.{one-class, fork, fork-fewer, fork-most, fork-inside, fork-block}
 use Rattle.totals.specs.Places.{sumsMost}
 use Rattle.totals.specs.Walk.{Reached}
@@ -75,7 +76,7 @@ module _ (t : ℕ) where
   taken c = c .before .before .if2 .taken
 
   -- component i is one of the components
-  inside : (c : here lts.After-part) → begun (turn c) .args .i < 12
+  inside : (c : here lts.After-part) → begun (turn c) .args .i < mostComponents
   inside c = omega (arith, reached c .few, turn c .loop .inv .0 .fork .some)
 
   -- the call in the loop, and what it was given, from behind it
