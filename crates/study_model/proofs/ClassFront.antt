@@ -13,6 +13,7 @@ use Rattle.study.specs.Joint.{stateCounts}
 use Rattle.soundness.specs.Sound.{Sound}
 use Rattle.soundness.proofs.Ranges.{joint-most}
 use Rattle.fault_tree.specs.Classes.{classes, classTable}
+use Rattle.fault_tree.proofs.SoundReadable.{counts-inside, counts-small}
 use Rattle.fault_tree.proofs.Tables.{table-front}
 use Rattle.paths.specs.Blocks.{Listable}
 use Rattle.paths.specs.Paths.{paths}
@@ -20,7 +21,6 @@ use Rattle.model.specs.Model.{components, classesOf, pathsOf, probabilityTable}
 use Rattle.model.proofs.Classes.{classes-long, class-at, good-listable}
 use Rattle.study_model.specs.Model.{modelOf, modelBy}
 use Rattle.study_model.proofs.Good.{by-good}
-use Rattle.study_model.proofs.InUse.{counts-small}
 
 module _ {t : Study} (table : List ℕ) (sound : Sound t) (room : mostJointStates ≤ length table) where
   front-inside : product (stateCounts t) ≤ length table
@@ -66,8 +66,7 @@ pub record Cut (t : Study) (table counts block : List ℕ) : Type 0 where
 pub cut-inside : {t : Study} (table counts : List ℕ) → Sound t → mostJointStates ≤ length table → counts ≡ stateCounts t
     → (length counts ≤ mostComponents) × (((k : ℕ) → k < length counts → getD counts k 0 ≤ mostStates) × (product counts ≤ length table))
 cut-inside {t} table counts sound room e =
-    let small = counts-small sound counts e in
-    (small .0, (small .1, rw e (front-inside table sound room)))
+    (counts-inside t counts sound e, (counts-small t counts sound e, rw e (front-inside table sound room)))
 
 module _ {t : Study} {table counts block : List ℕ} (cut : Cut t table counts block) where
   cut-is : block ≡ classesOf (modelBy t table)

@@ -1,5 +1,6 @@
 // The totals of a sound study's paths under a class table.
 use crate::block::class_block;
+use crate::block::counts_in_use;
 use crate::probabilities::study_probabilities;
 use entries::Class;
 use probability::first_components;
@@ -34,7 +35,7 @@ pub fn add_study_paths(
     let component = t.component;
     let n = t.components as usize;
     let all = state_counts(component);
-    let counts = &all[..n];
+    let counts = counts_in_use(t, &all);
     let table = study_probabilities(t);
     add_totals(
         loadwise,

@@ -1,5 +1,6 @@
 // The list of a sound study's paths under a class table: in a lent buffer, and in one that has room for any list.
 use crate::block::class_block;
+use crate::block::counts_in_use;
 use answers::Listing;
 use entries::Class;
 use study::Study;
@@ -23,9 +24,8 @@ pub fn list_lent(t: Study, classes: &[Class], buffer: &mut [u8]) -> Listing
     ensures buffer { λ r. ⌜ now (buffer .exit) ≡ bufferIn (pathsOf (modelBy t (now (classes .entry)))) (now (buffer .entry)) ⌝ }
 {
     let component = t.component;
-    let n = t.components as usize;
     let all = state_counts(component);
-    let counts = &all[..n];
+    let counts = counts_in_use(t, &all);
     event_tree::list_lent(counts, class_block(counts, classes), buffer)
 }
 

@@ -1,4 +1,5 @@
--- Laws of values at the first places of a lent slice. What carries a loop that sets them one by one: those below j are set.
+-- Laws of values at the first places of a lent slice. What carries a loop that sets them one by one: those below j are set, and those ahead are still as
+-- they were, so that a loop may read what it adds to.
 use Prim.Native.Nat.{ℕ, _+_, _<_, _≤_}
 use mathlib.Core.Path.{_≡_, refl, sym, subst, _∙_}
 use mathlib.Core.Bool.{Bool, true, false}

@@ -1,40 +1,24 @@
 -- `study_model::adding::add_study_paths` meets its contract: the slices hold the state counts, the classes and the probabilities of the model (`Slices`).
-use mathlib.Core.Path.{_≡_, sym, ap, _∙_}
-use lib.ListN.{length, take}
-use lib.Seq.{length-take-le}
+use mathlib.Core.Path.{_∙_}
 use denote.Ref.{now}
-use Rattle.rules.specs.Limits.{mostComponents}
-use Rattle.study.specs.Joint.{stateCounts}
 use Rattle.study_model.proofs.ClassFront.{cut-inside}
-use Rattle.study_model.proofs.InUse.{in-use, fours-in-use}
+use Rattle.study_model.proofs.InUse.{fours-in-use}
 use Rattle.study_model.proofs.Reached.{Slices, slices-reached, slices-bring}
 use borrow.Author.Needs.{needs}
 use Rattle.study_model.proofs.adding.add_study_paths.Statement.{statement}
 use Rattle.study_model.proofs.adding.add_study_paths.Tie as tie
 
-abbrev start : tie.After-state-counts → tie.Start
-start c = c .before .before .before .before .before .before
+abbrev start : tie.After-counts-in-use → tie.Start
+start c = c .before .before .before .before .before .before .before .before
 
 -- the state counts, from behind the classes
-abbrev counted : tie.After-class-block → tie.After-state-counts
-counted c = c .before .before .before
-
-counts-are : (c : tie.After-state-counts) → take (start c .args .t .components) (c .state-counts .result) ≡ stateCounts (start c .args .t)
-counts-are c = ap (take (start c .args .t .components)) (c .state-counts .ensures)
-
-array-share-prefix-all : tie.Need-array-share-prefix-all
-array-share-prefix-all c =
-    let twelve : length (c .state-counts .result) ≡ mostComponents = search needs in
-    in-use (start c .pre .0) twelve
-
-slice-aggregate-counts : tie.Need-slice-aggregate-counts
-slice-aggregate-counts c = sym (length-take-le _ _ (array-share-prefix-all (c .before)))
+abbrev counted : tie.After-class-block → tie.After-counts-in-use
+counted c = c .before .before
 
 class-block-requires : tie.Need-class-block-requires
 class-block-requires c κs =
-    let counts = c .before .before in
-    let begin = start counts in
-    cut-inside (now (begin .args .classes)) _ (begin .pre .0) (begin .pre .1 .0) (counts-are counts)
+    let begin = start (c .before) in
+    cut-inside (now (begin .args .classes)) _ (begin .pre .0) (begin .pre .1 .0) (c .before .counts-in-use .ensures)
 
 first-components-requires : tie.Need-first-components-requires
 first-components-requires c κs = fours-in-use (start (counted (c .before)) .pre .0) (search needs)
@@ -43,13 +27,12 @@ first-components-requires c κs = fours-in-use (start (counted (c .before)) .pre
 slices : (c : tie.After-first-components)
     → let block = c .before .before in
     let args = start (counted block) .args in
-    Slices (args .t) (now (args .classes)) (take (args .t .components) (counted block .state-counts .result)) (now (block .class-block .result))
-    (now (c .first-components .result))
+    Slices (args .t) (now (args .classes)) (now (counted block .counts-in-use .result)) (now (block .class-block .result)) (now (c .first-components .result))
 slices c =
     let block = c .before .before in
     let pre = start (counted block) .pre in
     record {
-      cut = record { sound = pre .0; room = pre .1 .0; is-counts = counts-are (counted block); is-block = block .class-block .ensures };
+      cut = record { sound = pre .0; room = pre .1 .0; is-counts = counted block .counts-in-use .ensures; is-block = block .class-block .ensures };
       is-table = c .first-components .ensures ∙ block .before .study-probabilities .ensures;
     }
 
@@ -70,8 +53,8 @@ add-study-paths-spec =
     (tie.spec
     (λ c. search needs)
     (λ c κs. search needs)
-    array-share-prefix-all
-    slice-aggregate-counts
+    (λ c. search needs)
+    (λ c κs. search needs)
     (λ c κs. search needs)
     class-block-requires
     (λ c. search needs)
