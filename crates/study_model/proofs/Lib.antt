@@ -1,6 +1,5 @@
 pub mod ClassFront
 pub mod Good
-pub mod InUse
 pub mod ListRoom
 pub mod Reached
 pub mod Table

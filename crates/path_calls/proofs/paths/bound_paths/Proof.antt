@@ -14,8 +14,7 @@ use Rattle.model.specs.Model.{pathsOf}
 use Rattle.probability.specs.Totals.{lowerBounds, upperBounds}
 use Rattle.study_model.specs.Model.{modelOf, modelBy}
 use Rattle.study_model.proofs.ClassFront.{table-paths, table-values}
-use Rattle.study_model.proofs.InUse.{fours-in-use}
-use Rattle.study_model.proofs.Table.{study-held}
+use Rattle.study_model.proofs.Table.{front-inside, study-held}
 use Rattle.evaluation.proofs.Bounding.{held-boundable, held-values}
 use Rattle.path_calls.specs.Bounds.{pairRoom, pairFault}
 use Rattle.path_calls.proofs.Judged.{pair-room}
@@ -72,7 +71,7 @@ returns c =
     rw (← fault-is (c .before)) (sym (answered-refused Refused _ _ taken), (sym (filled-refused _ _ _ taken), sym (filled-refused _ _ _ taken)))
 
 first-components-requires : tie.Need-first-components-requires
-first-components-requires c κs = fours-in-use (begun (c .before .before .before .before) .pre) (search needs)
+first-components-requires c κs = front-inside (begun (c .before .before .before .before) .pre) (search needs)
 
 write-paths-requires : tie.Need-write-paths-requires
 write-paths-requires c κs =

@@ -8,8 +8,7 @@ use Rattle.lists.proofs.Maps.{mapped}
 use Rattle.rules.specs.Limits.{mostComponents, mostJointStates}
 use Rattle.model.specs.Held.{HeldOf}
 use Rattle.study_model.specs.Model.{modelBy}
-use Rattle.study_model.proofs.InUse.{fours-in-use}
-use Rattle.study_model.proofs.Table.{study-held}
+use Rattle.study_model.proofs.Table.{front-inside, study-held}
 use Rattle.report_text.proofs.Opened.{table-text}
 use borrow.Author.Needs.{needs}
 use Rattle.report_text.proofs.reporting.sound_text.Statement.{statement}
@@ -45,7 +44,7 @@ held c =
 first-components-requires : tie.Need-first-components-requires
 first-components-requires c κs =
     let call = c .before .before .before .before .before in
-    fours-in-use (start (tabled call) .pre .0) (search needs)
+    front-inside (start (tabled call) .pre .0) (search needs)
 
 model-text-requires : tie.Need-model-text-requires
 model-text-requires c κs =

@@ -2,7 +2,7 @@
 use mathlib.Core.Path.{_∙_}
 use denote.Ref.{now}
 use Rattle.study_model.proofs.ClassFront.{cut-inside}
-use Rattle.study_model.proofs.InUse.{fours-in-use}
+use Rattle.study_model.proofs.Table.{front-inside}
 use Rattle.study_model.proofs.Reached.{Slices, slices-reached, slices-bring}
 use borrow.Author.Needs.{needs}
 use Rattle.study_model.proofs.adding.add_study_paths.Statement.{statement}
@@ -21,7 +21,7 @@ class-block-requires c κs =
     cut-inside (now (begin .args .classes)) _ (begin .pre .0) (begin .pre .1 .0) (c .before .counts-in-use .ensures)
 
 first-components-requires : tie.Need-first-components-requires
-first-components-requires c κs = fours-in-use (start (counted (c .before)) .pre .0) (search needs)
+first-components-requires c κs = front-inside (start (counted (c .before)) .pre .0) (search needs)
 
 -- what is handed on
 slices : (c : tie.After-first-components)
