@@ -8,14 +8,23 @@ use harness::reference::calls as reference;
 /// No bound is as large.
 const LARGEST: u64 = u64::MAX;
 
+/// Places for the bounds of any study, and one behind them in the slice for upper ones.
+const ENOUGH: [usize; 2] = [CLASS_PLACES, CLASS_PLACES + 1];
+
 /// Slices for lower and upper bounds.
 type Slices = [Lent<u64>; 2];
 
 impl Pair<'_> {
     pub fn class_bounds(&mut self, random: &mut Random, image: &[u8]) {
         let image = &shown(random, image);
-        let rooms = two_rooms(random, CLASS_PLACES);
-        self.bound_classes(image, rooms.map(|room| Lent::words(random, room)));
+        for rooms in [two_rooms(random, CLASS_PLACES), ENOUGH] {
+            self.bound_classes(image, rooms.map(|room| Lent::words(random, room)));
+            self.overwrite(random, image, rooms);
+        }
+    }
+
+    /// Slices of so many places full of the largest number, beside cleared ones.
+    fn overwrite(&mut self, random: &mut Random, image: &Lent<u8>, rooms: [usize; 2]) {
         let [full, cleared] = [LARGEST, 0].map(|number| {
             let slices = rooms.map(|room| Lent::full_of(number, random, room));
             self.bound_classes(image, slices)
