@@ -1,6 +1,6 @@
 -- The refusal table: each row once, on plain numbers, with its number and its rule.
-use Prim.Native.Nat.{ℕ, _+_, _-_, _^_}
-use mathlib.Core.Bool.{Bool, not}
+use Prim.Native.Nat.{ℕ, _+_, _-_, _/_, _^_}
+use mathlib.Core.Bool.{Bool, not, _||_}
 use lib.Dec.{ltb, leb, eqb}
 use Rattle.units.specs.One.{one}
 use Rattle.rules.specs.Limits.{fewestStates, mostStates, mostJointStates, never}
@@ -97,3 +97,19 @@ roomFault need room = refuse 18 (ltb room need)
 -- 19 no customers: the customers sum to 0
 abbrev pub customersFault : ℕ → ℕ
 customersFault sum = refuse 19 (eqb sum 0)
+
+-- 20 node: a drawn tree asks a component that is not in the study, or one that it asks already above
+abbrev pub nodeFault : ℕ → ℕ → Bool → ℕ
+nodeFault components component asked = refuse 20 (leb components component || asked)
+
+-- 21 bad end: the bytes of a drawn tree end inside it
+abbrev pub badEnd : ℕ
+badEnd = 21
+
+-- 21 too: so many bytes follow it
+abbrev pub behindFault : ℕ → ℕ
+behindFault bytes = refuse badEnd (ltb 0 bytes)
+
+-- 22 leaf: a class with a bit at or above the load count
+abbrev pub leafFault : ℕ → ℕ → ℕ
+leafFault loads class = refuse 22 (ltb 0 (class / 2 ^ loads))

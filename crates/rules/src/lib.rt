@@ -1,4 +1,4 @@
-// The refusal table in code: each rule of the study format once, as the number of its row where it is broken and 0 where it is kept.
+// The refusal table in code: each rule of studies and drawn trees once, as the number of its row where it is broken and 0 where it is kept.
 // Opening, the soundness check and the edits all refuse by these. Not for callers from outside: those call `planning`.
 mod breach;
 mod limits;
@@ -8,6 +8,7 @@ pub use breach::first;
 pub use breach::first_of_four;
 pub use breach::first_of_three;
 pub use breach::in_use;
+pub use limits::BAD_END;
 pub use limits::COMPONENT_MAPS;
 pub use limits::COMPONENT_PLACES;
 pub use limits::GATE_MAPS;
@@ -29,18 +30,21 @@ pub use limits::SHORT;
 pub use limits::STATE_PLACES;
 pub use limits::TEST_PLACES;
 pub use table::ahead_fault;
+pub use table::behind_fault;
 pub use table::count_fault;
 pub use table::customers_fault;
 pub use table::input_count_fault;
 pub use table::inputs_fault;
 pub use table::item_fault;
 pub use table::lacked_state_fault;
+pub use table::leaf_fault;
 pub use table::left_fault;
 pub use table::loss_gate_fault;
 pub use table::mask_fault;
 pub use table::no_component_fault;
 pub use table::no_gate_fault;
 pub use table::no_state_fault;
+pub use table::node_fault;
 pub use table::room_fault;
 pub use table::size_fault;
 pub use table::states_fault;

@@ -53,3 +53,6 @@ pub const LONGEST_STUDY: usize = 2023;
 
 // Row 1: the bytes end inside or before a due field.
 pub const SHORT: u8 = 1;
+
+// Row 21: the bytes of a drawn tree end inside it.
+pub const BAD_END: u8 = 21;

@@ -2,15 +2,18 @@
 use crate::breach::refuse;
 use crate::breach::refuse_outside;
 use crate::breach::unless_absent;
+use crate::limits::BAD_END;
 use crate::limits::FEWEST_STATES;
 use crate::limits::MASK_BITS;
 use crate::limits::MOST_JOINT_STATES;
 use crate::limits::MOST_STATES;
 use crate::limits::NEVER;
+ghost use Prim.Native.Nat.{_≤_};
 ghost use mathlib.Core.Path.{_≡_};
+ghost use Rattle.rules.specs.Limits.{mostLoads};
 ghost use Rattle.rules.specs.Table.{countFault, strayFault, statesFault, noStateFault, sumFault, widthFault, inputsFault};
 ghost use Rattle.rules.specs.Table.{noComponentFault, maskFault, aheadFault, thresholdFault, noGateFault, sizeFault, leftFault};
-ghost use Rattle.rules.specs.Table.{unsoundFault, unusedFault, itemFault, roomFault, customersFault};
+ghost use Rattle.rules.specs.Table.{unsoundFault, unusedFault, itemFault, roomFault, customersFault, nodeFault, behindFault, leafFault};
 ghost use Rattle.rules.specs.Table.{lackedStateFault, inputCountFault, lossGateFault};
 
 // 2 counts
@@ -168,4 +171,29 @@ pub fn customers_fault(sum: u64) -> u8
     ensures { λ r. ⌜ r ≡ customersFault sum ⌝ }
 {
     refuse(19, sum == 0)
+}
+
+// 20 node
+pub fn node_fault(components: usize, component: u8, asked: bool) -> u8
+    ensures { λ r. ⌜ r ≡ nodeFault components component asked ⌝ }
+{
+    if components <= component as usize {
+        return refuse(20, true);
+    }
+    refuse(20, asked)
+}
+
+// 21 bad end, where bytes follow the tree
+pub fn behind_fault(bytes: usize) -> u8
+    ensures { λ r. ⌜ r ≡ behindFault bytes ⌝ }
+{
+    refuse(BAD_END, 0 < bytes)
+}
+
+// 22 leaf
+pub fn leaf_fault(loads: u8, class: u32) -> u8
+    requires { ⌜ loads ≤ mostLoads ⌝ }
+    ensures { λ r. ⌜ r ≡ leafFault loads class ⌝ }
+{
+    refuse(22, 0 < class >> loads)
 }
