@@ -25,10 +25,10 @@ beyond n zero none some = some
 beyond n (suc k) none some = omega (arith, beyond n k (none .0) some, none .1)
 
 -- a number that has no word
-pub no-word : (n : ℕ) → NoneOf n 19 → [] ≡ refusalWord n
+pub no-word : (n : ℕ) → NoneOf n 22 → [] ≡ refusalWord n
 unfolding refusalWord refusalWords
 no-word zero none = refl
-no-word (suc n) none = sym (List·getD-eq-default refusalWords [] {n = suc n} (beyond (suc n) 19 none (omega arith)))
+no-word (suc n) none = sym (List·getD-eq-default refusalWords [] {n = suc n} (beyond (suc n) 22 none (omega arith)))
 
 -- the length of the longest row
 unfoldable longest : List (List ℕ) → ℕ

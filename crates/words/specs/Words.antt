@@ -27,6 +27,9 @@ refusalWords =
     ∷ letters "no item"
     ∷ letters "no room"
     ∷ letters "no customers"
+    ∷ letters "node"
+    ∷ letters "bad end"
+    ∷ letters "leaf"
     ∷ []
 
 -- the word of a refusal

@@ -36,6 +36,9 @@ pub fn write_word(out: &mut [u8], at: usize, refusal: u8) -> usize
         17 => copy(out, at, b"no item"),
         18 => copy(out, at, b"no room"),
         19 => copy(out, at, b"no customers"),
+        20 => copy(out, at, b"node"),
+        21 => copy(out, at, b"bad end"),
+        22 => copy(out, at, b"leaf"),
         _ => at,
     }
 }

@@ -8,8 +8,8 @@ use borrow.Author.Needs.{needs}
 use Rattle.words.proofs.write_word.Statement.{statement}
 use Rattle.words.proofs.write_word.Tie as tie
 
-returns-20 : tie.Need-returns-20
-returns-20 c =
+returns-23 : tie.Need-returns-23
+returns-23 c =
     let start = c .before .before in
     let none = no-word (start .args .refusal) (c .match .rest) in
     rw (sym none) (wrote-none _ _ (omega (arith, (rw (sym none) at (start .pre)) .fits)))
@@ -58,6 +58,12 @@ write-word-spec =
     (λ c. search needs)
     (λ c κs. let arm = c .before .before in word-room (arm .match .keys19) refl (arm .before .before .pre))
     (λ c. search needs)
+    (λ c κs. let arm = c .before .before in word-room (arm .match .keys20) refl (arm .before .before .pre))
+    (λ c. search needs)
+    (λ c κs. let arm = c .before .before in word-room (arm .match .keys21) refl (arm .before .before .pre))
+    (λ c. search needs)
+    (λ c κs. let arm = c .before .before in word-room (arm .match .keys22) refl (arm .before .before .pre))
+    (λ c. search needs)
     (λ c. word-wrote (c .before .before .before .before .before .match .keys1) refl (search))
     (λ c. search needs)
     (λ c. word-wrote (c .before .before .before .before .before .match .keys2) refl (search))
@@ -95,4 +101,10 @@ write-word-spec =
     (λ c. word-wrote (c .before .before .before .before .before .match .keys18) refl (search))
     (λ c. search needs)
     (λ c. word-wrote (c .before .before .before .before .before .match .keys19) refl (search))
-    returns-20)
+    (λ c. search needs)
+    (λ c. word-wrote (c .before .before .before .before .before .match .keys20) refl (search))
+    (λ c. search needs)
+    (λ c. word-wrote (c .before .before .before .before .before .match .keys21) refl (search))
+    (λ c. search needs)
+    (λ c. word-wrote (c .before .before .before .before .before .match .keys22) refl (search))
+    returns-23)
