@@ -8,15 +8,19 @@ use native.Mathlib.Omega.{arith}
 use lib.ListN.{length, getD, drop, drop-of-length-le, length-drop}
 use lib.Seq.{drop-cons}
 use Rattle.rules.specs.Table.{short}
-use Rattle.reading.specs.Reader.{got, refused, byte, word, numberAt}
+use Rattle.reading.specs.Reader.{got, refused, byteOr, byte, word, numberAt}
 
-pub byte-got : (s : List ℕ) (at : ℕ) → at < length s → byte (drop at s) ≡ got (getD s at 0) (drop (at + 1) s)
-unfolding byte
-byte-got s at h = rw (drop-cons s at 0 h, add-one)
+pub byte-or-got : (end : ℕ) (s : List ℕ) (at : ℕ) → at < length s → byteOr end (drop at s) ≡ got (getD s at 0) (drop (at + 1) s)
+unfolding byteOr
+byte-or-got end s at h = rw (drop-cons s at 0 h, add-one)
 
-pub byte-short : (s : List ℕ) (at : ℕ) → length s ≤ at → byte (drop at s) ≡ refused short
+pub byte-or-ended : (end : ℕ) (s : List ℕ) (at : ℕ) → length s ≤ at → byteOr end (drop at s) ≡ refused end
+unfolding byteOr
+byte-or-ended end s at h = rw (drop-of-length-le s h)
+
+byte-got : (s : List ℕ) (at : ℕ) → at < length s → byte (drop at s) ≡ got (getD s at 0) (drop (at + 1) s)
 unfolding byte
-byte-short s at h = rw (drop-of-length-le s h)
+byte-got = byte-or-got short
 
 pub word-got : (s : List ℕ) (at : ℕ) → at + 4 ≤ length s → word (drop at s) ≡ got (numberAt s at) (drop (at + 4) s)
 unfolding word

@@ -36,10 +36,15 @@ return a bytes = got a bytes
 abbrev pub judge : ℕ → Reader (Unit {0})
 judge breach bytes = cond (eqb breach 0) (got tt bytes) (refused breach)
 
--- one byte
+-- one byte; where none is left, a refusal by the row `end`
+unfoldable pub byteOr : ℕ → Reader ℕ
+byteOr end [] = refused end
+byteOr end (b ∷ rest) = got b rest
+
+-- one byte of a study
 unfoldable pub byte : Reader ℕ
-byte [] = refused short
-byte (b ∷ rest) = got b rest
+unfolding byteOr
+byte = byteOr short
 
 -- the number of four bytes, lowest byte first
 abbrev pub number : ℕ → ℕ → ℕ → ℕ → ℕ

@@ -6,7 +6,7 @@ ghost use lib.ListN.{length};
 ghost use lib.Count.{ones};
 ghost use Rattle.lists.specs.Bits.{digit};
 ghost use Rattle.reading.specs.Fields.{mapBits, BitLeft, mapByte};
-ghost use Rattle.reading.specs.Reader.{ReadsAt, ReadsWith, byte, word, number as Reader·number, numberAt};
+ghost use Rattle.reading.specs.Reader.{ReadsAt, ReadsWith, byteOr, byte, word, number as Reader·number, numberAt};
 
 pub struct ByteRead {
     pub refusal: u8,
@@ -20,9 +20,10 @@ pub struct WordRead {
     pub value: u32,
 }
 
-// The byte at a place.
-pub fn byte_at(bytes: &[u8], at: usize) -> ByteRead
-    ensures { λ r. ⌜ ReadsAt (now (bytes .entry)) at byte (r .refusal) (r .next) (r .value) ⌝ }
+// The byte at a place; where the bytes end before it, a refusal by the row `end`.
+pub fn byte_or(end: u8, bytes: &[u8], at: usize) -> ByteRead
+    requires { ⌜ 0 < end ⌝ }
+    ensures { λ r. ⌜ ReadsAt (now (bytes .entry)) at (byteOr end) (r .refusal) (r .next) (r .value) ⌝ }
 {
     if at < bytes.len() {
         return ByteRead {
@@ -32,10 +33,17 @@ pub fn byte_at(bytes: &[u8], at: usize) -> ByteRead
         };
     }
     ByteRead {
-        refusal: rules::SHORT,
+        refusal: end,
         next: at,
         value: 0,
     }
+}
+
+// The byte of a study at a place.
+pub fn byte_at(bytes: &[u8], at: usize) -> ByteRead
+    ensures { λ r. ⌜ ReadsAt (now (bytes .entry)) at byte (r .refusal) (r .next) (r .value) ⌝ }
+{
+    byte_or(rules::SHORT, bytes, at)
 }
 
 // The number of four bytes, lowest byte first.

@@ -82,7 +82,7 @@ answer-most n (got t []) h e = omega arith
 answer-most n (got t (b ∷ rest)) h e = absurd (not-both 15 (cc (left t b rest)))
 
 -- a front part that is longer than any study decides the whole answer
-front-decides : (rest : List ℕ) (r r′ : Read Study) → Stands rest r r′ → Ended ⊥ (longestStudy + 1) r → answer r ≡ answer r′
+front-decides : (rest : List ℕ) (r r′ : Read Study) → Stands short rest r r′ → Ended ⊥ (longestStudy + 1) r → answer r ≡ answer r′
 front-decides rest r r′ (inl e) h = absurd (subst (Ended ⊥ (longestStudy + 1)) e h .too-short refl)
 front-decides rest (refused m) r′ (inr e) h = ap answer (sym e)
 front-decides rest (got t []) r′ (inr e) h = absurd (omega arith)
