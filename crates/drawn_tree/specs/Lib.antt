@@ -1,0 +1,5 @@
+pub mod Drawn
+pub mod Filling
+pub mod Laws
+pub mod Reading
+pub mod Tree
