@@ -1,34 +1,21 @@
 -- What carries the comparison of a block's parts: those of the states below s are compared with that of state 0.
-use Prim.Native.Nat.{ℕ, suc, _+_, _*_, _<_, _≤_}
+use Prim.Native.Nat.{ℕ, _+_, _*_, _<_, _≤_}
 use mathlib.Core.Path.{_≡_, refl, sym, ap, _∙_}
 use mathlib.Core.Bool.{Bool, true, _&&_}
 use mathlib.Core.List.{List}
-use native.Mathlib.Nat.{mul-le-mul-right}
 use native.Mathlib.Numerals.{add-one}
 use native.Mathlib.Omega.{arith}
-use lib.ListN.{length, drop, length-drop}
-use lib.Seq.{length-take-le}
+use lib.ListN.{length}
 use Rattle.lists.specs.Counting.{allBelow}
 use Rattle.lists.specs.Rows.{same}
 use Rattle.lists.proofs.Tests.{true-same}
 use Rattle.paths.specs.Paths.{part, isBlank}
+use Rattle.paths.proofs.Sizes.{part-long}
 
 pub record Compared (states size : ℕ) (block : List ℕ) (s : ℕ) (blank : Bool) : Type 0 where
   pub inside : s ≤ states
   pub whole : length block ≡ states * size
   pub found : blank ≡ allBelow (λ (k : ℕ). same (part size 0 block) (part size k block)) s
-
--- the part of a state stands inside the block
-pub part-inside : (states size s n : ℕ) → n ≡ states * size → s < states → s * size + size ≤ n
-part-inside states size s n e h =
-    let room : suc s * size ≤ states * size = mul-le-mul-right size h in
-    omega (arith, room, e)
-
--- and has the classes that it should
-pub part-long : (states size s : ℕ) (block : List ℕ) → length block ≡ states * size → s < states → length (part size s block) ≡ size
-part-long states size s block e h =
-    let inside = part-inside states size s (length block) e h in
-    length-take-le size (drop (s * size) block) (rw (length-drop (s * size) block) (omega (arith, inside)))
 
 module _ {states size : ℕ} {block : List ℕ} where
   pub compared-start : 0 < states → length block ≡ states * size → Compared states size block 1 true

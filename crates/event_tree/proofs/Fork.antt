@@ -1,8 +1,8 @@
 -- The first component of a block, where paths go on: what the code holds of it, and the parts that its ways lead to.
-use Prim.Native.Nat.{ℕ, suc, _+_, _-_, _*_, _/_, _<_, _≤_}
+use Prim.Native.Nat.{ℕ, suc, _+_, _-_, _*_, _<_, _≤_}
 use mathlib.Core.Path.{_≡_, refl, sym, ap, _∙_}
 use mathlib.Core.List.{List, [], _∷_, _++_}
-use native.Mathlib.Nat.{mul-div-cancel-left, sub-zero}
+use native.Mathlib.Nat.{sub-zero}
 use native.Mathlib.Omega.{arith}
 use lib.ListN.{length, getD, take, drop, length-drop}
 use lib.Seq.{take-all, length-take-le}
@@ -13,30 +13,10 @@ use Rattle.entries.specs.Entries.{blankMark, entry}
 use Rattle.paths.specs.Paths.{part, isBlank, paths}
 use Rattle.paths.specs.Ways.{mark, ways, branches}
 use Rattle.paths.proofs.Parts.{part-block}
+use Rattle.paths.proofs.Sizes.{states-some, shares, part-inside}
 use Rattle.paths.proofs.Ways.{headed, ways-most, paths-branches}
 use Rattle.event_tree.specs.declared.blank.Ways.{Ways}
 use Rattle.event_tree.specs.Ways.{WaysAt}
-use Rattle.event_tree.proofs.Compared.{part-inside}
-
--- ---- the size of a part
-
-module _ (counts block : List ℕ) (b : Block counts block) (some : 0 < length counts) where
-  pub first-some : 0 < getD counts 0 0
-  first-some = b .some 0 some
-
-  shares : length block ≡ getD counts 0 0 * product (drop 1 counts)
-  unfolding product
-  shares = b .long ∙ split counts some
-    where
-      split : (l : List ℕ) → 0 < length l → product l ≡ getD l 0 0 * product (drop 1 l)
-      split [] h = absurd (omega arith)
-      split (c ∷ cs) h = refl
-
-  pub part-size : length block / getD counts 0 0 ≡ product (drop 1 counts)
-  part-size = ap (λ (n : ℕ). n / getD counts 0 0) shares ∙ mul-div-cancel-left (product (drop 1 counts)) first-some
-
-  pub whole-parts : length block ≡ getD counts 0 0 * (length block / getD counts 0 0)
-  whole-parts = rw part-size shares
 
 -- ---- no component is left
 
@@ -44,12 +24,6 @@ pub no-fork : (counts block : List ℕ) → length counts ≡ 0 → paths counts
 unfolding paths
 no-fork [] block e = refl
 no-fork (c ∷ cs) block e = absurd (omega (arith, e))
-
--- and the block has one class
-pub one-class : (counts block : List ℕ) → Block counts block → length counts ≡ 0 → length block ≡ 1
-unfolding product
-one-class [] block b e = b .long
-one-class (c ∷ cs) block b e = absurd (omega (arith, e))
 
 -- ---- the ways on
 
@@ -82,7 +56,7 @@ module _ {counts block : List ℕ} {w : Ways} {later : List ℕ} (f : Fork count
   -- a way on is a state of the component
   fork-state : {s : ℕ} → s < w .number → s < getD counts 0 0
   fork-state {s} h =
-      omega (arith, h, f .at .number, ways-most (w .blank) (getD counts 0 0) (first-some counts block (f .whole) (f .some)))
+      omega (arith, h, f .at .number, ways-most (w .blank) (getD counts 0 0) (states-some counts block (f .whole) (f .some)))
 
   -- no way is numbered as the blank mark
   pub fork-most : {s : ℕ} → s < w .number → s < blankMark

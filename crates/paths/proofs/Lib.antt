@@ -9,5 +9,6 @@ pub mod Need
 pub mod OnePath
 pub mod Parts
 pub mod Placed
+pub mod Sizes
 pub mod Tell
 pub mod Ways

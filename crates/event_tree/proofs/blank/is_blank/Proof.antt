@@ -1,7 +1,8 @@
 -- `event_tree::blank::is_blank` meets its contract. The parts of the states below s are compared with that of state 0 (`Compared`).
 use Prim.Native.Nat.{_-_}
 use native.Mathlib.Omega.{arith}
-use Rattle.event_tree.proofs.Compared.{Compared, part-inside, compared-start, compared-even, compared-more, compared-done}
+use Rattle.paths.proofs.Sizes.{part-inside}
+use Rattle.event_tree.proofs.Compared.{Compared, compared-start, compared-even, compared-more, compared-done}
 use Rattle.event_tree.proofs.blank.is_blank.Statement.{statement}
 use Rattle.event_tree.proofs.blank.is_blank.Tie as tie
 

@@ -1,6 +1,6 @@
 -- `event_tree::blank::ways_at` meets its contract: each state has the same share of the block.
 use native.Mathlib.Omega.{arith}
-use Rattle.event_tree.proofs.Fork.{first-some, part-size, whole-parts}
+use Rattle.paths.proofs.Sizes.{states-some, part-size, whole-parts}
 use borrow.Author.Needs.{needs}
 use Rattle.event_tree.proofs.blank.ways_at.Statement.{statement}
 use Rattle.event_tree.proofs.blank.ways_at.Tie as tie
@@ -13,12 +13,12 @@ cast-size c =
 div-size : tie.Need-div-size
 div-size c =
     let start = c .before .before .before in
-    first-some _ _ (start .pre .0) (start .pre .1)
+    states-some _ _ (start .pre .0) (start .pre .1)
 
 is-blank-requires : tie.Need-is-blank-requires
 is-blank-requires c κs =
     let start = c .before .before .before in
-    (whole-parts _ _ (start .pre .0) (start .pre .1), first-some _ _ (start .pre .0) (start .pre .1))
+    (whole-parts _ _ (start .pre .0) (start .pre .1), states-some _ _ (start .pre .0) (start .pre .1))
 
 returns : tie.Need-returns
 returns c =

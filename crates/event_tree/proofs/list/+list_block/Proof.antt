@@ -10,8 +10,9 @@ use denote.Ref.{now}
 use borrow.Author.Needs.{needs}
 use Rattle.lists.proofs.Puts.{Due, due-done, due-end}
 use Rattle.paths.specs.Paths.{paths}
+use Rattle.paths.proofs.Sizes.{one-class}
 use Rattle.event_tree.specs.Entries.{entriesBehind}
-use Rattle.event_tree.proofs.Fork.{one-class, fork, fork-fewer, fork-most, fork-inside, fork-block}
+use Rattle.event_tree.proofs.Fork.{fork, fork-fewer, fork-most, fork-inside, fork-block}
 use Rattle.event_tree.proofs.Listed.{Listed, Way, listed-start, listed-way, listed-room, listed-more, listed-all, leaf-room, leaf-done}
 use Prim.Native.Nat.{ℕ, _<_}
 use borrow.Fn.Kinds.{In, Out}

@@ -9,7 +9,8 @@ use borrow.Fn.PlainCycle.{Measures, is, falls, and}
 use Rattle.units.specs.One.{one}
 use Rattle.units.specs.Rounding.{down, up}
 use Rattle.rules.specs.Limits.{mostComponents}
-use Rattle.event_tree.proofs.Fork.{one-class, fork, fork-fewer, fork-most, fork-inside, fork-block}
+use Rattle.paths.proofs.Sizes.{one-class}
+use Rattle.event_tree.proofs.Fork.{fork, fork-fewer, fork-most, fork-inside, fork-block}
 use Rattle.totals.specs.Places.{sumsMost}
 use Rattle.totals.specs.Walk.{Reached}
 use Rattle.totals.proofs.Walked.{Walked, leaf-brings, walked-start, walked-more, walked-done}
