@@ -1,7 +1,7 @@
 -- Sums over those paths whose class is kept enclose the exact probability of the joint states whose class is: each joint state fits one path only,
 -- which bears its class, so the exact probability is the sum of those of the paths that are kept, and each of them is enclosed.
 use Prim.Native.Nat.{ℕ, suc, _^_}
-use mathlib.Core.Path.{_≡_, sym, ap, subst, _∙_}
+use mathlib.Core.Path.{_≡_, sym, ap, _∙_}
 use mathlib.Core.Bool.{Bool, true, false}
 use mathlib.Core.List.{List, [], _∷_}
 use native.Mathlib.Nat.{add-zero}
@@ -15,7 +15,7 @@ use Rattle.units.specs.Rounding.{down, up}
 use Rattle.units.specs.Within.{Within}
 use Rattle.units.proofs.Within.{within-none, within-sum, within-cap}
 use Rattle.joint_states.specs.JointStates.{JointState, jointStates}
-use Rattle.joint_states.proofs.Numbered.{with-number, length-jointStates, numbered}
+use Rattle.joint_states.proofs.Numbered.{all-joint}
 use Rattle.entries.specs.Entries.{classBorne}
 use Rattle.paths.specs.Words.{fits}
 use Rattle.model.specs.Good.{Good}
@@ -43,13 +43,6 @@ within-sums lower upper far x w d (a ∷ l) each =
     within-sum (each 0 (omega arith)) (within-sums lower upper far x w d l (λ k h. each (suc k) (omega arith)))
 
 -- ---- each joint state is counted with the one path that it fits
-
--- what the list of all joint states holds
-all-joint : (counts : List ℕ) → Every (JointState counts) [] (jointStates counts)
-all-joint counts k h =
-    let w = with-number counts k (rw (length-jointStates counts) at h) in
-    let place = sym (numbered counts (w .joint) (w .is-joint)) ∙ ap (λ (n : ℕ). getD (jointStates counts) n []) (w .number) in
-    subst (JointState counts) place (w .is-joint)
 
 module _ (m : Model) (good : Good m) (keep : ℕ → Bool) where
   abbrev kept : List ℕ → Bool

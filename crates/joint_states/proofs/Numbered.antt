@@ -1,12 +1,13 @@
 -- Joint states and their numbers: the list of all joint states has the one numbered k at its place k.
 use Prim.Native.Nat.{ℕ, zero, suc, _+_, _*_, _/_, _%_, _<_, _≤_}
-use mathlib.Core.Path.{_≡_, refl, sym, ap, _∙_}
+use mathlib.Core.Path.{_≡_, refl, sym, ap, subst, _∙_}
 use mathlib.Core.List.{List, [], _∷_, _++_, map}
 use native.Mathlib.Nat.{mul-le-mul-right, mod-lt, div-lt-iff-lt-mul, div-add-mod', not-suc-le-zero, zero-mul, zero-add, add-zero}
 use native.Mathlib.Omega.{arith}
 use lib.ListN.{length, getD, length-append, length-map, List·getD-append}
 use lib.Seq.{getD-append-add}
 use Rattle.lists.specs.Product.{product}
+use Rattle.lists.proofs.Elements.{Every}
 use Rattle.lists.proofs.Maps.{getD-map-inside}
 use Rattle.joint_states.specs.JointStates.{JointState, divided, jointStates, numberOf}
 
@@ -120,3 +121,10 @@ numbered (c ∷ cs) (s ∷ x) j =
     getD-divided (λ s. s) (λ s. jointStates cs) (product cs) (λ s. all) 0 c s (numberOf cs x) (joint-head j) (number-below cs x (joint-tail j))
     ∙ ap (λ (z : ℕ). z ∷ getD (jointStates cs) (numberOf cs x) []) (zero-add s)
     ∙ ap (λ (y : List ℕ). s ∷ y) (numbered cs x (joint-tail j))
+
+-- all that the list holds are joint states
+pub all-joint : (counts : List ℕ) → Every (JointState counts) [] (jointStates counts)
+all-joint counts k h =
+    let w = with-number counts k (rw (length-jointStates counts) at h) in
+    let place = sym (numbered counts (w .joint) (w .is-joint)) ∙ ap (λ (n : ℕ). getD (jointStates counts) n []) (w .number) in
+    subst (JointState counts) place (w .is-joint)
