@@ -1,1 +1,2 @@
+pub mod BranchFilled
 pub mod Painted

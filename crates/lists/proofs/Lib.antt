@@ -6,6 +6,7 @@ pub mod Filled
 pub mod Filling
 pub mod Fronts
 pub mod Joined
+pub mod Lent
 pub mod Maps
 pub mod Products
 pub mod Puts

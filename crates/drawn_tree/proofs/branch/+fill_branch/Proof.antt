@@ -1,15 +1,25 @@
-use Prim.Native.Nat.{ℕ, _<_}
-use borrow.Fn.Kinds.{In}
+-- `drawn_tree::branch::fill_branch` meets its contract. The components left fall at each call; the parts of the states below s are filled (`Filled`).
+use Prim.Native.Nat.{ℕ, _-_, _<_}
+use mathlib.Core.Path.{_≡_, ap}
+use native.Mathlib.Nat.{add-sub-cancel-left}
+use native.Mathlib.Omega.{arith}
+use lib.ListN.{length, length-set}
+use denote.Ref.{now}
+use borrow.Author.Needs.{needs}
+use borrow.Fn.Kinds.{In, Out}
 use borrow.Fn.PlainCycle.{Measures, is, falls, and}
+use Rattle.paths.proofs.Sizes.{one-class}
+use Rattle.drawn_tree.proofs.BranchFilled.{Filled, filled-nowhere, filled-wanted, filled-one, split, filled-start, filled-most, filled-inside}
+use Rattle.drawn_tree.proofs.BranchFilled.{filled-part, filled-more, filled-done}
 use Rattle.drawn_tree.proofs.branch.fill_branch.Reads as fill-branch
 use Rattle.drawn_tree.proofs.branch.fill_branch.Kinds as fill-branch-kinds
-use Rattle.drawn_tree.proofs.branch.+fill_branch.Lts-fill_branch as fill-branch-lts
-use Rattle.drawn_tree.proofs.branch.suits.Reads as suits-reads
+use Rattle.drawn_tree.proofs.branch.+fill_branch.Lts-fill_branch as lts
+use Rattle.drawn_tree.proofs.branch.suits.Reads as suits
 use Rattle.drawn_tree.proofs.branch.+fill_branch.{statement}
 use Rattle.drawn_tree.proofs.branch.+fill_branch.Tie.{close}
 
 abbrev μ : Measures 3 fill-branch-kinds.ps ℕ
-μ κs a = ?
+μ κs a = length (now (a .1 .0))
 
 abbrev at : ℕ → In 3 fill-branch-kinds.ps
 at t =
@@ -19,129 +29,76 @@ abbrev under-t : ℕ → In 3 fill-branch-kinds.ps
 under-t t =
     and 3 fill-branch-kinds.ps (falls 3 fill-branch-kinds.ps _<_ μ t) fill-branch.Pre
 
-abbrev claims : ℕ → fill-branch-lts.Claims
-claims t = (suits-reads.Asked, suits-reads.Learnt, under-t t, fill-branch.Post)
+abbrev claims : ℕ → lts.Claims
+claims t = (suits.Asked, suits.Learnt, under-t t, fill-branch.Post)
 
-abbrev Inv-loop : fill-branch-lts.InvT-loop
-Inv-loop wanted counts marks class block₀ states size mark later behind s₀ block s = ?
+abbrev Inv-loop : lts.InvT-loop
+Inv-loop wanted counts marks class block₀ states size mark later behind s₀ block s =
+    Filled counts marks class block₀ states size mark later behind s block
 
-abbrev μ-loop : fill-branch-lts.MeasureT-loop
-μ-loop wanted counts marks class block₀ states size mark later behind s₀ block s = ?
+abbrev μ-loop : lts.MeasureT-loop
+μ-loop wanted counts marks class block₀ states size mark later behind s₀ block s = states - s
 
 module _ (t : ℕ) where
-  -- src/branch.rt:30:9
-  returns : fill-branch-lts.Need-returns (claims t) (at t) fill-branch.Post Inv-loop μ-loop
-  returns c = ?
+  -- a step or a need of the call with t components left
+  abbrev here : (lts.Claims → In 3 fill-branch-kinds.ps → Out 3 fill-branch-kinds.ps fill-branch-kinds.r → lts.InvT-loop → lts.MeasureT-loop → Type 0) → Type 0
+  here of = of (claims t) (at t) fill-branch.Post Inv-loop μ-loop
 
-  -- src/branch.rt:33:9
-  slice-write-block : fill-branch-lts.Need-slice-write-block (claims t) (at t) fill-branch.Post Inv-loop μ-loop
-  slice-write-block c = ?
+  abbrev start : here lts.Else1 → here lts.Start
+  start c = c .before .before .before .before
 
-  -- src/branch.rt:34:9
-  same-length : fill-branch-lts.Need-same-length (claims t) (at t) fill-branch.Post Inv-loop μ-loop
-  same-length c = ?
+  -- no component is left
+  one-place : (c : here lts.Then2) → length (now (start (c .before) .args .block)) ≡ 1
+  one-place c = one-class _ _ (start (c .before) .pre .1 .0) (c .if2 .taken)
 
-  -- src/branch.rt:34:9
-  returns-2 : fill-branch-lts.Need-returns-2 (claims t) (at t) fill-branch.Post Inv-loop μ-loop
-  returns-2 c = ?
+  -- a component is left
+  abbrev some : here lts.After-behind → here lts.Else2
+  some c = c .before .before .before .before
 
-  -- src/branch.rt:36:18
-  shared-slice-read-states : fill-branch-lts.Need-shared-slice-read-states (claims t) (at t) fill-branch.Post Inv-loop μ-loop
-  shared-slice-read-states c = ?
+  -- a turn of the loop, from behind its call
+  abbrev turn : here lts.After-slice-known2 → here lts.In-loop
+  turn c = c .before .before .before .before .before
 
-  -- src/branch.rt:37:30
-  cast-size : fill-branch-lts.Need-cast-size (claims t) (at t) fill-branch.Post Inv-loop μ-loop
-  cast-size c = ?
+  returns-2 : here lts.Need-returns-2
+  returns-2 c = filled-wanted _ _ _ _ _ _ (c .before .if1 .left) (filled-one _ _ _ _ (c .if2 .taken) (one-place c))
 
-  -- src/branch.rt:37:16
-  div-size : fill-branch-lts.Need-div-size (claims t) (at t) fill-branch.Post Inv-loop μ-loop
-  div-size c = ?
+  cast-size : here lts.Need-cast-size
+  cast-size c = let s = start (c .before .before) in omega (arith, s .pre .1 .0 .most 0 (omega (arith, c .before .if2 .left)))
 
-  -- src/branch.rt:38:16
-  shared-slice-read-mark : fill-branch-lts.Need-shared-slice-read-mark (claims t) (at t) fill-branch.Post Inv-loop μ-loop
-  shared-slice-read-mark c = ?
+  div-size : here lts.Need-div-size
+  div-size c = start (c .before .before) .pre .1 .0 .some 0 (omega (arith, c .before .if2 .left))
 
-  -- src/branch.rt:39:17
-  sub-later : fill-branch-lts.Need-sub-later (claims t) (at t) fill-branch.Post Inv-loop μ-loop
-  sub-later c = ?
+  loop-holds : here lts.Need-loop-holds
+  loop-holds c = let s = start (some c .before) in filled-start (split _ _ _ (s .pre .1 .0) (s .pre .1 .1) (some c .if2 .left))
 
-  -- src/branch.rt:39:17
-  part-later-start : fill-branch-lts.Need-part-later-start (claims t) (at t) fill-branch.Post Inv-loop μ-loop
-  part-later-start c = ?
+  fill-branch-requires : here lts.Need-fill-branch-requires
+  fill-branch-requires c κs =
+      let l = c .before .before .before in
+      let f = l .loop .inv in
+      let left = start (some (l .before) .before) .pre .0 in
+      (omega (arith, left, ap length (f .parts .is-counts)), (rw add-sub-cancel-left (filled-part f (c .before .before .loop-test .taken)), f .parts .few))
 
-  -- src/branch.rt:39:17
-  part-later-end : fill-branch-lts.Need-part-later-end (claims t) (at t) fill-branch.Post Inv-loop μ-loop
-  part-later-end c = ?
+  loop-again : here lts.Need-loop-again
+  loop-again c =
+      let l = turn c .before in
+      filled-more (l .loop .inv) _ _ (turn c .loop-test .taken) (c .before .before .before .before .suits .ensures)
+      (rw add-sub-cancel-left at (c .before .before .fill-branch .ensures))
 
-  -- src/branch.rt:40:18
-  sub-behind : fill-branch-lts.Need-sub-behind (claims t) (at t) fill-branch.Post Inv-loop μ-loop
-  sub-behind c = ?
-
-  -- src/branch.rt:40:18
-  part-behind-start : fill-branch-lts.Need-part-behind-start (claims t) (at t) fill-branch.Post Inv-loop μ-loop
-  part-behind-start c = ?
-
-  -- src/branch.rt:40:18
-  part-behind-end : fill-branch-lts.Need-part-behind-end (claims t) (at t) fill-branch.Post Inv-loop μ-loop
-  part-behind-end c = ?
-
-  -- src/branch.rt:42:5
-  loop-holds : fill-branch-lts.Need-loop-holds (claims t) (at t) fill-branch.Post Inv-loop μ-loop
-  loop-holds c = ?
-
-  -- src/branch.rt:43:20
-  cast-from : fill-branch-lts.Need-cast-from (claims t) (at t) fill-branch.Post Inv-loop μ-loop
-  cast-from c = ?
-
-  -- src/branch.rt:43:20
-  mul-from : fill-branch-lts.Need-mul-from (claims t) (at t) fill-branch.Post Inv-loop μ-loop
-  mul-from c = ?
-
-  -- src/branch.rt:45:13
-  suits-requires : fill-branch-lts.Need-suits-requires (claims t) (at t) fill-branch.Post Inv-loop μ-loop
-  suits-requires c κs = ?
-
-  -- src/branch.rt:49:30
-  add-fill-branch : fill-branch-lts.Need-add-fill-branch (claims t) (at t) fill-branch.Post Inv-loop μ-loop
-  add-fill-branch c = ?
-
-  -- src/branch.rt:49:13
-  sub-fill-branch : fill-branch-lts.Need-sub-fill-branch (claims t) (at t) fill-branch.Post Inv-loop μ-loop
-  sub-fill-branch c = ?
-
-  -- src/branch.rt:49:13
-  part-fill-branch-start : fill-branch-lts.Need-part-fill-branch-start (claims t) (at t) fill-branch.Post Inv-loop μ-loop
-  part-fill-branch-start c = ?
-
-  -- src/branch.rt:49:13
-  part-fill-branch-end : fill-branch-lts.Need-part-fill-branch-end (claims t) (at t) fill-branch.Post Inv-loop μ-loop
-  part-fill-branch-end c = ?
-
-  -- src/branch.rt:44:9
-  fill-branch-requires : fill-branch-lts.Need-fill-branch-requires (claims t) (at t) fill-branch.Post Inv-loop μ-loop
-  fill-branch-requires c κs = ?
-
-  -- src/branch.rt:51:13
-  add-s : fill-branch-lts.Need-add-s (claims t) (at t) fill-branch.Post Inv-loop μ-loop
-  add-s c = ?
-
-  -- src/branch.rt:42:5
-  loop-less : fill-branch-lts.Need-loop-less (claims t) (at t) fill-branch.Post Inv-loop μ-loop
-  loop-less c = ?
-
-  -- src/branch.rt:42:5
-  loop-again : fill-branch-lts.Need-loop-again (claims t) (at t) fill-branch.Post Inv-loop μ-loop
-  loop-again c = ?
-
-  -- src/branch.rt:24:1
-  same-length-2 : fill-branch-lts.Need-same-length-2 (claims t) (at t) fill-branch.Post Inv-loop μ-loop
-  same-length-2 c = ?
-
-  -- src/branch.rt:24:1
-  returns-3 : fill-branch-lts.Need-returns-3 (claims t) (at t) fill-branch.Post Inv-loop μ-loop
-  returns-3 c = ?
+  returns-3 : here lts.Need-returns-3
+  returns-3 c =
+      let l = c .before in
+      filled-wanted _ _ _ _ _ _ (some (l .before) .before .if1 .left) (filled-done (l .loop .inv) (c .loop-test .left))
 
 pub +fill-branch-spec : {M : Type 1} → statement M
 +fill-branch-spec =
     close μ
-    λ t. fill-branch-lts.spec (claims t) (at t) fill-branch.Post Inv-loop μ-loop (returns t) (slice-write-block t) (same-length t) (returns-2 t) (shared-slice-read-states t) (cast-size t) (div-size t) (shared-slice-read-mark t) (sub-later t) (part-later-start t) (part-later-end t) (sub-behind t) (part-behind-start t) (part-behind-end t) (loop-holds t) (cast-from t) (mul-from t) (suits-requires t) (add-fill-branch t) (sub-fill-branch t) (part-fill-branch-start t) (part-fill-branch-end t) (fill-branch-requires t) (add-s t) (loop-less t) (loop-again t) (same-length-2 t) (returns-3 t)
+    λ t. lts.spec (claims t) (at t) fill-branch.Post Inv-loop μ-loop (λ c. filled-nowhere _ _ _ _ _ (c .if1 .taken)) (λ c. omega (arith, one-place t c))
+    (λ c. search (length-set, needs)) (returns-2 t)
+    (λ c. omega (arith, c .before .if2 .left)) (cast-size t) (div-size t) (λ c. search needs)
+    (λ c. search needs) (λ c. search needs) (λ c. search needs) (λ c. search needs) (λ c. search needs) (λ c. search needs) (loop-holds t)
+    (λ c. omega (arith, filled-most (c .before .loop .inv) (c .loop-test .taken)))
+    (λ c. search (filled-inside (c .before .loop .inv) (c .loop-test .taken), needs)) (λ c κs. search needs)
+    (λ c. search (filled-inside (c .before .before .loop .inv) (c .before .loop-test .taken), needs)) (λ c. search needs) (λ c. search needs)
+    (λ c. filled-inside (c .before .before .loop .inv) (c .before .loop-test .taken)) (fill-branch-requires t)
+    (λ c. omega (arith, filled-most (turn t c .before .loop .inv) (turn t c .loop-test .taken)))
+    (λ c. omega (arith, turn t c .loop-test .taken)) (loop-again t) (λ c. c .before .loop .inv .long) (returns-3 t)
