@@ -15,6 +15,15 @@ pub asRead-refused : {A : Type 0} (s : List ℕ) (q n : ℕ) (v : A) → (q ≡ 
 unfolding asRead
 asRead-refused s q n v some = rw (ne-eqb q 0 some)
 
+-- so that a refused reading may hold any place and any value
+pub refused-any : {A : Type 0} {s : List ℕ} {p n n′ : ℕ} {v v′ : A} {r : Read A} → Reads s p n v r → (p ≡ 0 → ⊥) → Reads s p n′ v′ r
+refused-any {s = s} {p = p} {n = n} {n′ = n′} {v = v} {v′ = v′} here some =
+    record { same = asRead-refused s p n′ v′ some ∙ sym (asRead-refused s p n v some) ∙ here .same }
+
+-- what the code holds is a reading
+pub as-read : {A : Type 0} {s : List ℕ} {p n : ℕ} {v : A} → Reads s p n v (asRead s p n v)
+as-read = record { same = refl }
+
 first-asRead : {A B : Type 0} (s : List ℕ) (p q n n′ : ℕ) (v : A) (v′ : B) (f : A → Reader B) → asRead s q n′ v′ ≡ f v (drop n s)
     → asRead s (first p q) n′ v′ ≡ andThen (asRead s p n v) f
 unfolding first asRead

@@ -1,4 +1,5 @@
 pub mod After
+pub mod Alike
 pub mod Back
 pub mod Bytes
 pub mod Calls

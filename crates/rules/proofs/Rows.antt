@@ -1,7 +1,7 @@
 -- What each row of the refusal table tells where it is kept, in terms of the numbers that it judges.
-use Prim.Native.Nat.{ℕ, suc, _+_, _<_, _≤_}
-use mathlib.Core.Path.{_≡_}
-use mathlib.Core.Bool.{Bool, true, not}
+use Prim.Native.Nat.{ℕ, suc, _+_, _/_, _^_, _<_, _≤_}
+use mathlib.Core.Path.{_≡_, refl}
+use mathlib.Core.Bool.{Bool, true, false, not, _||_, true≢false}
 use mathlib.Core.Logic.{⊎-elim}
 use native.Mathlib.Nat.{pos-of-ne-zero}
 use native.Mathlib.Omega.{arith}
@@ -12,6 +12,7 @@ use Rattle.rules.specs.Breach.{refuse}
 use Rattle.rules.specs.Limits.{fewestStates, mostStates, mostJointStates}
 use Rattle.rules.specs.Table.{countFault, statesFault, lackedStateFault, sumFault, widthFault, noStateFault, inputsFault, inputCountFault}
 use Rattle.rules.specs.Table.{noComponentFault, aheadFault, unsoundFault, unusedFault, itemFault, sizeFault, roomFault, customersFault}
+use Rattle.rules.specs.Table.{nodeFault, behindFault, leafFault}
 use Rattle.rules.proofs.Kept.{Within, refuse-kept, range-kept, unless-kept}
 
 -- a row that judges by `<`, and one that judges by `≤`
@@ -97,3 +98,21 @@ room-none need room h = rw (le-ltb room need h)
 
 pub customers-kept : (sum : ℕ) → customersFault sum ≡ 0 → 0 < sum
 customers-kept sum e = pos-of-ne-zero (eqb-false sum 0 (refuse-kept 18 (eqb sum 0) e))
+
+-- a node asks a component of the study that is not asked above
+pub record NodeKept (components component : ℕ) (asked : Bool) : Type 0 where
+  pub inside : component < components
+  pub not-above : asked ≡ false
+
+pub node-kept : (components component : ℕ) (asked : Bool) → nodeFault components component asked ≡ 0 → NodeKept components component asked
+node-kept components component asked e = go (leb components component) refl (refuse-kept 19 (leb components component || asked) e)
+  where
+    go : (b : Bool) → leb components component ≡ b → b || asked ≡ false → NodeKept components component asked
+    go true outside neither = absurd (true≢false neither)
+    go false outside neither = record { inside = leb-false components component outside; not-above = neither }
+
+pub behind-kept : (bytes : ℕ) → behindFault bytes ≡ 0 → bytes ≡ 0
+behind-kept bytes e = let none = below-kept 20 0 bytes e in omega arith
+
+pub leaf-kept : (loads class : ℕ) → leafFault loads class ≡ 0 → class / 2 ^ loads ≡ 0
+leaf-kept loads class e = let none = below-kept 21 0 (class / 2 ^ loads) e in omega arith
