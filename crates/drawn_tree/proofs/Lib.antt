@@ -1,2 +1,4 @@
+pub mod Asked
 pub mod BranchFilled
+pub mod Drawn
 pub mod Painted
