@@ -67,7 +67,8 @@ module _ (counts marks : List ℕ) (component : ℕ) where
   all-painted : (table : List ℕ) (subtrees : Trees) → subtreesPainted 0 table subtrees ≡ treePainted counts marks table (node component subtrees)
   unfolding drawnClass
   all-painted table subtrees =
-      let every : (x : List ℕ) → from 0 x ≡ fits x marks = λ x. ap (λ (b : Bool). fits x marks && b) (leb·zero (getD x component 0)) ∙ and-true (fits x marks) in
+      let every : (x : List ℕ) → from 0 x ≡ fits x marks =
+      λ x. ap (λ (b : Bool). fits x marks && b) (leb·zero (getD x component 0)) ∙ and-true (fits x marks) in
       λ i. painted (λ x. every x i) (λ x. reached subtrees (sub-zero (getD x component 0) i) x) (jointStates counts) table
 
   module _ (free : Free (length counts) marks component) where

@@ -2,3 +2,4 @@ pub mod Asked
 pub mod BranchFilled
 pub mod Drawn
 pub mod Painted
+pub mod Steps

@@ -20,6 +20,11 @@ pub refused-any : {A : Type 0} {s : List ℕ} {p n n′ : ℕ} {v v′ : A} {r :
 refused-any {s = s} {p = p} {n = n} {n′ = n′} {v = v} {v′ = v′} here some =
     record { same = asRead-refused s p n′ v′ some ∙ sym (asRead-refused s p n v some) ∙ here .same }
 
+-- and one that is not refused holds the value that was read
+pub kept-as : {A : Type 0} {s : List ℕ} {p n : ℕ} {v v′ : A} {r : Read A} → Reads s p n v r → p ≡ 0 → v′ ≡ v → Reads s 0 n v′ r
+kept-as {A} {s} {n = n} {v = v} here none e =
+    record { same = ap (λ (w : A). asRead s 0 n w) e ∙ ap (λ (q : ℕ). asRead s q n v) (sym none) ∙ here .same }
+
 -- what the code holds is a reading
 pub as-read : {A : Type 0} {s : List ℕ} {p n : ℕ} {v : A} → Reads s p n v (asRead s p n v)
 as-read = record { same = refl }

@@ -47,7 +47,8 @@ pub alike-judge : {A B : Type 0} {f : A → B} {m : Reader A} {k : Reader B} (br
 alike-judge {f = f} {m = m} {k = k} breach kept = record { alike = λ bytes. go (eqb breach 0) refl bytes }
   where
     go : (b : Bool) → eqb breach 0 ≡ b → (bytes : List ℕ)
-        → andThen (cond b (got (tt {0}) bytes) (refused breach)) (λ u. k) ≡ andThen (andThen (cond b (got (tt {0}) bytes) (refused breach)) (λ u. m)) (λ a. return (f a))
+        → andThen (cond b (got (tt {0}) bytes) (refused breach)) (λ u. k)
+        ≡ andThen (andThen (cond b (got (tt {0}) bytes) (refused breach)) (λ u. m)) (λ a. return (f a))
     go true none bytes = kept (eqb-true breach 0 none) .alike bytes
     go false some bytes = refl
 

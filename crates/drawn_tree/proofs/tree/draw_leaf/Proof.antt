@@ -1,0 +1,46 @@
+-- `drawn_tree::tree::draw_leaf` meets its contract: the byte is read, then its rule is judged, and what is read is the branch filled (`read`).
+use mathlib.Core.Bool.{true}
+use denote.Ref.{now}
+use borrow.Author.Needs.{needs}
+use Rattle.reading.specs.Reader.{ReadsAt}
+use Rattle.reading.proofs.After.{refused-any, kept-as, after, judged-last}
+use Rattle.drawn_tree.specs.Filling.{branchFilled, leafDrawn}
+use Rattle.drawn_tree.proofs.tree.draw_leaf.Statement.{statement}
+use Rattle.drawn_tree.proofs.tree.draw_leaf.Tie as tie
+
+abbrev byte : tie.After-first → tie.After-byte-or
+byte c = c .before .before .before
+
+abbrev start : tie.After-byte-or → tie.Start
+start c = c .before .before .before .before
+
+read : (c : tie.After-first)
+    → let a = start (byte c) .args in
+    let class = byte c .byte-or .result in
+    ReadsAt (now (a .bytes)) (a .at) (leafDrawn (now (a .counts)) (a .loads) (a .t5) (now (a .table))) (c .first .result) (class .next)
+    (branchFilled true (now (a .counts)) (a .t5) (class .value) (now (a .table)))
+unfolding leafDrawn
+read c = after _ (byte c .byte-or .ensures) (judged-last _ (c .before .leaf-fault .ensures)) (c .first .ensures)
+
+returns : tie.Need-returns
+returns c = refused-any (read (c .before)) (c .if1 .taken)
+
+returns-2 : tie.Need-returns-2
+returns-2 c =
+    let filled = c .before .before in
+    let kept = filled .before .before .before in
+    kept-as (read (kept .before)) (kept .if1 .left) (filled .fill-branch .ensures)
+
+pub draw-leaf-spec : {M : Type 1} → statement M
+draw-leaf-spec =
+    tie.close
+    (tie.spec
+    (λ c κs. search needs)
+    (λ c. search needs)
+    (λ c κs. search needs)
+    (λ c κs. search needs)
+    returns
+    (λ c. search needs)
+    (λ c κs. search needs)
+    (λ c. search needs)
+    returns-2)
