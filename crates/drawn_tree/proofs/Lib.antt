@@ -3,3 +3,4 @@ pub mod BranchFilled
 pub mod Drawn
 pub mod Painted
 pub mod Steps
+pub mod Whole

@@ -9,3 +9,4 @@ pub mod Local
 pub mod MapBits
 pub mod Repeats
 pub mod Takes
+pub mod Told
