@@ -3,7 +3,7 @@ use Prim.Native.Nat.{ℕ, zero, suc, _+_, _-_, _*_, _/_, _%_, _^_, _<_, _≤_}
 use mathlib.Core.Path.{_≡_, refl, sym, ap, _∙_}
 use mathlib.Core.Bool.{Bool, true, false}
 use mathlib.Core.Logic.{⊎-elim}
-use native.Mathlib.Nat.{not-suc-le-zero, le-of-suc-le-suc, eq-or-lt-of-le, lt-of-lt-of-le, add-comm, pow-suc, mod-lt, div-one, div-eq-of-lt}
+use native.Mathlib.Nat.{not-suc-le-zero, le-of-suc-le-suc, eq-or-lt-of-le, lt-of-lt-of-le, add-comm, pow-suc, mod-lt, div-one, zero-div, div-eq-of-lt}
 use native.Mathlib.Nat.{div-add-mod', div-mul-le-self, add-mul-div-right, add-mul-mod-self-right}
 use native.Mathlib.Omega.{arith}
 use lib.Dec.{lit<, eqb}
@@ -39,6 +39,14 @@ bounded-bits (suc k) m n low below same =
 
 pub same-bits : (m n : ℕ) → ((j : ℕ) → bit m j ≡ bit n j) → m ≡ n
 same-bits m n same = bounded-bits (m + n) m n (omega arith) (omega arith) same
+
+-- a number that is 0 from bit n on has no bit there
+pub no-bit-above : (m n j : ℕ) → m / 2 ^ n ≡ 0 → n ≤ j → bit m j ≡ false
+no-bit-above m n j none h =
+    let places : n + (j - n) ≡ j = omega arith in
+    let above : m / 2 ^ j ≡ 0 =
+    ap (λ (k : ℕ). m / 2 ^ k) (sym places) ∙ sym (shr-shr m n (j - n)) ∙ ap (λ (q : ℕ). q / 2 ^ (j - n)) none ∙ zero-div (2 ^ (j - n)) in
+    ap (λ (q : ℕ). eqb (q % 2) 1) above
 
 -- ---- the bits of a sum of truth values, each times its power of two
 

@@ -1,7 +1,7 @@
 -- Two readers that go alike: the second refuses where the first does, by the same row, and where the first gives a value it gives f of it and leaves
 -- the same bytes.
 use Prim.Native.Nat.{ℕ}
-use mathlib.Core.Path.{_≡_, refl, ap, _∙_}
+use mathlib.Core.Path.{_≡_, refl, sym, ap, _∙_}
 use mathlib.Core.Bool.{Bool, true, false, cond}
 use mathlib.Core.List.{List}
 use lib.Dec.{eqb}
@@ -18,6 +18,9 @@ alike-self {A} m = record { alike = λ bytes. go (m bytes) }
     go : (r : Read A) → r ≡ andThen r (λ a. return a)
     go (refused n) = refl
     go (got a rest) = refl
+
+pub alike-same : {A : Type 0} {m k : Reader A} → Alike (λ (a : A). a) m k → (bytes : List ℕ) → k bytes ≡ m bytes
+alike-same {m = m} here bytes = here .alike bytes ∙ sym (alike-self m .alike bytes)
 
 pub alike-return : {A B : Type 0} {f : A → B} {a : A} {b : B} → b ≡ f a → Alike f (return a) (return b)
 alike-return e = record { alike = λ bytes. ap (λ (b : _). got b bytes) e }

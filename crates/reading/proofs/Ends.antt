@@ -13,7 +13,7 @@ use Rattle.lists.specs.Run.{each}
 use Rattle.lists.specs.Bits.{digit, bit}
 use Rattle.rules.specs.Table.{short, strayFault}
 use Rattle.rules.proofs.Kept.{refuse-kept}
-use Rattle.reading.specs.Reader.{Read, refused, got, Reader, andThen, return, judge, byte, word, turn, repeat, _>>=_, _>>_}
+use Rattle.reading.specs.Reader.{Read, refused, got, Reader, andThen, return, judge, byteOr, byte, word, turn, repeat, _>>=_, _>>_}
 use Rattle.reading.specs.Fields.{fieldAt, mapBits, mapByte, fieldsByMap}
 
 -- what one reading ends in
@@ -59,13 +59,17 @@ module _ {R : ℕ → Type 0} where
   pub ends-weaker : {A : Type 0} {n : ℕ} {P Q : A → ℕ → Type 0} {m : Reader A} → ((a : A) (left : ℕ) → P a left → Q a left) → Ends R n m P → Ends R n m Q
   ends-weaker {P = P} {Q = Q} {m = m} imply here = record { ends = λ bytes e. weaker-ends R P Q imply (m bytes) (here .ends bytes e) }
 
-  pub ends-byte : (n : ℕ) → (n ≡ 0 → R short) → Ends R n byte (λ (b left : ℕ). n ≡ suc left)
-  unfolding byte
-  ends-byte n none = record { ends = go }
+  pub ends-byte-or : (end n : ℕ) → (n ≡ 0 → R end) → Ends R n (byteOr end) (λ (b left : ℕ). n ≡ suc left)
+  unfolding byteOr
+  ends-byte-or end n none = record { ends = go }
     where
-      go : (bytes : List ℕ) → length bytes ≡ n → EndsIn R (λ (b left : ℕ). n ≡ suc left) (byte bytes)
+      go : (bytes : List ℕ) → length bytes ≡ n → EndsIn R (λ (b left : ℕ). n ≡ suc left) (byteOr end bytes)
       go [] e = none (sym e)
       go (b ∷ rest) e = sym e
+
+  pub ends-byte : (n : ℕ) → (n ≡ 0 → R short) → Ends R n byte (λ (b left : ℕ). n ≡ suc left)
+  unfolding byte
+  ends-byte = ends-byte-or short
 
   pub ends-word : (n : ℕ) → (n < 4 → R short) → Ends R n word (λ (w left : ℕ). n ≡ 4 + left)
   unfolding word

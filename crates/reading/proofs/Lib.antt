@@ -8,5 +8,6 @@ pub mod Held
 pub mod Local
 pub mod MapBits
 pub mod Repeats
+pub mod Spelled
 pub mod Takes
 pub mod Told

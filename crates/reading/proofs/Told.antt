@@ -7,7 +7,7 @@ use native.Mathlib.Omega.{arith}
 use lib.Dec.{eqb}
 use lib.ListN.{drop}
 use borrow.Author.Tests.{eqb-true, eqb-false}
-use Rattle.reading.specs.Reader.{Read, refused, got, Reads, asRead}
+use Rattle.reading.specs.Reader.{refused, got, Reads, asRead}
 
 pub record RefusedBy (refusal number : ℕ) : Type 0 where
   pub by : refusal ≡ number

@@ -12,7 +12,7 @@ use Rattle.rules.specs.Breach.{refuse}
 use Rattle.rules.specs.Limits.{fewestStates, mostStates, mostJointStates}
 use Rattle.rules.specs.Table.{countFault, statesFault, lackedStateFault, sumFault, widthFault, noStateFault, inputsFault, inputCountFault}
 use Rattle.rules.specs.Table.{noComponentFault, aheadFault, unsoundFault, unusedFault, itemFault, sizeFault, roomFault, customersFault}
-use Rattle.rules.specs.Table.{nodeFault, behindFault, leafFault}
+use Rattle.rules.specs.Table.{nodeFault, leafFault}
 use Rattle.rules.proofs.Kept.{Within, refuse-kept, range-kept, unless-kept}
 
 -- a row that judges by `<`, and one that judges by `≤`
@@ -110,9 +110,6 @@ node-kept components component asked e = go (leb components component) refl (ref
     go : (b : Bool) → leb components component ≡ b → b || asked ≡ false → NodeKept components component asked
     go true outside neither = absurd (true≢false neither)
     go false outside neither = record { inside = leb-false components component outside; not-above = neither }
-
-pub behind-kept : (bytes : ℕ) → behindFault bytes ≡ 0 → bytes ≡ 0
-behind-kept bytes e = let none = below-kept 20 0 bytes e in omega arith
 
 pub leaf-kept : (loads class : ℕ) → leafFault loads class ≡ 0 → class / 2 ^ loads ≡ 0
 leaf-kept loads class e = let none = below-kept 21 0 (class / 2 ^ loads) e in omega arith
