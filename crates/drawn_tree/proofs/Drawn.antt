@@ -19,7 +19,7 @@ use Rattle.paths.specs.Words.{fits}
 use Rattle.reading.specs.Reader.{Reader, got, turn}
 use Rattle.reading.proofs.Alike.{Alike, alike-self, alike-return, alike-then, alike-finished, alike-judge, alike-cond}
 use Rattle.reading.proofs.Repeats.{run-then}
-use Rattle.drawn_tree.specs.Tree.{Tree, leaf, node, Trees, none, more, drawnClass, reached}
+use Rattle.drawn_tree.specs.Tree.{Tree, node, Trees, none, more, drawnClass, reached}
 use Rattle.drawn_tree.specs.Reading.{leafMark, asked, treeByte, leafRead, subtreesRead, nodeRead, treeRead}
 use Rattle.drawn_tree.specs.Filling.{painted, branchFilled, leafDrawn, nodeDrawn, treeDrawn}
 use Rattle.drawn_tree.proofs.Asked.{Free, free-kept, fits-asked}

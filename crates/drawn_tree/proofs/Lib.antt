@@ -1,6 +1,10 @@
 pub mod Asked
 pub mod BranchFilled
 pub mod Drawn
+pub mod FirstBreach
+pub mod Judged
+pub mod Levels
 pub mod Painted
+pub mod ReadsBack
 pub mod Steps
 pub mod Whole

@@ -1,21 +1,20 @@
 -- What carries the code that reads a tree: each of its exits, and the loop over the subtrees of a node.
 use Prim.Native.Nat.{ℕ, suc, _+_, _<_, _≤_}
 use mathlib.Core.Path.{_≡_, refl, subst, _∙_}
-use mathlib.Core.Bool.{Bool, true}
 use mathlib.Core.List.{List}
 use native.Mathlib.Omega.{arith}
-use lib.ListN.{length, getD, set, drop}
+use lib.ListN.{length, getD, set}
 use borrow.Author.Tests.{eq-eqb, ne-eqb}
 use Rattle.rules.specs.Breach.{first}
-use Rattle.rules.specs.Table.{nodeFault, leafFault}
+use Rattle.rules.specs.Table.{nodeFault}
 use Rattle.entries.specs.Entries.{blankMark}
 use Rattle.paths.specs.Blocks.{Block}
 use Rattle.reading.specs.Reader.{Read, Reader, Reads, ReadsAt, andThen, repeat, asRead}
-use Rattle.reading.proofs.After.{as-read, refused-any, after, stopped, going, judged, judged-last}
+use Rattle.reading.proofs.After.{as-read, stopped, going, judged}
 use Rattle.reading.proofs.Repeats.{RepeatLeft, repeat-start, repeat-turned, repeat-done}
 use Rattle.drawn_tree.specs.Reading.{leafMark, asked, treeByte}
-use Rattle.drawn_tree.specs.Filling.{branchFilled, unasked, leafDrawn, nodeDrawn, treeDrawn, branchDrawn}
-use Rattle.drawn_tree.proofs.Asked.{Free, free-kept, unasked-less}
+use Rattle.drawn_tree.specs.Filling.{unasked, leafDrawn, nodeDrawn, treeDrawn, branchDrawn}
+use Rattle.drawn_tree.proofs.Asked.{Free, unasked-less}
 
 -- a subtree of a node that asks this component: that of state i
 abbrev pub subtree : List ℕ → ℕ → List ℕ → ℕ → ℕ → List ℕ → Reader (List ℕ)
@@ -39,8 +38,8 @@ module _ (counts : List ℕ) (loads : ℕ) (marks s table : List ℕ) (p n : ℕ
     unfolding treeDrawn
     drawn-leaf kept leaf there = going _ as-read none (going _ byte kept (rw (eq-eqb first leafMark leaf) there))
 
-    node-there : {r k : ℕ} {filled : List ℕ} → q ≡ 0 → (first ≡ leafMark → ⊥) → ReadsAt s m (nodeDrawn counts marks first (subtree counts loads marks first) table) r k filled
-        → Reads s r k filled below
+    node-there : {r k : ℕ} {filled : List ℕ} → q ≡ 0 → (first ≡ leafMark → ⊥)
+        → ReadsAt s m (nodeDrawn counts marks first (subtree counts loads marks first) table) r k filled → Reads s r k filled below
     unfolding treeDrawn
     node-there kept other there = going _ as-read none (going _ byte kept (rw (ne-eqb first leafMark other) there))
 
