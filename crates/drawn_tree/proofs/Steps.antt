@@ -68,10 +68,14 @@ pub at-node : {counts marks table : List ℕ} {component states : ℕ} → Block
 at-node {component = component} b free count =
     record { free = free; count = count; few = omega (arith, count, b .most component (free .inside)) }
 
--- fewer components are left to ask in a subtree
-pub fewer-left : {counts marks : List ℕ} {component states : ℕ} (i : ℕ) → AtNode counts marks component states → i < states
+-- below the mark of a state one component fewer is left to ask
+one-asked : {counts marks : List ℕ} {component states : ℕ} (i : ℕ) → AtNode counts marks component states → i < states
     → suc (unasked (set marks component i)) ≡ unasked marks
-fewer-left {marks = marks} {component = component} i node h = unasked-less marks component i (node .free .free) (λ blank. omega (arith, blank, h, node .few))
+one-asked {marks = marks} {component = component} i node h = unasked-less marks component i (node .free .free) (λ blank. omega (arith, blank, h, node .few))
+
+pub fewer-left : {counts marks marks′ : List ℕ} {component states i : ℕ} → AtNode counts marks component states → marks′ ≡ set marks component i → i < states
+    → unasked marks′ < unasked marks
+fewer-left {i = i} node e h = let less = one-asked i node h in rw e (omega arith)
 
 -- the subtrees of the states below i are drawn
 pub record Drawing (counts : List ℕ) (loads : ℕ) (marks s table₀ : List ℕ) (m component states i : ℕ) (table : List ℕ) (p n : ℕ) : Type 0 where
@@ -92,7 +96,7 @@ module _ {counts : List ℕ} {loads : ℕ} {marks s table₀ : List ℕ} {m comp
         let own : Reads s r k filled (deeper (suc (unasked (set marks component i)))) = rw e at there in
         record {
           node = w .node;
-          turns = repeat-turned (w .turns) h (subst (λ (levels : ℕ). Reads s r k filled (deeper levels)) (fewer-left i (w .node) h) own);
+          turns = repeat-turned (w .turns) h (subst (λ (levels : ℕ). Reads s r k filled (deeper levels)) (one-asked i (w .node) h) own);
           whole = record { long = long ∙ w .whole .long; some = w .whole .some; most = w .whole .most };
           long = long ∙ w .long;
         }

@@ -1,7 +1,7 @@
 -- `drawn_tree::tree::draw_tree` meets its contract. The components left to ask fall at each call; the subtrees of the states below s are drawn
 -- (`Drawing`).
 use Prim.Native.Nat.{ℕ, _-_, _<_}
-use mathlib.Core.Path.{_≡_, sym, ap, _∙_}
+use mathlib.Core.Path.{_≡_, sym, _∙_}
 use native.Mathlib.Omega.{arith}
 use lib.ListN.{length}
 use denote.Ref.{now}
@@ -139,8 +139,8 @@ module _ (t : ℕ) where
       let own = c .before .before in
       let drawing = own .before .loop .inv in
       let pre = begun own .pre in
-      let fewer = fewer-left _ (drawing .node) (own .loop-test .taken) in
-      (omega (arith, fewer, ap unasked (c .before .with-mark .ensures), pre .0), (drawing .whole, pre .1 .1))
+      let fewer = fewer-left (drawing .node) (c .before .with-mark .ensures) (omega (arith, own .loop-test .taken)) in
+      (omega (arith, fewer, pre .0), (drawing .whole, pre .1 .1))
 
   loop-again : here lts.Need-loop-again
   loop-again c =
