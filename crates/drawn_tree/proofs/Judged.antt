@@ -33,57 +33,60 @@ node-row = record { least = omega arith; most = omega arith }
 end-row : DrawnRow badEnd
 end-row = record { least = omega arith; most = omega arith }
 
+leaf-row : DrawnRow 22
+leaf-row = record { least = omega arith; most = omega arith }
+
 node-broken : (components component : ℕ) (above : Bool) → (nodeFault components component above ≡ 0 → ⊥) → DrawnRow (nodeFault components component above)
-node-broken components component above = row-broken 20 _ node-row
+node-broken components component above = row-broken _ _ node-row
 
 behind-broken : (bytes : ℕ) → (behindFault bytes ≡ 0 → ⊥) → DrawnRow (behindFault bytes)
-behind-broken bytes = row-broken badEnd _ end-row
+behind-broken bytes = row-broken _ _ end-row
 
 leaf-broken : (loads class : ℕ) → (leafFault loads class ≡ 0 → ⊥) → DrawnRow (leafFault loads class)
-leaf-broken loads class = row-broken 22 _ (record { least = omega arith; most = omega arith })
+leaf-broken loads class = row-broken _ _ leaf-row
 
 -- ---- the readers
 
 -- no class that is reached has a bit at or above the load count
-abbrev Borne : ℕ → Tree → Type 0
-Borne loads tree = (x : List ℕ) → drawnClass tree x / 2 ^ loads ≡ 0
+abbrev Bounded : ℕ → Tree → Type 0
+Bounded loads tree = (x : List ℕ) → drawnClass tree x / 2 ^ loads ≡ 0
 
-abbrev BorneBelow : ℕ → Trees → Type 0
-BorneBelow loads subtrees = (s : ℕ) (x : List ℕ) → reached subtrees s x / 2 ^ loads ≡ 0
+abbrev AllBounded : ℕ → Trees → Type 0
+AllBounded loads subtrees = (s : ℕ) (x : List ℕ) → reached subtrees s x / 2 ^ loads ≡ 0
 
-none-borne : (loads : ℕ) → BorneBelow loads none
+none-bounded : (loads : ℕ) → AllBounded loads none
 unfolding reached
-none-borne loads s x = zero-div (2 ^ loads)
+none-bounded loads s x = zero-div (2 ^ loads)
 
-more-borne : (loads : ℕ) (tree : Tree) (subtrees : Trees) → Borne loads tree → BorneBelow loads subtrees → BorneBelow loads (more tree subtrees)
+more-bounded : (loads : ℕ) (tree : Tree) (subtrees : Trees) → Bounded loads tree → AllBounded loads subtrees → AllBounded loads (more tree subtrees)
 unfolding reached
-more-borne loads tree subtrees first rest zero x = first x
-more-borne loads tree subtrees first rest (suc s) x = rest s x
+more-bounded loads tree subtrees first rest zero x = first x
+more-bounded loads tree subtrees first rest (suc s) x = rest s x
 
 module _ (counts : List ℕ) (loads : ℕ) where
-  ends-leaf : (n : ℕ) → Ends DrawnRow n (leafRead loads) (λ tree left. Borne loads tree)
+  ends-leaf : (n : ℕ) → Ends DrawnRow n (leafRead loads) (λ tree left. Bounded loads tree)
   unfolding leafRead drawnClass
   ends-leaf n =
       ends-then (ends-byte-or badEnd n (λ few. end-row))
       (λ class left taken. ends-judge (leafFault loads class) (leaf-broken loads class) (λ kept. ends-return (λ x. leaf-kept loads class kept)))
 
-  ends-subtrees : (read : ℕ → Reader Tree) → ((s n : ℕ) → Ends DrawnRow n (read s) (λ tree left. Borne loads tree)) → (s k n : ℕ)
-      → Ends DrawnRow n (subtreesRead read s k) (λ subtrees left. BorneBelow loads subtrees)
+  ends-subtrees : (read : ℕ → Reader Tree) → ((s n : ℕ) → Ends DrawnRow n (read s) (λ tree left. Bounded loads tree)) → (s k n : ℕ)
+      → Ends DrawnRow n (subtreesRead read s k) (λ subtrees left. AllBounded loads subtrees)
   unfolding subtreesRead
-  ends-subtrees read each s zero n = ends-return (none-borne loads)
+  ends-subtrees read each s zero n = ends-return (none-bounded loads)
   ends-subtrees read each s (suc k) n =
       ends-then (each s n)
       (λ tree left first.
-      ends-then (ends-subtrees read each (s + 1) k left) (λ subtrees left rest. ends-return (more-borne loads tree subtrees first rest)))
+      ends-then (ends-subtrees read each (s + 1) k left) (λ subtrees left rest. ends-return (more-bounded loads tree subtrees first rest)))
 
-  ends-node : (marks : List ℕ) (component : ℕ) (read : ℕ → Reader Tree) → ((s n : ℕ) → Ends DrawnRow n (read s) (λ tree left. Borne loads tree)) → (n : ℕ)
-      → Ends DrawnRow n (nodeRead counts marks component read) (λ tree left. Borne loads tree)
+  ends-node : (marks : List ℕ) (component : ℕ) (read : ℕ → Reader Tree) → ((s n : ℕ) → Ends DrawnRow n (read s) (λ tree left. Bounded loads tree)) → (n : ℕ)
+      → Ends DrawnRow n (nodeRead counts marks component read) (λ tree left. Bounded loads tree)
   unfolding nodeRead drawnClass
   ends-node marks component read each n =
       ends-judge (nodeFault (length counts) component (asked marks component)) (node-broken _ component _)
       (λ kept. ends-then (ends-subtrees read each 0 (getD counts component 0) n) (λ subtrees left rest. ends-return (λ x. rest (getD x component 0) x)))
 
-  ends-tree : (levels : ℕ) (marks : List ℕ) (n : ℕ) → Ends DrawnRow n (treeRead counts loads levels marks) (λ tree left. Borne loads tree)
+  ends-tree : (levels : ℕ) (marks : List ℕ) (n : ℕ) → Ends DrawnRow n (treeRead counts loads levels marks) (λ tree left. Bounded loads tree)
   unfolding treeRead
   ends-tree zero marks n = record { ends = λ bytes e. node-row }
   ends-tree (suc levels) marks n =
@@ -96,18 +99,18 @@ module _ (counts : List ℕ) (loads : ℕ) where
             (λ is. ends-node marks first _ (λ s n. ends-tree levels (set marks first s) n) left)) .ends bytes e;
       }
 
-  ends-drawn : (n : ℕ) → Ends DrawnRow n (drawnRead counts loads) (λ tree left. Borne loads tree)
+  ends-drawn : (n : ℕ) → Ends DrawnRow n (drawnRead counts loads) (λ tree left. Bounded loads tree)
   unfolding drawnRead ended
   ends-drawn n =
       ends-then (ends-tree (suc mostComponents) nothingAsked n)
-      (λ tree left borne.
-      record { ends = λ rest e. ends-judge (behindFault (length rest)) (behind-broken (length rest)) (λ kept. ends-return borne) .ends rest e })
+      (λ tree left bounded.
+      record { ends = λ rest e. ends-judge (behindFault (length rest)) (behind-broken (length rest)) (λ kept. ends-return bounded) .ends rest e })
 
 -- ---- the laws
 
 -- a reading is refused by one of the rows, or gives a tree that bears no load beyond
 abbrev pub Judged : ℕ → Read Tree → Type 0
-Judged loads r = EndsIn DrawnRow (λ tree left. Borne loads tree) r
+Judged loads r = EndsIn DrawnRow (λ tree left. Bounded loads tree) r
 
 pub tree-judged : (counts : List ℕ) (loads levels : ℕ) (marks bytes : List ℕ) → Judged loads (treeRead counts loads levels marks bytes)
 tree-judged counts loads levels marks bytes = ends-tree counts loads levels marks (length bytes) .ends bytes refl
@@ -121,7 +124,7 @@ drawn-rows counts loads bytes n e some = go (drawnRead counts loads bytes) (draw
   where
     go : (r : Read Tree) → Judged loads r → faultIn r ≡ n → DrawnRow n
     go (refused k) row is = rw is at row
-    go (got tree rest) borne is = absurd (some (sym is))
+    go (got tree rest) bounded is = absurd (some (sym is))
 
 pub no-load-beyond : NoLoadBeyond
 unfolding drawnTree drawnClass
@@ -131,4 +134,4 @@ no-load-beyond counts loads bytes x j h =
   where
     go : (r : Read Tree) → Judged loads r → drawnClass (treeIn r) x / 2 ^ loads ≡ 0
     go (refused k) row = zero-div (2 ^ loads)
-    go (got tree rest) borne = borne x
+    go (got tree rest) bounded = bounded x

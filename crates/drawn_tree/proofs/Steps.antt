@@ -5,7 +5,6 @@ use mathlib.Core.List.{List}
 use native.Mathlib.Omega.{arith}
 use lib.ListN.{length, getD, set}
 use borrow.Author.Tests.{eq-eqb, ne-eqb}
-use Rattle.rules.specs.Breach.{first}
 use Rattle.rules.specs.Table.{nodeFault}
 use Rattle.entries.specs.Entries.{blankMark}
 use Rattle.paths.specs.Blocks.{Block}

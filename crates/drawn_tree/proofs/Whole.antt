@@ -3,7 +3,7 @@
 use Prim.Native.Nat.{ℕ, zero, suc, _-_, _<_, _≤_}
 use mathlib.Core.Path.{_≡_, refl, sym, ap, _∙_}
 use mathlib.Core.Bool.{true}
-use mathlib.Core.List.{List, [], _∷_}
+use mathlib.Core.List.{List, [], _∷_, map}
 use native.Mathlib.Decide.{decLt}
 use native.Mathlib.Omega.{arith}
 use lib.ListN.{length, getD, drop, replicate, length-drop, length-map, List·getD-eq-default}
@@ -39,7 +39,7 @@ all-fit n [] = refl
 all-fit zero (s ∷ x) = refl
 all-fit (suc n) (s ∷ x) = all-fit n x
 
-pub counts-few : {counts block : List ℕ} → Block counts block → (k : ℕ) → getD counts k 0 ≤ blankMark
+counts-few : {counts block : List ℕ} → Block counts block → (k : ℕ) → getD counts k 0 ≤ blankMark
 counts-few {counts} b k = go (decLt k (length counts))
   where
     go : Dec (k < length counts) → getD counts k 0 ≤ blankMark
@@ -58,9 +58,28 @@ module _ (counts : List ℕ) (loads : ℕ) (table s : List ℕ) (b : Block count
       alike-then tableEnded (tree-drawn counts loads (counts-few b) (suc mostComponents) nothingAsked table)
       (λ tree. record { alike = λ rest. alike-judge (behindFault (length rest)) (λ kept. alike-return refl) .alike rest })
 
+  -- the table that a reading of the tree comes to
+  abbrev tabled : Read Tree → Read (List ℕ)
+  tabled reading = andThen reading (λ tree. return (treePainted counts nothingAsked table tree))
+
+  -- what is told of such a reading
+  module _ {r n : ℕ} {filled : List ℕ} where
+    told-fault : (reading : Read Tree) → Reads s r n filled (tabled reading) → r ≡ faultIn reading
+    told-fault (refused k) held = told-refused held .by
+    told-fault (got tree rest) held = told-got held .none
+
+    told-table : (reading : Read Tree) → Reads s r n filled (tabled reading) → r ≡ 0 → filled ≡ treePainted counts nothingAsked table (treeIn reading)
+    told-table (refused k) held none = absurd (told-refused held .some none)
+    told-table (got tree rest) held none = told-got held .same
+
+  all-painted : (tree : Tree) → treePainted counts nothingAsked table tree ≡ map (drawnClass tree) (jointStates counts)
+  unfolding nothingAsked
+  all-painted tree =
+      painted-all (λ x. fits x nothingAsked) (drawnClass tree) (jointStates counts) table (all-fit mostComponents) (length-jointStates counts ∙ sym (b .long))
+
   module _ {p q r n left : ℕ} {marks filled : List ℕ} (above : marks ≡ nothingAsked) (here : Reads s p n filled (below counts loads marks s table 0 0))
       (behind : left ≡ length s - n) (rule : q ≡ behindFault left) (both : r ≡ first p q) where
-    read : Reads s r n filled (andThen (drawnRead counts loads s) (λ tree. return (treePainted counts nothingAsked table tree)))
+    read : Reads s r n filled (tabled (drawnRead counts loads s))
     unfolding asRead unasked nothingAsked
     read =
         let start : Reads s p n filled (treeDrawn counts loads (suc mostComponents) nothingAsked table s) =
@@ -70,26 +89,9 @@ module _ (counts : List ℕ) (loads : ℕ) (table s : List ℕ) (b : Block count
         after tableEnded start (judged-last (behindFault (length (drop n s))) last) both in
         record { same = all .same ∙ whole-drawn .alike s }
 
-    drawn-fault : r ≡ drawnFault counts loads s
-    unfolding drawnFault
-    drawn-fault = go (drawnRead counts loads s) read
-      where
-        go : (reading : Read Tree) → Reads s r n filled (andThen reading (λ tree. return (treePainted counts nothingAsked table tree))) → r ≡ faultIn reading
-        go (refused k) held = told-refused held .by
-        go (got tree rest) held = told-got held .none
-
-    drawn-classes : r ≡ 0 → filled ≡ drawnClasses counts loads s
-    unfolding drawnClasses drawnTree nothingAsked
-    drawn-classes none =
-        go (drawnRead counts loads s) read
-        ∙ painted-all (λ x. fits x nothingAsked) (drawnClass (drawnTree counts loads s)) (jointStates counts) table (all-fit mostComponents)
-        (length-jointStates counts ∙ sym (b .long))
-      where
-        go : (reading : Read Tree) → Reads s r n filled (andThen reading (λ tree. return (treePainted counts nothingAsked table tree)))
-            → filled ≡ treePainted counts nothingAsked table (treeIn reading)
-        go (refused k) held = absurd (told-refused held .some none)
-        go (got tree rest) held = told-got held .same
-
     -- what the call answers
     pub drawn-whole : (r ≡ drawnFault counts loads s) × (r ≡ 0 → filled ≡ drawnClasses counts loads s)
-    drawn-whole = (drawn-fault, drawn-classes)
+    unfolding drawnFault drawnClasses drawnTree
+    drawn-whole =
+        let reading = drawnRead counts loads s in
+        (told-fault reading read, λ none. told-table reading read none ∙ all-painted (treeIn reading))

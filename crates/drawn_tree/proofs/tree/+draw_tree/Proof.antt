@@ -83,6 +83,7 @@ module _ (t : ℕ) where
   abbrev asks : here lts.After-asked → here lts.Else2
   asks c = c .before .before .before
 
+  -- row 20 is judged of the component that the byte names
   fault-is : (c : here lts.After-node-fault)
       → let byte = first (asks (c .before)) in
       let a = start (byte .before) .args in
@@ -93,6 +94,7 @@ module _ (t : ℕ) where
   abbrev node : here lts.After-count-of → here lts.After-node-fault
   node c = c .before .before
 
+  -- and is kept there
   node-is : (c : here lts.After-count-of)
       → let byte = first (asks (node c .before)) in
       let a = start (byte .before) .args in
