@@ -3,6 +3,7 @@
 pub mod bounds;
 pub mod calls;
 pub mod figures;
+pub mod gates;
 pub mod image;
 pub mod losses;
 pub mod opening;

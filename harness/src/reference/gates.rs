@@ -1,0 +1,40 @@
+//! The truth of gates in a joint state, and the class that it comes to.
+use super::study::Study;
+
+/// Whether a gate is true in a joint state. A gate found before is not asked again: lower gates have many above them.
+fn is_true(study: &Study, gate: u8, joint: &[u8], found: &mut [Option<bool>]) -> bool {
+    if let Some(truth) = found[usize::from(gate)] {
+        return truth;
+    }
+    let this = &study.gates[usize::from(gate)];
+    let mut inputs = 0;
+    for test in &this.tests {
+        let state = joint[usize::from(test.component)];
+        if test.mask & (1 << state) != 0 {
+            inputs += 1;
+        }
+    }
+    for &input in &this.gates {
+        if is_true(study, input, joint, found) {
+            inputs += 1;
+        }
+    }
+    let truth = inputs >= usize::from(this.threshold);
+    found[usize::from(gate)] = Some(truth);
+    truth
+}
+
+/// The class of a joint state: bit j stands when load j's gate is true.
+pub fn class(study: &Study, joint: &[u8]) -> u8 {
+    let mut found = vec![None; study.gates.len()];
+    let mut class = 0;
+    for (j, load) in study.loads.iter().enumerate() {
+        let lost = load
+            .gate
+            .is_some_and(|gate| is_true(study, gate, joint, &mut found));
+        if lost {
+            class |= 1 << j;
+        }
+    }
+    class
+}
