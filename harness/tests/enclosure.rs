@@ -2,7 +2,7 @@
 use harness::generate::{sound_input, Random};
 use harness::reference::bounds::{bounded_paths, class_bounds, load_bounds, Bounds};
 use harness::reference::figures::figures;
-use harness::reference::losses::Losses;
+use harness::reference::losses::{Losses, Meaning};
 use harness::reference::opening::open;
 use harness::reference::paths::Path;
 use harness::reference::study::{Study, ONE};
@@ -72,8 +72,8 @@ fn check_figures(study: &Study, losses: &Losses, list: &[(Path, Bounds)], unit: 
 }
 
 fn check(study: &Study) {
-    let losses = Losses::of(study);
-    let list = bounded_paths(study);
+    let losses = Losses::of(study, &Meaning::Gates);
+    let list = bounded_paths(study, &Meaning::Gates);
     let unit = ONE.pow(study.components.len() as u32 - 1);
     for (class, bounds) in class_bounds(&list) {
         let wanted = |other| other == class;

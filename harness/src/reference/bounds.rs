@@ -1,5 +1,5 @@
 //! Bounds of paths, classes and loads, in units.
-use super::losses::Losses;
+use super::losses::{Losses, Meaning};
 use super::paths::{paths, Path};
 use super::study::{Study, ONE};
 use std::collections::BTreeMap;
@@ -11,9 +11,9 @@ pub struct Bounds {
     pub upper: u64,
 }
 
-/// A study's paths, each with its bounds.
-pub fn bounded_paths(study: &Study) -> Vec<(Path, Bounds)> {
-    let list = paths(&Losses::of(study));
+/// A study's paths under a meaning, each with its bounds.
+pub fn bounded_paths(study: &Study, meaning: &Meaning) -> Vec<(Path, Bounds)> {
+    let list = paths(&Losses::of(study, meaning));
     list.into_iter()
         .map(|path| {
             let bounds = path_bounds(study, &path);

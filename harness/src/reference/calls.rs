@@ -1,8 +1,9 @@
-//! The library's calls over lent bytes, in the same form: a count or a refusal, and nothing lent touched where refused.
+//! The library's calls over lent bytes, in the same form: a count or a refusal, and nothing lent touched where refused. A call that takes a tree goes by
+//! the gates where it is given none.
 use super::bounds::{bounded_paths, class_bounds as by_class, load_bounds as of_load, Bounds};
 use super::figures::{figures as figures_of, Figures};
 use super::image::{self, IMAGE_BYTES};
-use super::losses::Losses;
+use super::losses::{Losses, Meaning};
 use super::opening;
 use super::paths::paths;
 use super::refusals::*;
@@ -71,16 +72,22 @@ pub fn write(image: &[u8], bytes: &mut [u8]) -> Answer {
     hand_over(&writing::write(&sound(image)?), bytes)
 }
 
-pub fn list_paths(image: &[u8], buffer: &mut [u8]) -> Answer {
-    let list = paths(&Losses::of(&sound(image)?));
+pub fn list_paths(image: &[u8], tree: Option<&[u8]>, buffer: &mut [u8]) -> Answer {
+    let study = sound(image)?;
+    let list = paths(&Losses::of(&study, &Meaning::of(&study, tree)?));
     let entries: Vec<u8> = list.iter().flat_map(|path| path.entry()).collect();
-    unless(buffer.len() >= entries.len(), NO_ROOM)?;
-    buffer[..entries.len()].copy_from_slice(&entries);
+    hand_over(&entries, buffer)?;
     Ok(list.len())
 }
 
-pub fn path_bounds(image: &[u8], lower: &mut [u64], upper: &mut [u64]) -> Answer {
-    let list = bounded_paths(&sound(image)?);
+pub fn path_bounds(
+    image: &[u8],
+    tree: Option<&[u8]>,
+    lower: &mut [u64],
+    upper: &mut [u64],
+) -> Answer {
+    let study = sound(image)?;
+    let list = bounded_paths(&study, &Meaning::of(&study, tree)?);
     unless(lower.len().min(upper.len()) >= list.len(), NO_ROOM)?;
     for (k, (_, bounds)) in list.iter().enumerate() {
         lower[k] = bounds.lower;
@@ -89,10 +96,16 @@ pub fn path_bounds(image: &[u8], lower: &mut [u64], upper: &mut [u64]) -> Answer
     Ok(list.len())
 }
 
-pub fn class_bounds(image: &[u8], lower: &mut [u64], upper: &mut [u64]) -> Answer {
+pub fn class_bounds(
+    image: &[u8],
+    tree: Option<&[u8]>,
+    lower: &mut [u64],
+    upper: &mut [u64],
+) -> Answer {
     let study = sound(image)?;
+    let meaning = Meaning::of(&study, tree)?;
     unless(lower.len().min(upper.len()) >= 256, NO_ROOM)?;
-    let occurring = by_class(&bounded_paths(&study));
+    let occurring = by_class(&bounded_paths(&study, &meaning));
     for class in 0..=255u8 {
         let none = Bounds { lower: 0, upper: 0 };
         let bounds = occurring.get(&class).unwrap_or(&none);
@@ -102,24 +115,32 @@ pub fn class_bounds(image: &[u8], lower: &mut [u64], upper: &mut [u64]) -> Answe
     Ok(0)
 }
 
-pub fn load_bounds(image: &[u8], load: usize, lower: &mut u64, upper: &mut u64) -> Answer {
+pub fn load_bounds(
+    image: &[u8],
+    tree: Option<&[u8]>,
+    load: usize,
+    lower: &mut u64,
+    upper: &mut u64,
+) -> Answer {
     let study = sound(image)?;
     unless(load < study.loads.len(), NO_ITEM)?;
-    let bounds = of_load(&bounded_paths(&study), load);
+    let meaning = Meaning::of(&study, tree)?;
+    let bounds = of_load(&bounded_paths(&study, &meaning), load);
     *lower = bounds.lower;
     *upper = bounds.upper;
     Ok(0)
 }
 
-pub fn figures(image: &[u8], places: &mut [u64]) -> Answer {
+pub fn figures(image: &[u8], tree: Option<&[u8]>, places: &mut [u64]) -> Answer {
     let study = sound(image)?;
+    let meaning = Meaning::of(&study, tree)?;
     unless(places.len() >= 8, NO_ROOM)?;
     let Figures {
         saifi,
         saidi,
         caidi,
         maifi,
-    } = figures_of(&study, &bounded_paths(&study))?;
+    } = figures_of(&study, &bounded_paths(&study, &meaning))?;
     let stated = [Some(saifi), Some(saidi), caidi, Some(maifi)];
     // Each figure has two places of its own, whether or not the others are stated.
     for (figure, pair) in stated.iter().zip(places.chunks_mut(2)) {

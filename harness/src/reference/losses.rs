@@ -1,6 +1,33 @@
-//! What a study loses: all joint states in order, and the class of each.
+//! What a study loses, by its gates or by a tree drawn in their place: all joint states in order, and the class of each.
+use super::drawn::{self, Tree};
 use super::gates;
 use super::study::{joint_state_count, Study};
+
+/// What says which loads are lost in a joint state.
+pub enum Meaning {
+    /// The gates of the study, by the loss gate of each load.
+    Gates,
+    /// A tree in place of all gates, by the class of its leaf.
+    Drawn(Tree),
+}
+
+impl Meaning {
+    /// The meaning of a study beside the bytes of a tree, or beside none. Refused by 20 to 22.
+    pub fn of(study: &Study, tree: Option<&[u8]>) -> Result<Meaning, u8> {
+        match tree {
+            None => Ok(Meaning::Gates),
+            Some(bytes) => Ok(Meaning::Drawn(drawn::read(study, bytes)?)),
+        }
+    }
+
+    /// The class of a joint state.
+    fn class(&self, study: &Study, joint: &[u8]) -> u8 {
+        match self {
+            Meaning::Gates => gates::class(study, joint),
+            Meaning::Drawn(tree) => tree.class(joint),
+        }
+    }
+}
 
 /// The joint states of a study with their classes.
 pub struct Losses {
@@ -24,13 +51,13 @@ fn joint_state(counts: &[u8], number: usize) -> Vec<u8> {
 }
 
 impl Losses {
-    pub fn of(study: &Study) -> Losses {
+    pub fn of(study: &Study, meaning: &Meaning) -> Losses {
         let counts: Vec<u8> = study.components.iter().map(|c| c.states).collect();
         let all = 0..joint_state_count(&study.components);
         let joint_states: Vec<Vec<u8>> = all.map(|number| joint_state(&counts, number)).collect();
         let classes = joint_states
             .iter()
-            .map(|joint| gates::class(study, joint))
+            .map(|joint| meaning.class(study, joint))
             .collect();
         Losses {
             counts,

@@ -2,6 +2,7 @@
 //! It goes over joint states one by one and is slow. Nothing here was taken from the proved code or from the port.
 pub mod bounds;
 pub mod calls;
+pub mod drawn;
 pub mod figures;
 pub mod gates;
 pub mod image;

@@ -19,9 +19,12 @@ pub const UNSOUND: u8 = 16;
 pub const NO_ITEM: u8 = 17;
 pub const NO_ROOM: u8 = 18;
 pub const NO_CUSTOMERS: u8 = 19;
+pub const NODE: u8 = 20;
+pub const BAD_END: u8 = 21;
+pub const LEAF: u8 = 22;
 
 /// The words in the order of their numbers, from 1 on.
-const WORDS: [&str; 19] = [
+const WORDS: [&str; 22] = [
     "short",
     "counts",
     "stray bit",
@@ -41,6 +44,9 @@ const WORDS: [&str; 19] = [
     "no item",
     "no room",
     "no customers",
+    "node",
+    "bad end",
+    "leaf",
 ];
 
 /// The word of a refusal; none for a number that the table lacks.

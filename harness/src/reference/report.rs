@@ -1,6 +1,7 @@
 //! The text of the report program.
 use super::bounds::{bounded_paths, class_bounds, load_bounds, Bounds};
 use super::figures::figures;
+use super::losses::Meaning;
 use super::opening::open;
 use super::paths::Path;
 use super::refusals::word;
@@ -42,7 +43,7 @@ fn figure_lines(study: &Study, list: &[(Path, Bounds)]) -> String {
 }
 
 fn study_report(study: &Study) -> String {
-    let list = bounded_paths(study);
+    let list = bounded_paths(study, &Meaning::Gates);
     let mut text = format!("PATHS {}\n", list.len());
     for (path, bounds) in &list {
         text += &format!("P {path} {bounds}\n");

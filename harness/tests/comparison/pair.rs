@@ -7,7 +7,8 @@ use crate::tally::Tally;
 use harness::generate::Random;
 use harness::library::{self, STUDY_BYTES};
 use harness::reference::calls as reference;
-use harness::reference::{image, losses::Losses, opening, paths, report};
+use harness::reference::losses::{Losses, Meaning};
+use harness::reference::{image, opening, paths, report};
 use harness::studies::to_hexadecimal;
 use std::fmt::Debug;
 
@@ -28,7 +29,7 @@ fn list_size(shown: &[u8]) -> (usize, usize) {
     match image::read(shown) {
         None => (0, 0),
         Some(study) => {
-            let list = paths::paths(&Losses::of(&study));
+            let list = paths::paths(&Losses::of(&study, &Meaning::Gates));
             (list.len(), study.components.len() + 1)
         }
     }
@@ -199,7 +200,7 @@ impl<'a> Pair<'a> {
                 &format!("list paths into {room} bytes"),
                 (image.clone(), Lent::bytes(random, room)),
                 |(image, lent)| library::list_paths(image.held(), lent.room()),
-                |(image, lent)| reference::list_paths(image.held(), lent.room()),
+                |(image, lent)| reference::list_paths(image.held(), None, lent.room()),
             );
         }
     }
@@ -215,7 +216,7 @@ impl<'a> Pair<'a> {
                 library::path_bounds(image.held(), lower.room(), upper.room())
             },
             |(image, [lower, upper])| {
-                reference::path_bounds(image.held(), lower.room(), upper.room())
+                reference::path_bounds(image.held(), None, lower.room(), upper.room())
             },
         );
     }
@@ -232,7 +233,7 @@ impl<'a> Pair<'a> {
             },
             |(image, lower, upper)| {
                 let (lower, upper) = (&mut lower.room()[0], &mut upper.room()[0]);
-                reference::load_bounds(image.held(), load, lower, upper)
+                reference::load_bounds(image.held(), None, load, lower, upper)
             },
         );
     }
@@ -244,7 +245,7 @@ impl<'a> Pair<'a> {
                 &format!("figures into {room} places"),
                 (image.clone(), Lent::words(random, room)),
                 |(image, lent)| library::figures(image.held(), lent.room()),
-                |(image, lent)| reference::figures(image.held(), lent.room()),
+                |(image, lent)| reference::figures(image.held(), None, lent.room()),
             );
             if let Ok(stated) = both.answer {
                 self.tally.count_figures(stated, both.lent.1.held());

@@ -41,7 +41,7 @@ impl Pair<'_> {
                 library::class_bounds(image.held(), lower.room(), upper.room())
             },
             |(image, [lower, upper])| {
-                reference::class_bounds(image.held(), lower.room(), upper.room())
+                reference::class_bounds(image.held(), None, lower.room(), upper.room())
             },
         );
         let (_, lent) = both.lent;
