@@ -1,5 +1,6 @@
-//! The bounds of the second implementation enclose the exact probabilities, as near as demand 2 asks, and its figures the exact quotients.
-use harness::generate::{sound_input, Random};
+//! The bounds of the second implementation enclose the exact probabilities, as near as demand 2 asks, and its figures the exact quotients: by the
+//! gates of a study, and by a tree that is drawn in their place.
+use harness::generate::{sound_input, tree, Random};
 use harness::reference::bounds::{bounded_paths, class_bounds, load_bounds, Bounds};
 use harness::reference::figures::figures;
 use harness::reference::losses::{Losses, Meaning};
@@ -71,9 +72,10 @@ fn check_figures(study: &Study, losses: &Losses, list: &[(Path, Bounds)], unit: 
     }
 }
 
-fn check(study: &Study) {
-    let losses = Losses::of(study, &Meaning::Gates);
-    let list = bounded_paths(study, &Meaning::Gates);
+fn check(study: &Study, tree: Option<&[u8]>) {
+    let meaning = Meaning::of(study, tree).expect("a tree that keeps the rules");
+    let losses = Losses::of(study, &meaning);
+    let list = bounded_paths(study, &meaning);
     let unit = ONE.pow(study.components.len() as u32 - 1);
     for (class, bounds) in class_bounds(&list) {
         let wanted = |other| other == class;
@@ -97,10 +99,11 @@ fn check(study: &Study) {
 fn bounds_enclose_exact_probabilities() {
     let mut checked = 0;
     for seed in 2_000_000..2_006_000 {
-        let bytes = sound_input(&mut Random::new(seed));
-        let study = open(&bytes).expect("a sound study");
+        let random = &mut Random::new(seed);
+        let study = open(&sound_input(random)).expect("a sound study");
         if study.components.len() <= MOST_COMPONENTS {
-            check(&study);
+            check(&study, None);
+            check(&study, Some(&tree(random, &study)));
             checked += 1;
         }
     }

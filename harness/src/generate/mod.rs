@@ -1,13 +1,17 @@
-//! Inputs for the comparison, from a seed: sound studies, twins of them, damaged ones, and altered images.
+//! Inputs for the comparison, from a seed: sound studies, twins of them, damaged ones, altered images, and trees that are drawn beside a study.
 mod altered;
 mod damaged;
+mod damaged_trees;
 mod draft;
 mod random;
 mod sound;
+mod trees;
 mod twins;
 
 pub use altered::altered;
+pub use damaged_trees::{damaged_tree, tree_noise};
 pub use random::Random;
+pub use trees::{drawn, tree, Style, BY_GATES};
 pub use twins::twins;
 
 /// The bytes of a study: somewhat more than half are sound, the others have a breach or several.
