@@ -1,10 +1,11 @@
-//! The port that the benchmark times must be right as well: its reports, images and written studies agree with the second implementation's, and its
-//! bounds of classes and loads with the library's.
+//! The port that the benchmark times must be right as well: its reports, images, written studies and bounds of classes by a drawn tree agree with the
+//! second implementation's, and its bounds of classes and loads by gates with the library's.
 use harness::generate::{self, Random};
 use harness::library::{self, CLASS_PLACES, LONGEST_STUDY, REPORT_BYTES, STUDY_BYTES};
 use harness::port;
 use harness::reference::calls as reference;
-use harness::reference::study::MOST_LOADS;
+use harness::reference::image;
+use harness::reference::study::{Study, MOST_LOADS};
 use harness::studies::to_hexadecimal;
 
 /// What lent bytes and places hold before a call.
@@ -45,15 +46,29 @@ fn compare_rooms(calls: [Call; 2], given: &[u8], most: usize) {
     }
 }
 
-/// Bounds of classes in slices of so many places.
-fn compare_classes(image: &[u8], rooms: [usize; 2]) {
-    let calls = [port::class_bounds, library::class_bounds];
-    let made = calls.map(|call| {
-        let [mut lower, mut upper] = rooms.map(|room| vec![LENT_NUMBER; room]);
-        let answer = call(image, &mut lower, &mut upper);
-        (answer, lower, upper)
-    });
-    assert_same(&made, image);
+/// A call for bounds of classes.
+type Bounding<'a> = &'a dyn Fn(&mut [u64], &mut [u64]) -> Answer;
+
+/// What both calls for bounds of classes make of what is given, in slices with room enough, more and too little.
+fn compare_classes(calls: [Bounding; 2], given: &[u8]) {
+    let (enough, more, few) = (CLASS_PLACES, CLASS_PLACES + 1, CLASS_PLACES - 1);
+    for rooms in [[enough, enough], [more, more], [few, enough], [enough, few]] {
+        let made = calls.map(|call| {
+            let [mut lower, mut upper] = rooms.map(|room| vec![LENT_NUMBER; room]);
+            let answer = call(&mut lower, &mut upper);
+            (answer, lower, upper)
+        });
+        assert_same(&made, given);
+    }
+}
+
+/// Bounds of classes by a tree beside an image.
+fn compare_drawn(image: &[u8], tree: &[u8]) {
+    let calls: [Bounding; 2] = [
+        &|lower, upper| port::drawn_class_bounds(image, tree, lower, upper),
+        &|lower, upper| reference::class_bounds(image, Some(tree), lower, upper),
+    ];
+    compare_classes(calls, &[image, tree].concat());
 }
 
 fn compare_load(image: &[u8], load: usize) {
@@ -66,15 +81,26 @@ fn compare_load(image: &[u8], load: usize) {
     assert_same(&made, image);
 }
 
-/// All calls on an image: with room enough, more and too little, and for loads that it has and that it lacks.
+/// All calls on an image, also for loads that it lacks.
 fn compare_questions(image: &[u8]) {
     compare_rooms([port::write, reference::write], image, LONGEST_STUDY);
-    let (enough, more, few) = (CLASS_PLACES, CLASS_PLACES + 1, CLASS_PLACES - 1);
-    for rooms in [[enough, enough], [more, more], [few, enough], [enough, few]] {
-        compare_classes(image, rooms);
-    }
+    let calls: [Bounding; 2] = [
+        &|lower, upper| port::class_bounds(image, lower, upper),
+        &|lower, upper| library::class_bounds(image, lower, upper),
+    ];
+    compare_classes(calls, image);
     for load in 0..=MOST_LOADS {
         compare_load(image, load);
+    }
+}
+
+/// Trees beside an image, and beside one that is altered.
+fn compare_trees(random: &mut Random, image: &[u8], study: &Study) {
+    let altered = generate::altered(random, image);
+    let trees = [generate::tree, generate::damaged_tree];
+    for tree in trees.map(|draw| draw(random, study)) {
+        compare_drawn(image, &tree);
+        compare_drawn(&altered, &tree);
     }
 }
 
@@ -87,9 +113,10 @@ fn port_agrees() {
         compare([port::open, reference::open], &bytes, STUDY_BYTES - 1);
         let opened = compare([port::open, reference::open], &bytes, STUDY_BYTES);
         compare_questions(&opened.lent);
-        if opened.answer.is_ok() {
+        if let Some(study) = image::read(&opened.lent) {
             for _ in 0..4 {
                 compare_questions(&generate::altered(random, &opened.lent));
+                compare_trees(random, &opened.lent, &study);
             }
         }
     }

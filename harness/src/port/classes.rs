@@ -48,13 +48,12 @@ fn next_joint_state(counts: &[u8], joint: &mut [u8]) {
     }
 }
 
-pub fn class_table(study: &Study, counts: &[u8], joint_states: usize) -> [u8; MOST_JOINT_STATES] {
-    let mut table = [0; MOST_JOINT_STATES];
+/// Fills a block that has a place for each joint state.
+pub fn fill_classes(study: &Study, counts: &[u8], block: &mut [u8]) {
     let mut places = [0; COMPONENT_PLACES];
     let joint = &mut places[..counts.len()];
-    for class in &mut table[..joint_states] {
+    for class in block {
         *class = class_by(&gate_truths(study.gates(), joint), study.loads());
         next_joint_state(counts, joint);
     }
-    table
 }

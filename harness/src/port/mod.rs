@@ -1,8 +1,9 @@
-//! A port of the proved report, opening, writing and bounds of classes and loads to plain Rust, step for step the same: what the proved code is
-//! timed against.
+//! A port of the proved report, opening, writing and bounds of classes and loads, by gates or by a drawn tree, to plain Rust, step for step the same:
+//! what the proved code is timed against.
 mod bounds;
 mod calls;
 mod classes;
+mod drawn;
 mod figures;
 mod image;
 mod model;
@@ -17,5 +18,5 @@ mod text;
 mod totals;
 mod writing;
 
-pub use calls::{class_bounds, load_bounds, open, write};
+pub use calls::{class_bounds, drawn_class_bounds, load_bounds, open, write};
 pub use report::report;

@@ -1,5 +1,6 @@
 //! What paths, bounds and figures are worked out of: state counts, the class of each joint state, and probabilities.
-use super::classes::class_table;
+use super::classes::fill_classes;
+use super::drawn::draw_classes;
 use super::study::*;
 
 /// The probabilities of the states of each component.
@@ -14,17 +15,38 @@ pub struct Model {
 }
 
 impl Model {
-    pub fn of(study: &Study) -> Model {
+    /// A model whose class table is not filled yet.
+    fn unfilled(study: &Study) -> Model {
         let all = study.state_counts();
         let counts = &all[..usize::from(study.components)];
-        let joint_states = counts.iter().map(|&states| usize::from(states)).product();
         Model {
             counts: all,
             components: counts.len(),
-            table: class_table(study, counts, joint_states),
-            joint_states,
+            table: [0; MOST_JOINT_STATES],
+            joint_states: counts.iter().map(|&states| usize::from(states)).product(),
             probabilities: probability_table(study),
         }
+    }
+
+    /// A study with the classes of its gates.
+    pub fn of(study: &Study) -> Model {
+        let mut model = Model::unfilled(study);
+        let counts = &model.counts[..model.components];
+        fill_classes(study, counts, &mut model.table[..model.joint_states]);
+        model
+    }
+
+    /// A study with the classes of a drawn tree. Refused by 20 to 22.
+    pub fn drawn(study: &Study, tree: &[u8]) -> Result<Model, u8> {
+        let mut model = Model::unfilled(study);
+        let counts = &model.counts[..model.components];
+        draw_classes(
+            counts,
+            study.loads,
+            tree,
+            &mut model.table[..model.joint_states],
+        )?;
+        Ok(model)
     }
 
     pub fn counts(&self) -> &[u8] {
