@@ -2,6 +2,12 @@
  *
  * A slice is a pointer and its length in elements. A call answers a count or 0, or a refusal as its number below 0; the numbers are those of
  * the refusal table. Where a call is refused, nothing lent is touched. No call keeps a pointer, and lent slices must not overlap.
+ *
+ * A drawn tree is a row of bytes beside a study: a component's number and behind it a subtree for each of its states, from state 0 on; or 255 and behind
+ * it a class. Branches may ask components in orders of their own, none of them twice. For that one call the tree stands in for the study's gates and
+ * loss gates: a joint state has the class of the leaf that it comes to, and load j is lost where bit j of it stands. The tree is judged from left
+ * to right: a component that the study lacks or that is asked above on the same branch is 20, a class with the bit of a load that the study lacks is 22,
+ * and bytes that end too soon or, once the tree is whole, too late are 21. The study must be sound with its gates all the same (16).
  */
 #ifndef GRID_H
 #define GRID_H
@@ -55,20 +61,41 @@ int64_t grid_write(const uint8_t *study, size_t study_len, uint8_t *bytes, size_
  * Answers the number of paths. Refused by 16, 18. */
 int64_t grid_list_paths(const uint8_t *study, size_t study_len, uint8_t *buffer, size_t buffer_len);
 
+/* The same by a drawn tree. The entries keep the order of the study's components, whatever the order in which the tree asks them. Answers the number
+ * of paths. Refused by 16, 20 to 22, 18. */
+int64_t grid_drawn_list_paths(const uint8_t *study, size_t study_len, const uint8_t *tree, size_t tree_len, uint8_t *buffer,
+                              size_t buffer_len);
+
 /* Writes the bounds of each path, in units of a billionth, at the front of both slices. Answers the number of paths. Refused by 16, 18. */
 int64_t grid_path_bounds(const uint8_t *study, size_t study_len, uint64_t *lower, size_t lower_len, uint64_t *upper, size_t upper_len);
+
+/* The same by a drawn tree. Answers the number of paths. Refused by 16, 20 to 22, 18. */
+int64_t grid_drawn_path_bounds(const uint8_t *study, size_t study_len, const uint8_t *tree, size_t tree_len, uint64_t *lower,
+                               size_t lower_len, uint64_t *upper, size_t upper_len);
 
 /* Writes the bounds of each class at places 0 to 255 of both slices, whatever stood there; 0 for a class that does not occur. Answers 0. Refused
  * by 16, 18. */
 int64_t grid_class_bounds(const uint8_t *study, size_t study_len, uint64_t *lower, size_t lower_len, uint64_t *upper, size_t upper_len);
 
+/* The same by a drawn tree. Answers 0. Refused by 16, 20 to 22, 18. */
+int64_t grid_drawn_class_bounds(const uint8_t *study, size_t study_len, const uint8_t *tree, size_t tree_len, uint64_t *lower,
+                                size_t lower_len, uint64_t *upper, size_t upper_len);
+
 /* Writes the bounds for the loss of a load. Answers 0. Refused by 16, 17. */
 int64_t grid_load_bounds(const uint8_t *study, size_t study_len, size_t load, uint64_t *lower, uint64_t *upper);
+
+/* The same by a drawn tree. Answers 0. Refused by 16, 17, 20 to 22. */
+int64_t grid_drawn_load_bounds(const uint8_t *study, size_t study_len, const uint8_t *tree, size_t tree_len, size_t load,
+                               uint64_t *lower, uint64_t *upper);
 
 /* Writes the lower and the upper bound of SAIFI (units), SAIDI (billionths of a minute), CAIDI (minutes) and MAIFI (units) at places 0 to 7.
  * Loads with a restore time of 5 minutes or less count in MAIFI alone, all others in the first three.
  * Answers 4, or 3 where CAIDI is not stated and places 4 and 5 keep what they held. Refused by 16, 18, 19. */
 int64_t grid_figures(const uint8_t *study, size_t study_len, uint64_t *figures, size_t figures_len);
+
+/* The same by a drawn tree. Answers 4, or 3 where CAIDI is not stated. Refused by 16, 20 to 22, 18, 19. */
+int64_t grid_drawn_figures(const uint8_t *study, size_t study_len, const uint8_t *tree, size_t tree_len, uint64_t *figures,
+                           size_t figures_len);
 
 /* How many loads are lost in a class: the ones of its byte. */
 int64_t grid_loads_lost(uint8_t class_);

@@ -6,11 +6,17 @@ pub const STUDY_BYTES: usize = 2087;
 /// The bytes of the longest study that is written.
 pub const LONGEST_STUDY: usize = 2023;
 
+/// Room for any list of paths.
+pub const LIST_BYTES: usize = 53_248;
+
 /// Room for any report.
 pub const REPORT_BYTES: usize = 180_224;
 
 /// The places that class bounds need in each slice.
 pub const CLASS_PLACES: usize = 256;
+
+/// The places that the figures need.
+pub const FIGURE_PLACES: usize = 8;
 
 /// A result, or the number of the refusal table by which the call was refused.
 pub type Answer<T> = Result<T, u8>;
@@ -53,6 +59,51 @@ extern "C" {
         upper: *mut u64,
     ) -> i64;
     fn grid_figures(study: *const u8, size: usize, figures: *mut u64, room: usize) -> i64;
+    fn grid_drawn_list_paths(
+        study: *const u8,
+        size: usize,
+        tree: *const u8,
+        tree_size: usize,
+        buffer: *mut u8,
+        room: usize,
+    ) -> i64;
+    fn grid_drawn_path_bounds(
+        study: *const u8,
+        size: usize,
+        tree: *const u8,
+        tree_size: usize,
+        lower: *mut u64,
+        lower_room: usize,
+        upper: *mut u64,
+        upper_room: usize,
+    ) -> i64;
+    fn grid_drawn_class_bounds(
+        study: *const u8,
+        size: usize,
+        tree: *const u8,
+        tree_size: usize,
+        lower: *mut u64,
+        lower_room: usize,
+        upper: *mut u64,
+        upper_room: usize,
+    ) -> i64;
+    fn grid_drawn_load_bounds(
+        study: *const u8,
+        size: usize,
+        tree: *const u8,
+        tree_size: usize,
+        load: usize,
+        lower: *mut u64,
+        upper: *mut u64,
+    ) -> i64;
+    fn grid_drawn_figures(
+        study: *const u8,
+        size: usize,
+        tree: *const u8,
+        tree_size: usize,
+        figures: *mut u64,
+        room: usize,
+    ) -> i64;
     fn grid_loads_lost(class: u8) -> i64;
     fn grid_report(bytes: *const u8, size: usize, text: *mut u8, room: usize) -> i64;
     fn grid_refusal_word(number: u8, text: *mut u8, room: usize) -> i64;
@@ -106,10 +157,12 @@ pub fn list_paths(study: &[u8], buffer: &mut [u8]) -> Answer<usize> {
     })
 }
 
-/// Writes the bounds of each path, and answers how many there are. Refused by 16, 18.
-pub fn path_bounds(study: &[u8], lower: &mut [u64], upper: &mut [u64]) -> Answer<usize> {
+/// The calls for bounds of paths and of classes, which take the same.
+type Bounding = unsafe extern "C" fn(*const u8, usize, *mut u64, usize, *mut u64, usize) -> i64;
+
+fn bound(call: Bounding, study: &[u8], lower: &mut [u64], upper: &mut [u64]) -> Answer<usize> {
     answer(unsafe {
-        grid_path_bounds(
+        call(
             study.as_ptr(),
             study.len(),
             lower.as_mut_ptr(),
@@ -120,18 +173,14 @@ pub fn path_bounds(study: &[u8], lower: &mut [u64], upper: &mut [u64]) -> Answer
     })
 }
 
+/// Writes the bounds of each path, and answers how many there are. Refused by 16, 18.
+pub fn path_bounds(study: &[u8], lower: &mut [u64], upper: &mut [u64]) -> Answer<usize> {
+    bound(grid_path_bounds, study, lower, upper)
+}
+
 /// Writes the bounds of each class at places 0 to 255. Refused by 16, 18.
 pub fn class_bounds(study: &[u8], lower: &mut [u64], upper: &mut [u64]) -> Answer<usize> {
-    answer(unsafe {
-        grid_class_bounds(
-            study.as_ptr(),
-            study.len(),
-            lower.as_mut_ptr(),
-            lower.len(),
-            upper.as_mut_ptr(),
-            upper.len(),
-        )
-    })
+    bound(grid_class_bounds, study, lower, upper)
 }
 
 /// Writes the bounds for the loss of a load. Refused by 16, 17.
@@ -145,6 +194,108 @@ pub fn figures(study: &[u8], figures: &mut [u64]) -> Answer<usize> {
         grid_figures(
             study.as_ptr(),
             study.len(),
+            figures.as_mut_ptr(),
+            figures.len(),
+        )
+    })
+}
+
+/// Lists the paths by a drawn tree in place of the study's gates, and answers how many there are. Refused by 16, 20 to 22, 18.
+pub fn drawn_list_paths(study: &[u8], tree: &[u8], buffer: &mut [u8]) -> Answer<usize> {
+    answer(unsafe {
+        grid_drawn_list_paths(
+            study.as_ptr(),
+            study.len(),
+            tree.as_ptr(),
+            tree.len(),
+            buffer.as_mut_ptr(),
+            buffer.len(),
+        )
+    })
+}
+
+/// The same calls with a drawn tree.
+type DrawnBounding = unsafe extern "C" fn(
+    *const u8,
+    usize,
+    *const u8,
+    usize,
+    *mut u64,
+    usize,
+    *mut u64,
+    usize,
+) -> i64;
+
+fn bound_drawn(
+    call: DrawnBounding,
+    study: &[u8],
+    tree: &[u8],
+    lower: &mut [u64],
+    upper: &mut [u64],
+) -> Answer<usize> {
+    answer(unsafe {
+        call(
+            study.as_ptr(),
+            study.len(),
+            tree.as_ptr(),
+            tree.len(),
+            lower.as_mut_ptr(),
+            lower.len(),
+            upper.as_mut_ptr(),
+            upper.len(),
+        )
+    })
+}
+
+/// Writes the bounds of each path by a drawn tree, and answers how many there are. Refused by 16, 20 to 22, 18.
+pub fn drawn_path_bounds(
+    study: &[u8],
+    tree: &[u8],
+    lower: &mut [u64],
+    upper: &mut [u64],
+) -> Answer<usize> {
+    bound_drawn(grid_drawn_path_bounds, study, tree, lower, upper)
+}
+
+/// Writes the bounds of each class by a drawn tree at places 0 to 255. Refused by 16, 20 to 22, 18.
+pub fn drawn_class_bounds(
+    study: &[u8],
+    tree: &[u8],
+    lower: &mut [u64],
+    upper: &mut [u64],
+) -> Answer<usize> {
+    bound_drawn(grid_drawn_class_bounds, study, tree, lower, upper)
+}
+
+/// Writes the bounds for the loss of a load by a drawn tree. Refused by 16, 17, 20 to 22.
+pub fn drawn_load_bounds(
+    study: &[u8],
+    tree: &[u8],
+    load: usize,
+    lower: &mut u64,
+    upper: &mut u64,
+) -> Answer<usize> {
+    answer(unsafe {
+        grid_drawn_load_bounds(
+            study.as_ptr(),
+            study.len(),
+            tree.as_ptr(),
+            tree.len(),
+            load,
+            lower,
+            upper,
+        )
+    })
+}
+
+/// Writes the figures by a drawn tree, and answers how many are stated. Refused by 16, 20 to 22, 18, 19.
+pub fn drawn_figures(study: &[u8], tree: &[u8], figures: &mut [u64]) -> Answer<usize> {
+    answer(unsafe {
+        grid_drawn_figures(
+            study.as_ptr(),
+            study.len(),
+            tree.as_ptr(),
+            tree.len(),
             figures.as_mut_ptr(),
             figures.len(),
         )
