@@ -1,14 +1,20 @@
-//! Compares every call of the proved library with the second implementation, on generated inputs: sound, damaged and altered studies.
+//! Compares every call of the proved library with the second implementation, on generated inputs: sound, damaged and altered studies, and trees that
+//! are drawn beside them, damaged or not.
 //! The words behind `cargo test --test comparison --` may be another number of inputs, and another first seed.
 mod lent;
 mod orders;
 mod pair;
+mod questions;
+mod shown;
 mod tally;
 
+use harness::asked::Asked;
 use harness::generate::{self, Random};
+use harness::reference::image;
+use harness::reference::study::Study;
 use pair::Pair;
 use std::env;
-use tally::Tally;
+use tally::{Tally, LAST_REFUSAL};
 
 const INPUTS: u64 = 20_000;
 const FIRST_SEED: u64 = 0;
@@ -69,15 +75,34 @@ fn compare_edits(pair: &mut Pair, random: &mut Random, image: &[u8]) -> Vec<u8> 
     current
 }
 
-/// Every call that asks an image for something.
-fn compare_questions(pair: &mut Pair, random: &mut Random, image: &[u8]) {
-    pair.list_paths(random, image);
-    pair.path_bounds(random, image);
-    pair.class_bounds(random, image);
+/// Every call that asks an image for something which a drawn tree can decide.
+fn compare_questions(pair: &mut Pair, random: &mut Random, image: &[u8], tree: Option<&[u8]>) {
+    let asked = Asked { image, tree };
+    pair.list_paths(random, asked);
+    pair.path_bounds(random, asked);
+    pair.class_bounds(random, asked);
     let load = item(random, image, 2);
-    pair.load_bounds(random, image, load);
-    pair.figures(random, image);
-    pair.write(random, image);
+    pair.load_bounds(random, asked, load);
+    pair.figures(random, asked);
+}
+
+/// A tree beside a study: as it should be, or damaged.
+fn tree(random: &mut Random, study: &Study) -> Vec<u8> {
+    match random.below(2) {
+        0 => generate::tree(random, study),
+        _ => generate::damaged_tree(random, study),
+    }
+}
+
+/// An image that was altered, with its own gates and beside a tree that was drawn before.
+fn compare_altered(pair: &mut Pair, random: &mut Random, image: &[u8], study: &Study) {
+    let altered = generate::altered(random, image);
+    compare_questions(pair, random, &altered, None);
+    let before = tree(random, study);
+    compare_questions(pair, random, &altered, Some(&before));
+    pair.write(random, &altered);
+    let edited = compare_edits(pair, random, &altered);
+    pair.write(random, &edited);
 }
 
 fn compare_input(tally: &mut Tally, seed: u64) {
@@ -86,20 +111,25 @@ fn compare_input(tally: &mut Tally, seed: u64) {
     let bytes = generate::input(random);
     tally.inputs += 1;
     let mut pair = Pair::new(seed, &bytes, tally);
-    let (opened, image) = pair.open(random);
+    let image = pair.open(random);
     pair.report(random);
-    compare_questions(&mut pair, random, &image);
+    compare_questions(&mut pair, random, &image, None);
+    pair.write(random, &image);
     let edited = compare_edits(&mut pair, random, &image);
     pair.loads_lost(random.byte());
     // What is unsound stays so; only a sound image has more to say once it is changed.
-    if opened {
-        compare_questions(&mut pair, random, &edited);
-        for _ in 0..2 {
-            let altered = generate::altered(random, &edited);
-            compare_questions(&mut pair, random, &altered);
-            let edited = compare_edits(&mut pair, random, &altered);
-            pair.write(random, &edited);
-        }
+    let Some(study) = image::read(&edited) else {
+        let noise = generate::tree_noise(random);
+        return compare_questions(&mut pair, random, &edited, Some(&noise));
+    };
+    compare_questions(&mut pair, random, &edited, None);
+    pair.write(random, &edited);
+    for tree in [tree(random, &study), generate::damaged_tree(random, &study)] {
+        compare_questions(&mut pair, random, &edited, Some(&tree));
+    }
+    pair.draw_gates(random, &edited, &study);
+    for _ in 0..2 {
+        compare_altered(&mut pair, random, &edited, &study);
     }
 }
 
@@ -118,8 +148,8 @@ fn compare_words(tally: &mut Tally, seed: u64) {
 fn assert_enough(tally: &Tally) {
     assert!(tally.sound * 3 >= tally.inputs, "too few sound studies");
     let often = |met: usize, what: &str| assert!(met >= OFTEN, "{what}: met {met} times");
-    for number in 1..=19 {
-        often(tally.refused[number], &format!("refusal {number}"));
+    for number in 1..=LAST_REFUSAL {
+        often(tally.answers.refused[number], &format!("refusal {number}"));
     }
     often(tally.unstated, "without CAIDI");
     often(tally.mixed, "short and other loads");
@@ -135,6 +165,10 @@ fn assert_enough(tally: &Tally) {
         often(answers.refused[16], &format!("{call}, refused by 16"));
         often(answers.refused[18], &format!("{call}, refused by 18"));
     }
+    for (answer, met) in tally.drawn.met() {
+        often(met, &answer);
+    }
+    often(tally.drawn_gates, "trees drawn from gates");
 }
 
 fn main() {

@@ -1,39 +1,21 @@
 //! One input under both implementations: each call is made twice on equal space, and everything must be alike afterwards.
 mod classes;
+mod drawn;
 mod saving;
 
 use crate::lent::{room, Lent};
+use crate::questions::Question;
+use crate::shown::{shown, Shown};
 use crate::tally::Tally;
+use harness::asked::Asked;
 use harness::generate::Random;
-use harness::library::{self, STUDY_BYTES};
+use harness::library::{self, FIGURE_PLACES, STUDY_BYTES};
 use harness::reference::calls as reference;
-use harness::reference::losses::{Losses, Meaning};
-use harness::reference::{image, opening, paths, report};
+use harness::reference::{opening, report};
 use harness::studies::to_hexadecimal;
 use std::fmt::Debug;
 
 type Answer = Result<usize, u8>;
-
-/// The bytes that hold an image: mostly as many as it needs, some with more behind, and some too few for it.
-fn shown(random: &mut Random, image: &[u8]) -> Lent<u8> {
-    let size = match random.below(16) {
-        0 => random.pick(&[0, 3, STUDY_BYTES - 1]),
-        1 => STUDY_BYTES + random.between(1, 40),
-        _ => STUDY_BYTES,
-    };
-    Lent::image(random, image, size)
-}
-
-/// How many paths an image has, and how wide their entries are; none where it is unsound.
-fn list_size(shown: &[u8]) -> (usize, usize) {
-    match image::read(shown) {
-        None => (0, 0),
-        Some(study) => {
-            let list = paths::paths(&Losses::of(&study, &Meaning::Gates));
-            (list.len(), study.components.len() + 1)
-        }
-    }
-}
 
 /// The places of two slices for bounds: half of the pairs have as many as are needed.
 fn two_rooms(random: &mut Random, need: usize) -> [usize; 2] {
@@ -79,15 +61,41 @@ impl<'a> Pair<'a> {
             println!("second: {theirs:?}");
             panic!("{call}: {found:?} where {due:?} is due, or what was lent differs");
         }
-        self.tally.count(due);
+        self.tally.answers.count(due);
         Agreed {
             answer: due,
             lent: theirs,
         }
     }
 
-    /// Whether the study opens, and its image; where it does not, zeros or what stood in the space.
-    pub fn open(&mut self, random: &mut Random) -> (bool, Vec<u8>) {
+    /// Puts a question, and hands back the answer and the space that was lent for it.
+    fn ask<L: Clone + PartialEq + Debug>(
+        &mut self,
+        question: Question,
+        shown: Shown,
+        lent: L,
+        proved: impl Fn(&Shown, &mut L) -> Answer,
+        second: impl Fn(&Shown, &mut L) -> Answer,
+    ) -> Agreed<L> {
+        let by_tree = shown.tree().is_some();
+        let both = self.compare(
+            &question.to_string(),
+            (shown, lent),
+            |(shown, lent)| proved(shown, lent),
+            |(shown, lent)| second(shown, lent),
+        );
+        if by_tree {
+            self.tally.drawn.count(question, both.answer);
+        }
+        let (_, lent) = both.lent;
+        Agreed {
+            answer: both.answer,
+            lent,
+        }
+    }
+
+    /// The image of the study; where it does not open, zeros or what stood in the space.
+    pub fn open(&mut self, random: &mut Random) -> Vec<u8> {
         let bytes = self.bytes;
         let mut opened = (Err(0), vec![0; STUDY_BYTES]);
         for room in [room(random, STUDY_BYTES), STUDY_BYTES] {
@@ -104,9 +112,9 @@ impl<'a> Pair<'a> {
             self.tally.count_sound(&study);
         }
         if answer.is_err() && random.once_in(2) {
-            return (false, vec![0; STUDY_BYTES]);
+            return vec![0; STUDY_BYTES];
         }
-        (answer.is_ok(), image)
+        image
     }
 
     pub fn report(&mut self, random: &mut Random) {
@@ -191,64 +199,68 @@ impl<'a> Pair<'a> {
         )
     }
 
-    pub fn list_paths(&mut self, random: &mut Random, image: &[u8]) {
-        let image = shown(random, image);
-        let (paths, width) = list_size(image.held());
+    pub fn list_paths(&mut self, random: &mut Random, asked: Asked) {
+        let shown = Shown::of(random, asked);
+        let (paths, width) = shown.list_size();
         let need = paths * width;
         for room in [room(random, need), need] {
-            self.compare(
-                &format!("list paths into {room} bytes"),
-                (image.clone(), Lent::bytes(random, room)),
-                |(image, lent)| library::list_paths(image.held(), lent.room()),
-                |(image, lent)| reference::list_paths(image.held(), None, lent.room()),
+            self.ask(
+                Question::ListPaths,
+                shown.clone(),
+                Lent::bytes(random, room),
+                |shown, lent| shown.asked().list_paths(lent.room()),
+                |shown, lent| reference::list_paths(shown.image(), shown.tree(), lent.room()),
             );
         }
     }
 
-    pub fn path_bounds(&mut self, random: &mut Random, image: &[u8]) {
-        let image = shown(random, image);
-        let (paths, _) = list_size(image.held());
+    pub fn path_bounds(&mut self, random: &mut Random, asked: Asked) {
+        let shown = Shown::of(random, asked);
+        let (paths, _) = shown.list_size();
         let slices = two_rooms(random, paths).map(|room| Lent::words(random, room));
-        self.compare(
-            "bound paths",
-            (image, slices),
-            |(image, [lower, upper])| {
-                library::path_bounds(image.held(), lower.room(), upper.room())
-            },
-            |(image, [lower, upper])| {
-                reference::path_bounds(image.held(), None, lower.room(), upper.room())
-            },
-        );
-    }
-
-    pub fn load_bounds(&mut self, random: &mut Random, image: &[u8], load: usize) {
-        let image = shown(random, image);
-        let (lower, upper) = (Lent::words(random, 1), Lent::words(random, 1));
-        self.compare(
-            &format!("bound load {load}"),
-            (image, lower, upper),
-            |(image, lower, upper)| {
-                let (lower, upper) = (&mut lower.room()[0], &mut upper.room()[0]);
-                library::load_bounds(image.held(), load, lower, upper)
-            },
-            |(image, lower, upper)| {
-                let (lower, upper) = (&mut lower.room()[0], &mut upper.room()[0]);
-                reference::load_bounds(image.held(), None, load, lower, upper)
+        self.ask(
+            Question::PathBounds,
+            shown,
+            slices,
+            |shown, [lower, upper]| shown.asked().path_bounds(lower.room(), upper.room()),
+            |shown, [lower, upper]| {
+                let (image, tree) = (shown.image(), shown.tree());
+                reference::path_bounds(image, tree, lower.room(), upper.room())
             },
         );
     }
 
-    pub fn figures(&mut self, random: &mut Random, image: &[u8]) {
-        let image = shown(random, image);
-        for room in [room(random, 8), 8] {
-            let both = self.compare(
-                &format!("figures into {room} places"),
-                (image.clone(), Lent::words(random, room)),
-                |(image, lent)| library::figures(image.held(), lent.room()),
-                |(image, lent)| reference::figures(image.held(), None, lent.room()),
+    pub fn load_bounds(&mut self, random: &mut Random, asked: Asked, load: usize) {
+        let shown = Shown::of(random, asked);
+        let places = [(); 2].map(|_| Lent::words(random, 1));
+        // The load stands beside its places, so that both are told where the two differ.
+        self.ask(
+            Question::LoadBounds,
+            shown,
+            (load, places),
+            |shown, (load, [lower, upper])| {
+                let (lower, upper) = (&mut lower.room()[0], &mut upper.room()[0]);
+                shown.asked().load_bounds(*load, lower, upper)
+            },
+            |shown, (load, [lower, upper])| {
+                let (lower, upper) = (&mut lower.room()[0], &mut upper.room()[0]);
+                reference::load_bounds(shown.image(), shown.tree(), *load, lower, upper)
+            },
+        );
+    }
+
+    pub fn figures(&mut self, random: &mut Random, asked: Asked) {
+        let shown = Shown::of(random, asked);
+        for room in [room(random, FIGURE_PLACES), FIGURE_PLACES] {
+            let both = self.ask(
+                Question::Figures,
+                shown.clone(),
+                Lent::words(random, room),
+                |shown, lent| shown.asked().figures(lent.room()),
+                |shown, lent| reference::figures(shown.image(), shown.tree(), lent.room()),
             );
             if let Ok(stated) = both.answer {
-                self.tally.count_figures(stated, both.lent.1.held());
+                self.tally.count_figures(stated, both.lent.held());
             }
         }
     }

@@ -1,14 +1,18 @@
 //! What was compared, counted.
 use crate::orders::{has_falling, has_repeats, Disorder};
+use crate::questions::Drawn;
 use harness::reference::image;
 use harness::reference::study::Study;
 use std::fmt;
+
+/// The last number of the refusal table.
+pub const LAST_REFUSAL: usize = 22;
 
 /// How often a kind of call was answered, and how often it was refused, by number.
 #[derive(Default)]
 pub struct Answers {
     pub given: usize,
-    pub refused: [usize; 20],
+    pub refused: [usize; LAST_REFUSAL + 1],
 }
 
 impl Answers {
@@ -18,15 +22,19 @@ impl Answers {
             Err(number) => self.refused[usize::from(number)] += 1,
         }
     }
+
+    /// How many calls were counted.
+    fn all(&self) -> usize {
+        self.given + self.refused.iter().sum::<usize>()
+    }
 }
 
 #[derive(Default)]
 pub struct Tally {
     pub inputs: usize,
     pub sound: usize,
-    pub calls: usize,
-    /// How often each refusal was answered, by its number.
-    pub refused: [usize; 20],
+    /// All calls.
+    pub answers: Answers,
     /// Figures without CAIDI.
     pub unstated: usize,
     /// Figures with losses of short loads beside those of others.
@@ -41,16 +49,13 @@ pub struct Tally {
     pub disordered: Disorder,
     /// Bounds of classes in slices full of the largest number.
     pub in_full: Answers,
+    /// Calls with a drawn tree.
+    pub drawn: Drawn,
+    /// Trees drawn from gates, of which the library said what it said of the gates.
+    pub drawn_gates: usize,
 }
 
 impl Tally {
-    pub fn count(&mut self, answer: Result<usize, u8>) {
-        self.calls += 1;
-        if let Err(number) = answer {
-            self.refused[usize::from(number)] += 1;
-        }
-    }
-
     /// Takes note of a sound study as its bytes give it.
     pub fn count_sound(&mut self, study: &Study) {
         self.sound += 1;
@@ -78,11 +83,11 @@ impl fmt::Display for Tally {
     fn fmt(&self, line: &mut fmt::Formatter) -> fmt::Result {
         writeln!(
             line,
-            "{} inputs ({} sound), {} calls alike; refused by number 1 to 19: {:?}; figures without CAIDI: {}, of short and other loads: {}",
+            "{} inputs ({} sound), {} calls alike; refused by number 1 to {LAST_REFUSAL}: {:?}; figures without CAIDI: {}, of short and other loads: {}",
             self.inputs,
             self.sound,
-            self.calls,
-            &self.refused[1..],
+            self.answers.all(),
+            &self.answers.refused[1..],
             self.unstated,
             self.mixed
         )?;
@@ -96,10 +101,15 @@ impl fmt::Display for Tally {
             "{} times written and opened again, refused by 16: {}, by 18: {}; images out of order alone, by {}",
             self.written.given, self.written.refused[16], self.written.refused[18], self.disordered
         )?;
-        write!(
+        writeln!(
             line,
             "slices full of the largest number: {} times with the bounds of classes that cleared ones have, left full by 16: {}, by 18: {}",
             self.in_full.given, self.in_full.refused[16], self.in_full.refused[18]
+        )?;
+        write!(
+            line,
+            "{} trees drawn from gates, in any order, that say what the gates say; {}",
+            self.drawn_gates, self.drawn
         )
     }
 }

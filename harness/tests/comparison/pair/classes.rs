@@ -1,8 +1,11 @@
 //! Bounds of classes, in slices that hold any numbers, in slices full of the largest number, and in cleared ones.
-use super::{shown, two_rooms, Agreed, Pair};
+use super::{two_rooms, Agreed, Pair};
 use crate::lent::Lent;
+use crate::questions::Question;
+use crate::shown::Shown;
+use harness::asked::Asked;
 use harness::generate::Random;
-use harness::library::{self, CLASS_PLACES};
+use harness::library::CLASS_PLACES;
 use harness::reference::calls as reference;
 
 /// No bound is as large.
@@ -15,40 +18,35 @@ const ENOUGH: [usize; 2] = [CLASS_PLACES, CLASS_PLACES + 1];
 type Slices = [Lent<u64>; 2];
 
 impl Pair<'_> {
-    pub fn class_bounds(&mut self, random: &mut Random, image: &[u8]) {
-        let image = &shown(random, image);
+    pub fn class_bounds(&mut self, random: &mut Random, asked: Asked) {
+        let shown = &Shown::of(random, asked);
         for rooms in [two_rooms(random, CLASS_PLACES), ENOUGH] {
-            self.bound_classes(image, rooms.map(|room| Lent::words(random, room)));
-            self.overwrite(random, image, rooms);
+            self.bound_classes(shown, rooms.map(|room| Lent::words(random, room)));
+            self.overwrite(random, shown, rooms);
         }
     }
 
     /// Slices of so many places full of the largest number, beside cleared ones.
-    fn overwrite(&mut self, random: &mut Random, image: &Lent<u8>, rooms: [usize; 2]) {
+    fn overwrite(&mut self, random: &mut Random, shown: &Shown, rooms: [usize; 2]) {
         let [full, cleared] = [LARGEST, 0].map(|number| {
             let slices = rooms.map(|room| Lent::full_of(number, random, room));
-            self.bound_classes(image, slices)
+            self.bound_classes(shown, slices)
         });
         self.assert_overwritten(&full, &cleared);
         self.tally.in_full.count(full.answer);
     }
 
-    fn bound_classes(&mut self, image: &Lent<u8>, slices: Slices) -> Agreed<Slices> {
-        let both = self.compare(
-            "bound classes",
-            (image.clone(), slices),
-            |(image, [lower, upper])| {
-                library::class_bounds(image.held(), lower.room(), upper.room())
+    fn bound_classes(&mut self, shown: &Shown, slices: Slices) -> Agreed<Slices> {
+        self.ask(
+            Question::ClassBounds,
+            shown.clone(),
+            slices,
+            |shown, [lower, upper]| shown.asked().class_bounds(lower.room(), upper.room()),
+            |shown, [lower, upper]| {
+                let (image, tree) = (shown.image(), shown.tree());
+                reference::class_bounds(image, tree, lower.room(), upper.room())
             },
-            |(image, [lower, upper])| {
-                reference::class_bounds(image.held(), None, lower.room(), upper.room())
-            },
-        );
-        let (_, lent) = both.lent;
-        Agreed {
-            answer: both.answer,
-            lent,
-        }
+        )
     }
 
     /// Full slices end as cleared ones do in the places named, and keep the largest number in all others: in every place where the call is refused.

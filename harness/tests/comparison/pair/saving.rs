@@ -1,6 +1,7 @@
 //! Writing an image out as bytes, and opening what was written.
-use super::{shown, Pair};
+use super::Pair;
 use crate::lent::Lent;
+use crate::shown::shown;
 use harness::generate::Random;
 use harness::library::{self, LONGEST_STUDY, STUDY_BYTES};
 use harness::reference::calls as reference;
