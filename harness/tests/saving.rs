@@ -90,7 +90,7 @@ fn room_is_measured_exactly() {
 fn assert_unsound(image: &[u8]) {
     let (bytes, places) = (&mut [7; LONGEST_STUDY], &mut [7; 256]);
     let (lower, upper) = places.split_at_mut(128);
-    let study = &mut image.to_vec();
+    let (study, tree) = (&mut image.to_vec(), &[255, 0]);
     let answers = [
         library::write(image, bytes),
         library::list_paths(image, bytes),
@@ -98,11 +98,16 @@ fn assert_unsound(image: &[u8]) {
         library::class_bounds(image, lower, upper),
         library::load_bounds(image, 0, &mut lower[0], &mut upper[0]),
         library::figures(image, lower),
+        library::drawn_list_paths(image, tree, bytes),
+        library::drawn_path_bounds(image, tree, lower, upper),
+        library::drawn_class_bounds(image, tree, lower, upper),
+        library::drawn_load_bounds(image, tree, 0, &mut lower[0], &mut upper[0]),
+        library::drawn_figures(image, tree, lower),
         library::set_probabilities(study, 0, [0; 3]),
         library::set_customers(study, 0, 1),
         library::set_minutes(study, 0, 1),
     ];
-    assert_eq!(answers, [Err(16); 9]);
+    assert_eq!(answers, [Err(16); 14]);
     assert_eq!(study, image);
     assert_eq!((&*bytes, &*places), (&[7; LONGEST_STUDY], &[7; 256]));
 }
