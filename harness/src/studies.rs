@@ -1,4 +1,4 @@
-//! Studies written as hexadecimal text: blanks do not count, and a `#` starts a comment.
+//! Studies and drawn trees written as hexadecimal text: blanks do not count, and a `#` starts a comment.
 use std::fs;
 use std::path::{Path, PathBuf};
 
@@ -6,11 +6,13 @@ use std::path::{Path, PathBuf};
 pub const CASE_A: &str =
     "02 01 01  02 00E1F505  02 00C2EB0B  02 02 0002 0102  07 00 64000000 3C000000";
 
-/// A study of the folder `studies`, and the report that stands beside it.
+/// A study of the folder `studies`, and what stands beside it.
 pub struct Written {
     pub name: String,
     pub bytes: Vec<u8>,
     pub report: String,
+    /// A tree that means what its gates mean, where one was drawn.
+    pub tree: Option<Vec<u8>>,
 }
 
 /// The bytes of a commented hexadecimal text.
@@ -39,20 +41,28 @@ pub fn to_hexadecimal(bytes: &[u8]) -> String {
 fn written(path: PathBuf) -> Written {
     let text = fs::read_to_string(&path).expect("a study");
     let report = fs::read_to_string(path.with_extension("report")).expect("its report");
+    let tree = path.with_extension("tree");
+    let drawn = tree
+        .exists()
+        .then(|| fs::read_to_string(tree).expect("its tree"));
     Written {
         name: path.display().to_string(),
         bytes: from_hexadecimal(&text),
         report,
+        tree: drawn.map(|text| from_hexadecimal(&text)),
     }
+}
+
+/// The files of the folder with this ending.
+pub fn files(ending: &str) -> Vec<PathBuf> {
+    let folder = Path::new(env!("CARGO_MANIFEST_DIR")).join("../studies");
+    let all = fs::read_dir(folder).expect("the folder of studies");
+    all.map(|file| file.expect("a file").path())
+        .filter(|path| path.extension().is_some_and(|end| end == ending))
+        .collect()
 }
 
 /// All studies of the folder.
 pub fn all() -> Vec<Written> {
-    let folder = Path::new(env!("CARGO_MANIFEST_DIR")).join("../studies");
-    let files = fs::read_dir(folder).expect("the folder of studies");
-    files
-        .map(|file| file.expect("a file").path())
-        .filter(|path| path.extension().is_some_and(|end| end == "hex"))
-        .map(written)
-        .collect()
+    files("hex").into_iter().map(written).collect()
 }

@@ -1,5 +1,7 @@
-//! The studies in the folder `studies` have the reports that stand beside them, under both implementations and the port.
-use harness::library;
+//! The studies in the folder `studies` have the reports that stand beside them, under both implementations and the port, and the trees beside them mean
+//! what their gates mean.
+use harness::asked::Asked;
+use harness::library::{self, STUDY_BYTES};
 use harness::port;
 use harness::reference;
 use harness::studies;
@@ -18,4 +20,21 @@ fn studies_have_their_reports() {
             assert!(text == due, "{}", study.name);
         }
     }
+}
+
+#[test]
+fn trees_mean_what_the_gates_mean() {
+    let mut trees = 0;
+    for study in studies::all() {
+        let Some(tree) = study.tree else { continue };
+        let mut image = [0; STUDY_BYTES];
+        assert_eq!(library::open(&study.bytes, &mut image), Ok(0));
+        let [by_gates, by_tree] = [None, Some(&tree[..])].map(|tree| {
+            let image = &image;
+            Asked { image, tree }.everything()
+        });
+        assert!(by_tree == by_gates, "{}", study.name);
+        trees += 1;
+    }
+    assert!(trees >= 3 && trees == studies::files("tree").len());
 }
