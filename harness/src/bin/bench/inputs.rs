@@ -1,4 +1,5 @@
-//! The studies that are timed.
+//! The studies that are timed, and the trees that are drawn beside them.
+use harness::generate::{drawn, Random, Style};
 use harness::library::{self, REPORT_BYTES, STUDY_BYTES};
 use harness::port;
 use harness::reference::opening::open;
@@ -50,6 +51,39 @@ pub fn studies() -> Vec<Input> {
         input("widest", include_str!("../../../../studies/widest.hex")),
         input("heaviest", include_str!("../../../../studies/heaviest.hex")),
     ]
+}
+
+/// A study beside a tree that was drawn from its gates, by which its classes are bounded.
+pub struct Drawn {
+    pub study: Input,
+    pub tree: Vec<u8>,
+}
+
+impl Drawn {
+    fn of(study: Input, style: Style) -> Drawn {
+        let opened = open(&study.bytes).expect("a sound study");
+        Drawn {
+            study,
+            tree: drawn(&mut Random::new(0), &opened, style),
+        }
+    }
+
+    /// Its image, and the tree behind it.
+    pub fn given(&self) -> Vec<u8> {
+        [self.study.image(), self.tree.clone()].concat()
+    }
+}
+
+/// A tree beside each of the studies: reduced, as a planner draws it, but for the heaviest, whose tree is the deepest.
+pub fn trees() -> Vec<Drawn> {
+    let styles = [
+        Style::Reduced,
+        Style::Reduced,
+        Style::Reduced,
+        Style::Deepest,
+    ];
+    let each = studies().into_iter().zip(styles);
+    each.map(|(study, style)| Drawn::of(study, style)).collect()
 }
 
 /// A study of n two-state components; its loads are lost when one, a third, two thirds and all of them have failed.

@@ -4,7 +4,7 @@ mod timing;
 
 use harness::library::{self, CLASS_PLACES, LONGEST_STUDY, REPORT_BYTES, STUDY_BYTES};
 use harness::port;
-use inputs::Input;
+use inputs::{Drawn, Input};
 use timing::{side_by_side, Answer, Call, Times};
 
 /// The load whose bounds are timed; every study has it.
@@ -18,19 +18,23 @@ fn print_head(title: &str) {
     );
 }
 
-fn print_row(input: &Input, times: Option<Times>) {
+/// A row for a study, beside the number of bytes that were read.
+fn print_row_of(input: &Input, bytes: usize, times: Option<Times>) {
     let Some(Times { proved, port }) = times else {
         println!("{:<22} the two differ", input.name);
         return;
     };
     let ratio = proved / port;
     println!(
-        "{:<22} {:>6} {:>12} {:>6} {proved:>12.2} {port:>12.2} {ratio:>7.2}",
+        "{:<22} {bytes:>6} {:>12} {:>6} {proved:>12.2} {port:>12.2} {ratio:>7.2}",
         input.name,
-        input.bytes.len(),
         input.joint_states(),
         input.paths(),
     );
+}
+
+fn print_row(input: &Input, times: Option<Times>) {
+    print_row_of(input, input.bytes.len(), times);
 }
 
 fn report(input: &Input) {
@@ -65,6 +69,26 @@ fn class_bounds(input: &Input) {
     ];
     let room = 2 * CLASS_PLACES;
     print_row(input, side_by_side(calls, &input.image(), room));
+}
+
+/// Asks for the bounds of all classes by the tree that stands behind an image.
+fn in_halves_by_tree(
+    call: fn(&[u8], &[u8], &mut [u64], &mut [u64]) -> Answer,
+    given: &[u8],
+    places: &mut [u64],
+) -> Answer {
+    let (image, tree) = given.split_at(STUDY_BYTES);
+    let (lower, upper) = places.split_at_mut(CLASS_PLACES);
+    call(image, tree, lower, upper)
+}
+
+fn drawn_class_bounds(drawn: &Drawn) {
+    let calls: [Call<u64>; 2] = [
+        |given, places| in_halves_by_tree(library::drawn_class_bounds, given, places),
+        |given, places| in_halves_by_tree(port::drawn_class_bounds, given, places),
+    ];
+    let times = side_by_side(calls, &drawn.given(), 2 * CLASS_PLACES);
+    print_row_of(&drawn.study, drawn.tree.len(), times);
 }
 
 /// Asks for the bounds of a load, the lower one in the first of two places.
@@ -102,6 +126,8 @@ fn main() {
     studies.iter().for_each(write);
     print_head("Bounds of all classes");
     studies.iter().for_each(class_bounds);
+    print_head("Bounds of all classes by a drawn tree of so many bytes; the heaviest study's is the deepest");
+    inputs::trees().iter().for_each(drawn_class_bounds);
     print_head("Bounds of a load");
     studies.iter().for_each(load_bounds);
     print_head("Growth of reports: two-state components, four loads on voting gates");
