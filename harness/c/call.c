@@ -1,5 +1,5 @@
-/* Calls the library from C: opens a study of two components, prints its SAIFI and MAIFI, what an edit and a study are refused by, and the bytes
- * of the study once edited. */
+/* Calls the library from C: opens a study of two components, prints its SAIFI and MAIFI, what an edit and a study are refused by, the paths and the
+ * SAIFI of a drawn tree, and the bytes of the study once edited. */
 #include "grid.h"
 
 #include <inttypes.h>
@@ -12,6 +12,15 @@ static const uint8_t bytes[] = {
     2, 0x00, 0xC2, 0xEB, 0x0B,                   /* component 1 */
     2, 2, 0, 2, 1, 2,                            /* gate 0 */
     7, 0, 100, 0, 0, 0, 60, 0, 0, 0,             /* load 0 */
+};
+
+/* Another way to lose the load: component 1 is asked first, and where it has failed component 0; the load is lost when both have. */
+static const uint8_t tree[] = {
+    1,                                           /* component 1 */
+    255, 0,                                      /* up: nothing is lost */
+    0,                                           /* failed: component 0 */
+    255, 0,                                      /* up: nothing is lost */
+    255, 1,                                      /* failed: load 0 is lost */
 };
 
 /* Prints what an answer below 0 means, as "REFUSED 6 over one". */
@@ -43,6 +52,22 @@ static int print_edited(uint8_t *study, size_t study_len)
     return 0;
 }
 
+/* Prints the paths and the SAIFI of the study with the tree in place of its gates, and what the tree without its end is refused by. */
+static int print_drawn(const uint8_t *study, size_t study_len)
+{
+    uint8_t list[GRID_LIST_BYTES];
+    uint64_t figures[GRID_FIGURE_PLACES];
+    int64_t paths = grid_drawn_list_paths(study, study_len, tree, sizeof tree, list, sizeof list);
+
+    for (int64_t k = 0; k < paths; k++)
+        printf("PATH %d %d CLASS %d\n", list[3 * k], list[3 * k + 1], list[3 * k + 2]);
+    if (grid_drawn_figures(study, study_len, tree, sizeof tree, figures, GRID_FIGURE_PLACES) != 4)
+        return 1;
+    printf("SAIFI %" PRIu64 " %" PRIu64 "\n", figures[0], figures[1]);
+    print_refusal(grid_drawn_figures(study, study_len, tree, sizeof tree - 1, figures, GRID_FIGURE_PLACES));
+    return 0;
+}
+
 int main(void)
 {
     uint8_t study[GRID_STUDY_BYTES];
@@ -56,5 +81,7 @@ int main(void)
     printf("MAIFI %" PRIu64 " %" PRIu64 "\n", figures[6], figures[7]);
     print_refusal(grid_set_probabilities(study, sizeof study, 0, 1000000001, 0, 0));
     print_refusal(grid_open(bytes, sizeof bytes - 1, study, sizeof study));
+    if (print_drawn(study, sizeof study) != 0)
+        return 1;
     return print_edited(study, sizeof study);
 }

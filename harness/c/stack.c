@@ -27,11 +27,21 @@
 /* A study has no more paths than joint states. */
 #define MOST_PATHS 4096
 
+/* The bytes of the longest tree that keeps the rules: a leaf for each of 4,096 joint states, and 4,095 nodes that part them in two. */
+#define LONGEST_TREE (2 * MOST_PATHS + MOST_PATHS - 1)
+
+/* Where the image of a study holds its components and the state count of the first, and how far apart the state counts stand. */
+#define COMPONENTS_AT 0
+#define STATES_AT 3
+#define COMPONENT_BYTES 13
+
 /* What is lent to the calls stands here, and so not on the stack that is measured. The bytes of a study have a place more than the longest, so that
  * one which is too long is refused and not cut short. */
 static uint8_t bytes[GRID_LONGEST_STUDY + 1];
 static size_t bytes_len;
 static uint8_t study[GRID_STUDY_BYTES];
+static uint8_t tree[LONGEST_TREE];
+static size_t tree_len;
 static uint8_t list[GRID_LIST_BYTES];
 static uint64_t lower[MOST_PATHS];
 static uint64_t upper[MOST_PATHS];
@@ -73,6 +83,31 @@ static int64_t call_figures(void)
     return grid_figures(study, sizeof study, figures, GRID_FIGURE_PLACES);
 }
 
+static int64_t call_drawn_list_paths(void)
+{
+    return grid_drawn_list_paths(study, sizeof study, tree, tree_len, list, sizeof list);
+}
+
+static int64_t call_drawn_path_bounds(void)
+{
+    return grid_drawn_path_bounds(study, sizeof study, tree, tree_len, lower, MOST_PATHS, upper, MOST_PATHS);
+}
+
+static int64_t call_drawn_class_bounds(void)
+{
+    return grid_drawn_class_bounds(study, sizeof study, tree, tree_len, lower, GRID_CLASS_PLACES, upper, GRID_CLASS_PLACES);
+}
+
+static int64_t call_drawn_load_bounds(void)
+{
+    return grid_drawn_load_bounds(study, sizeof study, tree, tree_len, 0, lower, upper);
+}
+
+static int64_t call_drawn_figures(void)
+{
+    return grid_drawn_figures(study, sizeof study, tree, tree_len, figures, GRID_FIGURE_PLACES);
+}
+
 static int64_t call_report(void)
 {
     return grid_report(bytes, bytes_len, text, sizeof text);
@@ -87,14 +122,20 @@ struct call {
 
 static const struct call nothing = {"nothing", call_nothing, NO_LIMIT};
 
-/* Opening comes first: the calls behind it ask the study that it leaves. */
+static const struct call opening = {"grid_open", call_open, NO_LIMIT};
+
+/* They ask the study that opening leaves, the drawn ones beside its deepest tree. */
 static const struct call calls[] = {
-    {"grid_open", call_open, NO_LIMIT},
     {"grid_list_paths", call_list_paths, NO_LIMIT},
     {"grid_path_bounds", call_path_bounds, NO_LIMIT},
     {"grid_class_bounds", call_class_bounds, TOTALS_LIMIT},
     {"grid_load_bounds", call_load_bounds, TOTALS_LIMIT},
     {"grid_figures", call_figures, TOTALS_LIMIT},
+    {"grid_drawn_list_paths", call_drawn_list_paths, NO_LIMIT},
+    {"grid_drawn_path_bounds", call_drawn_path_bounds, NO_LIMIT},
+    {"grid_drawn_class_bounds", call_drawn_class_bounds, TOTALS_LIMIT},
+    {"grid_drawn_load_bounds", call_drawn_load_bounds, TOTALS_LIMIT},
+    {"grid_drawn_figures", call_drawn_figures, TOTALS_LIMIT},
     {"grid_report", call_report, NO_LIMIT},
 };
 
@@ -149,10 +190,29 @@ static size_t used_by(uint8_t *stack, const struct call *call)
     return painted_over(stack, call);
 }
 
+/* Draws the subtree that asks a component and then all before it; the class of its leaves has bit 0 where an odd number of components has failed, so that
+ * every component changes a loss. */
+static void draw_from(size_t component, uint8_t odd)
+{
+    uint8_t states = study[STATES_AT + component * COMPONENT_BYTES];
+
+    tree[tree_len++] = (uint8_t)component;
+    for (uint8_t state = 0; state < states; state++) {
+        uint8_t class_ = odd ^ (state != 0);
+
+        if (component > 0) {
+            draw_from(component - 1, class_);
+        } else {
+            tree[tree_len++] = 255;
+            tree[tree_len++] = class_;
+        }
+    }
+}
+
 /* Prints what a call needs; whether it keeps to its limit. */
 static int print_need(const struct call *call, size_t need)
 {
-    printf("%-20s %7zu\n", call->name, need);
+    printf("%-24s %7zu\n", call->name, need);
     if (need <= call->limit)
         return 1;
     printf("%s needs %zu bytes of stack, and its limit is %zu\n", call->name, need, call->limit);
@@ -169,6 +229,8 @@ int main(void)
     expect(!ferror(stdin), "standard input", "not read");
     expect(posix_memalign(&stack, STACK_ALIGNMENT, STACK_BYTES) == 0, "stack", "no memory");
     idle = used_by(stack, &nothing);
+    kept &= print_need(&opening, used_by(stack, &opening) - idle);
+    draw_from(study[COMPONENTS_AT] - 1, 0);
     for (size_t k = 0; k < sizeof calls / sizeof calls[0]; k++)
         kept &= print_need(&calls[k], used_by(stack, &calls[k]) - idle);
     free(stack);
