@@ -3,11 +3,11 @@
  * A slice is a pointer and its length in elements. A call answers a count or 0, or a refusal as its number below 0; the numbers are those of
  * the refusal table. Where a call is refused, nothing lent is touched. No call keeps a pointer, and lent slices must not overlap.
  *
- * A drawn tree is a row of bytes beside a study: a component's number and behind it a subtree for each of its states, from state 0 on; or 255 and behind
- * it a class. Branches may ask components in orders of their own, none of them twice. For that one call the tree stands in for the study's gates and
- * loss gates: a joint state has the class of the leaf that it comes to, and load j is lost where bit j of it stands. The tree is judged from left
- * to right: a component that the study lacks or that is asked above on the same branch is 20, a class with the bit of a load that the study lacks is 22,
- * and bytes that end too soon or, once the tree is whole, too late are 21. The study must be sound with its gates all the same (16).
+ * A drawn tree is a row of bytes beside a study: a component's number and behind it a subtree for each of its states, from state 0 on; or 255 and
+ * behind it a class. Each branch may ask components in an order of its own, but none twice. For that one call the tree stands in for the gates and
+ * loss gates of the study: a joint state has the class of the leaf that it comes to, and load j is lost where bit j of it stands. The tree is judged
+ * from left to right: a component that the study lacks, or that is asked above on the same branch, is 20; a class with the bit of a load that the
+ * study lacks is 22; bytes that end too soon, or go on behind the whole tree, are 21. The study must be sound with its gates all the same (16).
  */
 #ifndef GRID_H
 #define GRID_H
@@ -61,8 +61,8 @@ int64_t grid_write(const uint8_t *study, size_t study_len, uint8_t *bytes, size_
  * Answers the number of paths. Refused by 16, 18. */
 int64_t grid_list_paths(const uint8_t *study, size_t study_len, uint8_t *buffer, size_t buffer_len);
 
-/* The same by a drawn tree. The entries keep the order of the study's components, whatever the order in which the tree asks them. Answers the number
- * of paths. Refused by 16, 20 to 22, 18. */
+/* The same by a drawn tree. The entries keep the order of the study's components, whatever the order in which the tree asks them. Answers the
+ * number of paths. Refused by 16, 20 to 22, 18. */
 int64_t grid_drawn_list_paths(const uint8_t *study, size_t study_len, const uint8_t *tree, size_t tree_len, uint8_t *buffer,
                               size_t buffer_len);
 

@@ -190,8 +190,8 @@ static size_t used_by(uint8_t *stack, const struct call *call)
     return painted_over(stack, call);
 }
 
-/* Draws the subtree that asks a component and then all before it; the class of its leaves has bit 0 where an odd number of components has failed, so that
- * every component changes a loss. */
+/* Draws the subtree that asks a component and then all before it. Bit 0 of a leaf's class stands where an odd number of components has failed, so
+ * that every component changes a loss. */
 static void draw_from(size_t component, uint8_t odd)
 {
     uint8_t states = study[STATES_AT + component * COMPONENT_BYTES];

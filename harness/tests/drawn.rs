@@ -1,9 +1,9 @@
 //! Drawn trees, with answers worked out by hand: what a tree means, by which number a wrong one is refused, and in which order.
 use harness::asked::Asked;
 use harness::generate::{drawn, Random, Style};
-use harness::library::{self, Answer, CLASS_PLACES, FIGURE_PLACES, STUDY_BYTES};
+use harness::library::{self, Answer, CLASS_PLACES, FIGURE_PLACES, LIST_BYTES, STUDY_BYTES};
 use harness::reference::{calls as reference, opening};
-use harness::studies::{from_hexadecimal, CASE_A};
+use harness::studies::{from_hexadecimal, to_hexadecimal, CASE_A};
 
 /// What lent bytes and places hold before a call.
 const LENT_BYTE: u8 = 0xA5;
@@ -19,7 +19,7 @@ fn image_of(study: &str) -> Vec<u8> {
     image
 }
 
-/// What both implementations make of a tree beside an image, in the same places.
+/// What a call answers and leaves in the lent places, on which both implementations must agree.
 fn agreed<P: Clone + PartialEq + std::fmt::Debug>(
     places: P,
     proved: impl Fn(&mut P) -> Answer<usize>,
@@ -232,8 +232,8 @@ fn no_customers_come_last() {
     }
 }
 
-/// The deepest tree of a study with 4,096 joint states has a leaf for each of them, and means what the gates mean.
-fn assert_deepest(study: &str, nodes: usize) {
+/// The deepest tree of a study with 4,096 joint states has a leaf for each of them behind so many nodes, and means what the gates mean.
+fn assert_deepest(study: &str, nodes: usize, paths: usize) {
     let image = &image_of(study);
     let opened = opening::open(&from_hexadecimal(study)).expect("a sound study");
     let tree = drawn(&mut Random::new(4), &opened, Style::Deepest);
@@ -241,6 +241,9 @@ fn assert_deepest(study: &str, nodes: usize) {
     let [by_gates, by_tree] =
         [None, Some(&tree[..])].map(|tree| Asked { image, tree }.everything());
     assert!(by_tree == by_gates);
+    let text = to_hexadecimal(&tree);
+    assert_eq!(list(image, &text, LIST_BYTES).0, Ok(paths));
+    assert_eq!(class_bounds(image, &text, [CLASS_PLACES; 2]).0, Ok(0));
     for size in [0, 1, tree.len() / 2, tree.len() - 1] {
         let mut list = [];
         let cut = library::drawn_list_paths(image, &tree[..size], &mut list);
@@ -250,10 +253,10 @@ fn assert_deepest(study: &str, nodes: usize) {
 
 #[test]
 fn twelve_components_of_two_states() {
-    assert_deepest(include_str!("../../studies/widest.hex"), 4095);
+    assert_deepest(include_str!("../../studies/widest.hex"), 4095, 4096);
 }
 
 #[test]
 fn six_components_of_four_states() {
-    assert_deepest(include_str!("../../studies/heaviest.hex"), 1365);
+    assert_deepest(include_str!("../../studies/heaviest.hex"), 1365, 3490);
 }

@@ -1,5 +1,5 @@
-//! The studies in the folder `studies` have the reports that stand beside them, under both implementations and the port, and the trees beside them mean
-//! what their gates mean.
+//! The studies in the folder `studies` have the reports that stand beside them, under both implementations and the port, and the trees beside them
+//! mean what their gates mean.
 use harness::asked::Asked;
 use harness::library::{self, STUDY_BYTES};
 use harness::port;

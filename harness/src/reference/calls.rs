@@ -1,5 +1,5 @@
-//! The library's calls over lent bytes, in the same form: a count or a refusal, and nothing lent touched where refused. A call that takes a tree goes by
-//! the gates where it is given none.
+//! The library's calls over lent bytes, in the same form: a count or a refusal, and nothing lent touched where refused. A call that takes a tree goes
+//! by the gates where it is given none.
 use super::bounds::{bounded_paths, class_bounds as by_class, load_bounds as of_load, Bounds};
 use super::figures::{figures as figures_of, Figures};
 use super::image::{self, IMAGE_BYTES};

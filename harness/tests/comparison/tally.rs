@@ -83,7 +83,7 @@ impl fmt::Display for Tally {
     fn fmt(&self, line: &mut fmt::Formatter) -> fmt::Result {
         writeln!(
             line,
-            "{} inputs ({} sound), {} calls alike; refused by number 1 to {LAST_REFUSAL}: {:?}; figures without CAIDI: {}, of short and other loads: {}",
+            "{} inputs ({} sound), {} calls alike; refused by number from 1 on: {:?}; figures without CAIDI: {}, of short and other loads: {}",
             self.inputs,
             self.sound,
             self.answers.all(),

@@ -71,12 +71,11 @@ fn class_bounds(input: &Input) {
     print_row(input, side_by_side(calls, &input.image(), room));
 }
 
+/// A call for the bounds of all classes by a tree beside an image.
+type DrawnCall = fn(&[u8], &[u8], &mut [u64], &mut [u64]) -> Answer;
+
 /// Asks for the bounds of all classes by the tree that stands behind an image.
-fn in_halves_by_tree(
-    call: fn(&[u8], &[u8], &mut [u64], &mut [u64]) -> Answer,
-    given: &[u8],
-    places: &mut [u64],
-) -> Answer {
+fn in_halves_by_tree(call: DrawnCall, given: &[u8], places: &mut [u64]) -> Answer {
     let (image, tree) = given.split_at(STUDY_BYTES);
     let (lower, upper) = places.split_at_mut(CLASS_PLACES);
     call(image, tree, lower, upper)
