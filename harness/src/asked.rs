@@ -62,6 +62,7 @@ impl Asked<'_> {
     pub fn everything(&self) -> Everything {
         let mut list = vec![0; LIST_BYTES];
         let listed = self.list_paths(&mut list);
+        list.truncate(listed.unwrap_or(0) * (usize::from(self.image[0]) + 1));
         let [mut lower, mut upper] = [(); 2].map(|_| vec![0; listed.unwrap_or(0)]);
         let paths = self.path_bounds(&mut lower, &mut upper);
         let [mut least, mut most] = [(); 2].map(|_| vec![0; CLASS_PLACES]);

@@ -11,7 +11,7 @@ mod twins;
 pub use altered::altered;
 pub use damaged_trees::{damaged_tree, tree_noise};
 pub use random::Random;
-pub use trees::{drawn, tree, Style, BY_GATES};
+pub use trees::{drawn, tree, Style};
 pub use twins::twins;
 
 /// The bytes of a study: somewhat more than half are sound, the others have a breach or several.

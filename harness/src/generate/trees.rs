@@ -20,7 +20,7 @@ pub enum Style {
 }
 
 /// Trees from the gates of a study.
-pub const BY_GATES: [Style; 3] = [Style::Reduced, Style::Needless, Style::Deepest];
+const BY_GATES: [Style; 3] = [Style::Reduced, Style::Needless, Style::Deepest];
 
 /// A place of a tree that is still to be drawn: which components are not asked above it, and the numbers of the joint states that come there.
 struct Branch {
