@@ -115,7 +115,7 @@ Judged loads r = EndsIn DrawnRow (λ tree left. Bounded loads tree) r
 pub tree-judged : (counts : List ℕ) (loads levels : ℕ) (marks bytes : List ℕ) → Judged loads (treeRead counts loads levels marks bytes)
 tree-judged counts loads levels marks bytes = ends-tree counts loads levels marks (length bytes) .ends bytes refl
 
-drawn-judged : (counts : List ℕ) (loads : ℕ) (bytes : List ℕ) → Judged loads (drawnRead counts loads bytes)
+pub drawn-judged : (counts : List ℕ) (loads : ℕ) (bytes : List ℕ) → Judged loads (drawnRead counts loads bytes)
 drawn-judged counts loads bytes = ends-drawn counts loads (length bytes) .ends bytes refl
 
 pub drawn-rows : DrawnRows

@@ -3,6 +3,7 @@ pub mod BranchFilled
 pub mod Drawn
 pub mod FirstBreach
 pub mod Judged
+pub mod Leaves
 pub mod Levels
 pub mod Painted
 pub mod ReadsBack

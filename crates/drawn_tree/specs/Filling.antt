@@ -8,7 +8,7 @@ use Rattle.lists.specs.Counting.{truth}
 use Rattle.rules.specs.Breach.{refuse}
 use Rattle.rules.specs.Table.{nodeFault, leafFault}
 use Rattle.joint_states.specs.JointStates.{jointStates}
-use Rattle.reading.specs.Reader.{Read, refused, got, Reader, byteOr, judge, return, repeat, _>>=_, _>>_}
+use Rattle.reading.specs.Reader.{refused, Reader, byteOr, judge, return, repeat, _>>=_, _>>_}
 use Rattle.entries.specs.Entries.{blankMark}
 use Rattle.paths.specs.Words.{fits}
 use Rattle.drawn_tree.specs.Reading.{leafMark, asked, treeByte}

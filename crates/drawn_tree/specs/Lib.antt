@@ -1,5 +1,6 @@
 pub mod Drawn
 pub mod Filling
 pub mod Laws
+pub mod Leaves
 pub mod Reading
 pub mod Tree

@@ -7,7 +7,7 @@ use lib.ListN.{length, getD, set, replicate}
 use Rattle.rules.specs.Breach.{refuse}
 use Rattle.rules.specs.Limits.{mostComponents}
 use Rattle.rules.specs.Table.{nodeFault, badEnd, behindFault, leafFault}
-use Rattle.reading.specs.Reader.{Read, refused, got, Reader, byteOr, judge, return, _>>=_, _>>_}
+use Rattle.reading.specs.Reader.{refused, Reader, byteOr, judge, return, _>>=_, _>>_}
 use Rattle.entries.specs.Entries.{blankMark}
 use Rattle.drawn_tree.specs.Tree.{Tree, leaf, node, Trees, none, more}
 

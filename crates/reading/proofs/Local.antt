@@ -67,8 +67,8 @@ pub local-cond : {end : ℕ} {A : Type 0} (b : Bool) {m k : Reader A} → Local 
 local-cond true here there = here
 local-cond false here there = there
 
-run-stands : {end : ℕ} {A : Type 0} (step : ℕ → A → Reader A) → ((i : ℕ) (a : A) → Local end (step i a)) → (ys : List ℕ) (n i : ℕ) (r r′ : Read A) → Stands end ys r r′
-    → Stands end ys (each (turn step) n i r) (each (turn step) n i r′)
+run-stands : {end : ℕ} {A : Type 0} (step : ℕ → A → Reader A) → ((i : ℕ) (a : A) → Local end (step i a)) → (ys : List ℕ) (n i : ℕ) (r r′ : Read A)
+    → Stands end ys r r′ → Stands end ys (each (turn step) n i r) (each (turn step) n i r′)
 unfolding each
 run-stands step on ys zero i r r′ h = h
 run-stands step on ys (suc n) i r r′ h =
