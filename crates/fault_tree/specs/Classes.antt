@@ -3,11 +3,10 @@ use Prim.Native.Nat.{ℕ, _*_, _^_}
 use mathlib.Core.Bool.{Bool, false, cond}
 use mathlib.Core.List.{List, map}
 use lib.Dec.{eqb}
-use lib.ListN.{getD, replicate}
+use lib.ListN.{getD}
 use Rattle.lists.specs.Bits.{digit}
 use Rattle.lists.specs.Counting.{sum, truth}
-use Rattle.lists.specs.Rows.{put}
-use Rattle.rules.specs.Limits.{mostJointStates, mostLoads, never}
+use Rattle.rules.specs.Limits.{mostLoads, never}
 use Rattle.joint_states.specs.JointStates.{jointStates}
 use Rattle.study.specs.declared.Load.{Load}
 use Rattle.study.specs.declared.Study.{Study}
@@ -33,14 +32,6 @@ classOf t x = classBy (gateTruths (t .gate) x (t .gates)) (t .load) (t .loads)
 unfoldable pub classes : Study → List ℕ
 unfolding jointStates
 classes t = map (classOf t) (jointStates (stateCounts t))
-
--- a table of 4,096 class bytes, cleared to zero before use
-unfoldable pub cleared : List ℕ
-cleared = replicate mostJointStates 0
-
-unfoldable pub classTable : Study → List ℕ
-unfolding put
-classTable t = put cleared 0 (classes t)
 
 -- how many loads are lost in a class
 unfoldable pub loadsLost : ℕ → ℕ

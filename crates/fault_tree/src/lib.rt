@@ -1,4 +1,4 @@
-// The fault trees of a study: the truth of its gates in a joint state, the class of a joint state, and the class table. Probabilities are not
+// The fault trees of a study: the truth of its gates in a joint state, the class of a joint state, and the classes of all. Probabilities are not
 // known here. Not for callers from outside: those call `planning`.
 mod class;
 mod rows;
@@ -6,4 +6,4 @@ mod table;
 mod truth;
 
 pub use class::loads_lost;
-pub use table::class_table;
+pub use table::put_classes;

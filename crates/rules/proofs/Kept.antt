@@ -1,8 +1,8 @@
 -- What a breach of 0 tells: the rule behind it is kept. These carry a rule from the refusal table to the facts that a proof needs.
 use Prim.Native.Nat.{ℕ, suc, _<_, _≤_}
-use mathlib.Core.Path.{_≡_, refl, sym, _∙_}
+use mathlib.Core.Path.{_≡_, refl, sym, ap, _∙_}
 use mathlib.Core.Bool.{Bool, true, false, cond, true≢false}
-use mathlib.Core.List.{List, [], _∷_}
+use mathlib.Core.List.{List, [], _∷_, _++_}
 use mathlib.Core.Logic.{_⊎_, inl, inr}
 use native.Mathlib.Omega.{arith}
 use lib.Dec.{eqb, ltb}
@@ -159,3 +159,25 @@ in-use-first count place used unused rule = go (ltb place count)
     go : (b : Bool) → cond b (first used rule) (first unused rule) ≡ first (cond b used unused) rule
     go true = refl
     go false = refl
+
+-- ---- a list that is judged in two parts
+
+first-assoc : (a b c : ℕ) → first a (first b c) ≡ first (first a b) c
+first-assoc a b c = go (eqb a 0) refl
+  where
+    go : (t : Bool) → eqb a 0 ≡ t → first a (first b c) ≡ first (first a b) c
+    go true e = let none = eqb-true a 0 e in rw (first-next a (first b c) none, first-next a b none)
+    go false e = let some = eqb-false a 0 e in rw (first-some a (first b c) some, first-some a b some, first-some a c some)
+
+pub in-parts : (front behind : List ℕ) → firstBreach (front ++ behind) ≡ first (firstBreach front) (firstBreach behind)
+unfolding firstBreach first
+in-parts [] behind = refl
+in-parts (a ∷ front) behind = ap (first a) (in-parts front behind) ∙ first-assoc a (firstBreach front) (firstBreach behind)
+
+-- a breach of the front part is the first of the whole
+pub part-broken : {fault : ℕ} (front behind : List ℕ) → fault ≡ firstBreach front → (fault ≡ 0 → ⊥) → fault ≡ firstBreach (front ++ behind)
+part-broken front behind e some = e ∙ sym (in-parts front behind ∙ first-some (firstBreach front) (firstBreach behind) (λ none. some (e ∙ none)))
+
+-- and where it has none, what is behind it decides
+pub part-kept : (front behind : List ℕ) → firstBreach front ≡ 0 → firstBreach (front ++ behind) ≡ firstBreach behind
+part-kept front behind none = in-parts front behind ∙ first-next (firstBreach front) (firstBreach behind) none

@@ -1,4 +1,4 @@
--- The front of a class table holds the classes of the model that it makes, and that of a study's gates those of the study's model.
+-- The front of a class table holds the classes of the model that it makes; where these are those of another model of the study, so are the paths.
 use Prim.Native.Nat.{ℕ, _<_, _≤_}
 use mathlib.Core.Path.{_≡_, refl, sym, ap, _∙_}
 use mathlib.Core.List.{List}
@@ -12,14 +12,12 @@ use Rattle.study.specs.declared.Study.{Study}
 use Rattle.study.specs.Joint.{stateCounts}
 use Rattle.soundness.specs.Sound.{Sound}
 use Rattle.soundness.proofs.Ranges.{joint-most}
-use Rattle.fault_tree.specs.Classes.{classes, classTable}
 use Rattle.fault_tree.proofs.SoundReadable.{counts-inside, counts-small}
-use Rattle.fault_tree.proofs.Tables.{table-front}
 use Rattle.paths.specs.Blocks.{Listable}
 use Rattle.paths.specs.Paths.{paths}
 use Rattle.model.specs.Model.{components, classesOf, pathsOf, probabilityTable}
 use Rattle.model.proofs.Classes.{classes-long, class-at, good-listable}
-use Rattle.study_model.specs.Model.{modelOf, modelBy}
+use Rattle.study_model.specs.Model.{modelWith, modelBy}
 use Rattle.study_model.proofs.Good.{by-good}
 
 module _ {t : Study} (table : List ℕ) (sound : Sound t) (room : mostJointStates ≤ length table) where
@@ -41,17 +39,19 @@ module _ {t : Study} (table : List ℕ) (sound : Sound t) (room : mostJointState
       ∙ sym (class-at (modelBy t table) (w .joint) (w .is-joint))
       ∙ ap (λ (n : ℕ). getD (classesOf (modelBy t table)) n 0) (w .number))
 
-  -- the table that the gates give
-  pub table-paths : table ≡ classTable t → pathsOf (modelBy t table) ≡ pathsOf (modelOf t)
-  unfolding pathsOf modelBy modelOf classesOf classes
-  table-paths e = ap (paths (stateCounts t)) (sym block-is ∙ ap (take (product (stateCounts t))) e ∙ table-front t)
+  -- a table that holds the classes of a model of the study in front has its paths
+  pub front-paths : (class : List ℕ → ℕ) → take (product (stateCounts t)) table ≡ classesOf (modelWith t class)
+      → pathsOf (modelBy t table) ≡ pathsOf (modelWith t class)
+  unfolding pathsOf modelBy
+  front-paths class e = ap (paths (stateCounts t)) (sym block-is ∙ e)
 
-  -- and with it all that is worked out of paths
-  pub table-values : {A : Type 0} → table ≡ classTable t → (f : List ℕ → ℕ → List (List ℕ) → A)
+  -- and with them all that is worked out of paths
+  pub front-values : {A : Type 0} (class : List ℕ → ℕ) → take (product (stateCounts t)) table ≡ classesOf (modelWith t class)
+      → (f : List ℕ → ℕ → List (List ℕ) → A)
       → f (probabilityTable (modelBy t table)) (components (modelBy t table)) (pathsOf (modelBy t table))
-      ≡ f (probabilityTable (modelOf t)) (components (modelOf t)) (pathsOf (modelOf t))
-  unfolding modelBy modelOf probabilityTable
-  table-values e f = ap (f (probabilityTable (modelOf t)) (components (modelOf t))) (table-paths e)
+      ≡ f (probabilityTable (modelWith t class)) (components (modelWith t class)) (pathsOf (modelWith t class))
+  unfolding modelBy probabilityTable
+  front-values class e f = ap (f (probabilityTable (modelWith t class)) (components (modelWith t class))) (front-paths class e)
 
 -- ---- as the code cuts it
 

@@ -20,7 +20,7 @@ use Rattle.study.specs.Zero.{zeroComponent, zeroLoad}
 use Rattle.model.specs.Good.{Whole, Counted, StateProbabilities, Sizes, Good}
 use Rattle.soundness.specs.Sound.{Sound, SoundComponent}
 use Rattle.soundness.proofs.Ranges.{components-most, loads-most, joint-most, counts-few, count-at, count-least, count-most, probabilities-sum}
-use Rattle.study_model.specs.Model.{stateProbabilities, modelOf, modelBy}
+use Rattle.study_model.specs.Model.{stateProbabilities, probabilitiesOf, modelWith, modelBy}
 
 -- ---- one component
 
@@ -70,15 +70,14 @@ module _ (t : Study) (s : Sound t) where
       ∙ ap (min (t .components)) (sym (length-map (t .component) (λ (c : Component). c .states)))
       ∙ sym (length-take (t .components) (states (t .component)))
 
-  probabilities : StateProbabilities (modelOf t .counts) (modelOf t .probabilities)
-  unfolding modelOf
+  probabilities : StateProbabilities (stateCounts t) (probabilitiesOf t)
   probabilities =
       record {
         rows = length-map inUse stateProbabilities ∙ rows-long;
         whole = λ k h. subst (Whole (getD (stateCounts t) k 0)) (sym (row k h)) (row-whole k (used k h));
       }
     where
-      row : (k : ℕ) → k < length (stateCounts t) → getD (modelOf t .probabilities) k [] ≡ stateProbabilities (componentAt t k)
+      row : (k : ℕ) → k < length (stateCounts t) → getD (probabilitiesOf t) k [] ≡ stateProbabilities (componentAt t k)
       row k h =
           getD-map-inside stateProbabilities inUse k zeroComponent [] (omega (arith, h, rows-long))
           ∙ ap stateProbabilities (getD-take (t .components) (t .component) k zeroComponent (used k h))
@@ -88,8 +87,7 @@ module _ (t : Study) (s : Sound t) where
           whole (componentAt t k) (s .component k h) (probabilities-sum t s k (omega (arith, components-most t s))) (getD (stateCounts t) k 0)
           (sym (count-at t s k h)) (count-least t s k h) (count-most t s k h)
 
-  sizes : Sizes (modelOf t .loads)
-  unfolding modelOf
+  sizes : Sizes (take (t .loads) (t .load))
   sizes =
       record {
         few = omega (arith, few, loads-most t s);
@@ -106,11 +104,10 @@ module _ (t : Study) (s : Sound t) where
       at : (j : ℕ) → j < length (take (t .loads) (t .load)) → getD (take (t .loads) (t .load)) j zeroLoad ≡ loadAt t j
       at j h = getD-take (t .loads) (t .load) j zeroLoad (in-use j h)
 
-  pub sound-good : Good (modelOf t)
-  unfolding modelOf
-  sound-good = record { counts = counted; probabilities = probabilities; loads = sizes }
+  -- whatever the classes of its joint states
+  pub with-good : (class : List ℕ → ℕ) → Good (modelWith t class)
+  with-good class = record { counts = counted; probabilities = probabilities; loads = sizes }
 
-  -- whatever class table it is given
   pub by-good : (classes : List ℕ) → Good (modelBy t classes)
-  unfolding modelOf modelBy
-  by-good classes = record { counts = sound-good .counts; probabilities = sound-good .probabilities; loads = sound-good .loads }
+  unfolding modelBy
+  by-good classes = with-good _

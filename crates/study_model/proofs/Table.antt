@@ -15,11 +15,11 @@ use Rattle.model.specs.Held.{Listed, HeldOf}
 use Rattle.model.specs.Model.{probabilityTable}
 use Rattle.soundness.specs.Sound.{Sound}
 use Rattle.soundness.proofs.Ranges.{components-most, counts-long}
-use Rattle.study_model.specs.Model.{stateProbabilities, placeProbabilities, modelOf, modelBy}
+use Rattle.study_model.specs.Model.{stateProbabilities, placeProbabilities, probabilitiesOf, modelBy}
 
 -- the front of the table, as the code cuts it
-pub probabilities-front : (t : Study) → take (t .components * mostStates) (placeProbabilities (t .component)) ≡ probabilityTable (modelOf t)
-unfolding placeProbabilities probabilityTable modelOf
+pub probabilities-front : (t : Study) → take (t .components * mostStates) (placeProbabilities (t .component)) ≡ joined (probabilitiesOf t)
+unfolding placeProbabilities
 probabilities-front t =
     joined-front mostStates (t .components) (map stateProbabilities (t .component)) wide
     ∙ ap joined (take-map stateProbabilities (t .components) (t .component))
@@ -33,6 +33,6 @@ front-inside {t} sound e = omega (arith, e, components-most t sound)
 
 -- beside the list of a study's paths under a class table it is what their bounds are worked out of
 pub study-held : {t : Study} (classes : List ℕ) {probabilities list : List ℕ} {paths : ℕ} → Sound t → length (t .component) ≡ mostComponents
-    → probabilities ≡ probabilityTable (modelOf t) → Listed (modelBy t classes) paths list → HeldOf (modelBy t classes) probabilities (t .components) list paths
-unfolding modelOf modelBy probabilityTable
+    → probabilities ≡ joined (probabilitiesOf t) → Listed (modelBy t classes) paths list → HeldOf (modelBy t classes) probabilities (t .components) list paths
+unfolding modelBy probabilityTable
 study-held {t} classes sound twelve is-table listed = record { is-table = is-table; number = sym (counts-long t sound twelve); listed = listed }

@@ -1,4 +1,4 @@
--- The model of a study: its classes come from its gates, or out of a class table.
+-- A study as a model, once the class of each joint state is given.
 use Prim.Native.Nat.{ℕ, _+_, _-_}
 use mathlib.Core.List.{List, [], _∷_, map}
 use lib.ListN.{take}
@@ -7,7 +7,6 @@ use Rattle.units.specs.One.{one}
 use Rattle.study.specs.declared.Component.{Component}
 use Rattle.study.specs.declared.Study.{Study}
 use Rattle.study.specs.Joint.{stateCounts}
-use Rattle.fault_tree.specs.Classes.{classOf}
 use Rattle.paths.specs.Blocks.{classAt}
 use Rattle.model.specs.Model.{Model}
 
@@ -20,20 +19,19 @@ unfoldable pub placeProbabilities : List Component → List ℕ
 unfolding joined
 placeProbabilities component = joined (map stateProbabilities component)
 
--- its components and loads in use, where the class of each joint state is given
+-- those of its components in use, a row each
+abbrev pub probabilitiesOf : Study → List (List ℕ)
+probabilitiesOf t = map stateProbabilities (take (t .components) (t .component))
+
+-- its components and loads in use
 abbrev pub modelWith : Study → (List ℕ → ℕ) → Model
 modelWith t class =
     record {
       counts = stateCounts t;
-      probabilities = map stateProbabilities (take (t .components) (t .component));
+      probabilities = probabilitiesOf t;
       class = class;
       loads = take (t .loads) (t .load);
     }
-
--- what a study is about: the class of each joint state is that by its gates
-unfoldable pub modelOf : Study → Model
-unfolding classOf
-modelOf t = modelWith t (classOf t)
 
 -- where a table has the class of each joint state by its number, wherever it comes from
 unfoldable pub modelBy : Study → List ℕ → Model

@@ -6,6 +6,7 @@ mod listing;
 mod probabilities;
 
 pub use adding::add_study_paths;
+pub use block::counts_in_use;
 pub use listing::list_lent;
 pub use listing::list_whole;
 pub use probabilities::study_probabilities;

@@ -7,13 +7,12 @@ use units::ONE;
 ghost use Prim.Native.Nat.{ℕ, _+_, _*_, _<_, _≤_};
 ghost use mathlib.Core.Path.{_≡_};
 ghost use lib.ListN.{length, getD, take};
-ghost use Rattle.lists.specs.Rows.{put};
+ghost use Rattle.lists.specs.Rows.{put, joined};
 ghost use Rattle.units.specs.One.{one};
 ghost use Rattle.rules.specs.Limits.{mostComponents, mostStates};
 ghost use Rattle.study.specs.Zero.{zeroComponent};
-ghost use Rattle.model.specs.Model.{probabilityTable};
 ghost use Rattle.soundness.specs.Sound.{Sound};
-ghost use Rattle.study_model.specs.Model.{stateProbabilities, placeProbabilities, modelOf};
+ghost use Rattle.study_model.specs.Model.{stateProbabilities, placeProbabilities, probabilitiesOf};
 
 // The places of such a table.
 const PROBABILITY_PLACES: usize = 48;
@@ -60,7 +59,7 @@ fn probability_table(component: [Component; COMPONENT_PLACES]) -> [u32; PROBABIL
 // The table of a sound study; the probabilities of its components in use stand first.
 pub fn study_probabilities(t: Study) -> [u32; PROBABILITY_PLACES]
     requires { ⌜ Sound t ⌝ }
-    ensures { λ r. ⌜ take (t .components * mostStates) r ≡ probabilityTable (modelOf t) ⌝ }
+    ensures { λ r. ⌜ take (t .components * mostStates) r ≡ joined (probabilitiesOf t) ⌝ }
 {
     let component = t.component;
     probability_table(component)

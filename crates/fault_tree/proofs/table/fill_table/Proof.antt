@@ -10,31 +10,31 @@ use Rattle.soundness.proofs.Ranges.{loads-most, gates-most, joint-most}
 use Rattle.fault_tree.specs.Classes.{classOf}
 use Rattle.fault_tree.proofs.GateRows.{row-in}
 use Rattle.fault_tree.proofs.SoundReadable.{counts-inside, counts-small, gate-readable}
-use Rattle.fault_tree.proofs.Tables.{Tabled, tabled-start, tabled-more, tabled-inside, tabled-done}
+use Rattle.fault_tree.proofs.Tables.{Tabled, tabled-start, tabled-more, tabled-inside, tabled-long, tabled-done}
 use Rattle.fault_tree.proofs.GateTruths.{Evaluated, evaluated-start, evaluated-more, evaluated-long, evaluated-done}
 use Rattle.fault_tree.proofs.table.fill_table.Statement.{statement}
 use Rattle.fault_tree.proofs.table.fill_table.Tie as tie
 
 abbrev Inv-loop2 : tie.InvT-loop2
-Inv-loop2 t counts x gate load gates rows joint table k truths₀ i₀ truths i = Evaluated gate x gates i truths
+Inv-loop2 t counts x table gate load gates rows joint k truths₀ i₀ truths i = Evaluated gate x gates i truths
 
 abbrev μ-loop2 : tie.MeasureT-loop2
-μ-loop2 t counts x gate load gates rows joint table k truths₀ i₀ truths i = gates - i
+μ-loop2 t counts x table gate load gates rows joint k truths₀ i₀ truths i = gates - i
 
 abbrev Inv-loop : tie.InvT-loop
-Inv-loop t counts x₀ gate load gates rows joint table₀ k₀ x table k = Tabled t counts joint k x table
+Inv-loop t counts x₀ table₀ gate load gates rows joint k₀ x table k = Tabled t counts table₀ joint k x table
 
 abbrev μ-loop : tie.MeasureT-loop
-μ-loop t counts x₀ gate load gates rows joint table₀ k₀ x table k = joint - k
+μ-loop t counts x₀ table₀ gate load gates rows joint k₀ x table k = joint - k
 
 -- ---- the steps of the code, and what comes before them
 
 abbrev start : tie.After-struct-known Inv-loop2 μ-loop2 Inv-loop μ-loop → tie.Start Inv-loop2 μ-loop2 Inv-loop μ-loop
-start c = c .before .before .before .before .before
+start c = c .before .before .before .before .before .before
 
 -- the rows of inputs, from the first turn on
 abbrev rowed : tie.At-loop Inv-loop2 μ-loop2 Inv-loop μ-loop → tie.After-put-rows Inv-loop2 μ-loop2 Inv-loop μ-loop
-rowed c = c .before .before .before .before
+rowed c = c .before .before .before
 
 abbrev begun : tie.After-put-rows Inv-loop2 μ-loop2 Inv-loop μ-loop → tie.Start Inv-loop2 μ-loop2 Inv-loop μ-loop
 begun c = start (c .before .before .before)
@@ -55,23 +55,22 @@ gate-inside c = omega (arith, gates-most _ (turn c .before .loop .inv .sound), c
 -- ---- the needs
 
 put-rows-requires : tie.Need-put-rows-requires Inv-loop2 μ-loop2 Inv-loop μ-loop
-put-rows-requires c κs = (gates-most _ (start (c .before .before) .pre .sound), c .before .no-rows .ensures)
+put-rows-requires c κs = (gates-most _ (start (c .before .before) .pre .0 .sound), c .before .no-rows .ensures)
 
 joint-states-requires : tie.Need-joint-states-requires Inv-loop2 μ-loop2 Inv-loop μ-loop
 joint-states-requires c κs =
-    let b = begun (c .before) .pre in
+    let b = begun (c .before) .pre .0 in
     (counts-inside _ _ (b .sound) (b .same), counts-small _ _ (b .sound) (b .same))
 
 cast-joint : tie.Need-cast-joint Inv-loop2 μ-loop2 Inv-loop μ-loop
 cast-joint c =
-    let b = begun (c .before .before) .pre in
+    let b = begun (c .before .before) .pre .0 in
     record { fits = omega (arith, c .joint-states .ensures, ap product (b .same), joint-most _ (b .sound)) }
 
-cleared-table-requires : tie.Need-cleared-table-requires Inv-loop2 μ-loop2 Inv-loop μ-loop
-cleared-table-requires c κs = tt
-
 loop-holds : tie.Need-loop-holds Inv-loop2 μ-loop2 Inv-loop μ-loop
-loop-holds c = tabled-start (begun (c .before .before .before) .pre) (c .before .joint-states .ensures) (c .cleared-table .ensures)
+loop-holds c =
+    let pre = begun (c .before .before) .pre in
+    tabled-start (pre .0) (pre .1) (c .joint-states .ensures)
 
 no-truths-requires : tie.Need-no-truths-requires Inv-loop2 μ-loop2 Inv-loop μ-loop
 no-truths-requires c κs = tt
@@ -120,8 +119,8 @@ slice-aggregate-class-by c = sym (evaluated-long (c .before .before .loop2 .inv)
 class-by-requires : tie.Need-class-by-requires Inv-loop2 μ-loop2 Inv-loop μ-loop
 class-by-requires c κs = omega (arith, loads-most _ (ended (c .before) .before .loop .inv .sound))
 
-array-write-table : tie.Need-array-write-table Inv-loop2 μ-loop2 Inv-loop μ-loop
-array-write-table c =
+slice-write-table : tie.Need-slice-write-table Inv-loop2 μ-loop2 Inv-loop μ-loop
+slice-write-table c =
     let at = ended (c .before .before) in
     tabled-inside (at .before .loop .inv) (at .loop-test .taken)
 
@@ -148,7 +147,10 @@ loop-again c =
 same-length : tie.Need-same-length Inv-loop2 μ-loop2 Inv-loop μ-loop
 same-length c =
     let at = c .before in
-    at .loop .inv .joint .long ∙ sym (begun (rowed at) .pre .joint .long)
+    at .loop .inv .joint .long ∙ sym (begun (rowed at) .pre .0 .joint .long)
+
+same-length-2 : tie.Need-same-length-2 Inv-loop2 μ-loop2 Inv-loop μ-loop
+same-length-2 c = tabled-long (c .before .loop .inv)
 
 returns : tie.Need-returns Inv-loop2 μ-loop2 Inv-loop μ-loop
 returns c = tabled-done (c .before .loop .inv) (c .loop-test .left)
@@ -167,7 +169,6 @@ fill-table-spec =
     put-rows-requires
     joint-states-requires
     cast-joint
-    cleared-table-requires
     loop-holds
     no-truths-requires
     loop2-holds
@@ -183,10 +184,11 @@ fill-table-spec =
     loop2-again
     slice-aggregate-class-by
     class-by-requires
-    array-write-table
+    slice-write-table
     next-joint-state-requires
     add-k
     loop-less
     loop-again
     same-length
+    same-length-2
     returns)

@@ -1,4 +1,4 @@
--- `fault_tree::table::class_table` meets its contract: it begins with all components up.
+-- `fault_tree::table::put_classes` meets its contract: it begins with all components up.
 use Prim.Native.Nat.{_≤_}
 use mathlib.Core.Path.{_≡_, sym, ap, _∙_}
 use lib.ListN.{length, length-map}
@@ -10,16 +10,16 @@ use Rattle.study.specs.declared.Study.{Study}
 use Rattle.soundness.specs.Sound.{Sound}
 use Rattle.soundness.proofs.Ranges.{components-most}
 use Rattle.fault_tree.proofs.SoundReadable.{begins}
-use Rattle.fault_tree.proofs.table.class_table.Statement.{statement}
-use Rattle.fault_tree.proofs.table.class_table.Tie as tie
+use Rattle.fault_tree.proofs.table.put_classes.Statement.{statement}
+use Rattle.fault_tree.proofs.table.put_classes.Tie as tie
 
 -- ---- once the state counts are known
 
 abbrev study : tie.After-state-counts → Study
-study c = c .before .before .before .args .t
+study c = c .before .before .before .before .args .t
 
 is-sound : (c : tie.After-state-counts) → Sound (study c)
-is-sound c = c .before .before .before .pre
+is-sound c = c .before .before .before .before .pre .0
 
 counts-room : (c : tie.After-state-counts) → study c .components ≤ length (c .state-counts .result)
 counts-room c =
@@ -47,14 +47,14 @@ slice-aggregate-fill-table-2 c = sym (length-take-le _ _ (states-room (c .before
 
 fill-table-requires : tie.Need-fill-table-requires
 fill-table-requires c κs =
-    let known = c .before .before .before in
+    let known = c .before .before .before .before in
     let counts = known .state-counts in
     let places : length (counts .result) ≡ mostComponents = search needs in
     let long = sym (length-map (study known .component) (λ (k : Component). k .states)) ∙ ap length (sym (counts .ensures)) ∙ places in
-    rw (counts .ensures, c .before .before .all-up .ensures) (begins (study known) (is-sound known) long)
+    rw (counts .ensures, c .before .before .before .all-up .ensures) (begins (study known) (is-sound known) long, known .before .before .before .before .pre .1)
 
-pub class-table-spec : {M : Type 1} → statement M
-class-table-spec =
+pub put-classes-spec : {M : Type 1} → statement M
+put-classes-spec =
     tie.close
     (tie.spec
     (λ c. search needs)
@@ -65,4 +65,5 @@ class-table-spec =
     array-borrow-prefix-x
     slice-aggregate-fill-table-2
     fill-table-requires
+    (λ c. search needs)
     (λ c. search needs))
