@@ -19,3 +19,7 @@ figuresBy lower upper loads = answered Refused (customersFault (customersSum loa
 -- the figures of a model from the bounds of its loads
 abbrev pub modelFigures : Model → FigureValues
 modelFigures m = figuresOf (loadLowers m) (loadUppers m) (m .loads)
+
+-- those, or 19
+abbrev pub figuresIn : Model → FiguresAnswer
+figuresIn m = figuresBy (loadLowers m) (loadUppers m) (m .loads)

@@ -7,6 +7,7 @@ mod paths;
 
 pub use classes::write_classes;
 pub use figures::figures_from;
+pub use figures::study_figures;
 pub use losses::Losses;
 pub use losses::loss_bounds;
 pub use paths::write_paths;
