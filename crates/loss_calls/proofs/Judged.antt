@@ -11,12 +11,10 @@ use Rattle.study.specs.declared.Study.{Study}
 use Rattle.soundness.specs.Check.{sound}
 use Rattle.soundness.proofs.Checked.{no-unsound}
 use Rattle.soundness.proofs.Judged.{unsound-is}
-use Rattle.loss_calls.specs.Bounds.{lossFault}
 use Rattle.loss_calls.specs.Losses.{HasLoad, LoadJudged}
 
 pub load-judged : {t : Study} {j fault front back : ℕ} {is-sound : Bool} → fault ≡ first front back → is-sound ≡ sound t → front ≡ unsoundFault is-sound
     → back ≡ itemFault (t .loads) j → LoadJudged t j fault
-unfolding lossFault
 load-judged {t} {j} {fault} e is unsound item =
     let judged = two-judged e (unsound-is t is unsound) item in
     record { is = judged; has-load = λ none. has (sym judged ∙ none) }

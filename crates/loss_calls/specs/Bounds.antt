@@ -1,4 +1,4 @@
--- What the call for the bounds of a load answers, and by what it is refused.
+-- What the calls for the bounds of a load answer, by a study's gates or by a drawn tree, and by what they are refused.
 use Prim.Native.Nat.{ℕ}
 use mathlib.Core.List.{List, [], _∷_}
 use Rattle.lists.specs.Bits.{bit}
@@ -11,21 +11,21 @@ use Rattle.answers.specs.declared.bounds.BoundsAnswer.the-variants.{Bounds, Ref
 use Rattle.answers.specs.declared.bounds.Enclosure.{Enclosure}
 use Rattle.model.specs.Model.{Model}
 use Rattle.soundness.specs.Check.{sound}
-use Rattle.study_model.specs.Model.{modelOf}
+use Rattle.meaning.specs.Meaning.{Meaning, meaningFault, modelOf}
 use Rattle.evaluation.specs.Bounds.{lowerOf, upperOf}
 
--- 16, then 17
-abbrev pub lossBreaches : Study → ℕ → List ℕ
-lossBreaches t j = unsoundFault (sound t) ∷ itemFault (t .loads) j ∷ []
+-- 16, then 17, then a breach of the meaning
+abbrev pub lossBreaches : Meaning → Study → ℕ → List ℕ
+lossBreaches m t j = unsoundFault (sound t) ∷ itemFault (t .loads) j ∷ meaningFault m t ∷ []
 
-unfoldable pub lossFault : Study → ℕ → ℕ
-lossFault t j = firstBreach (lossBreaches t j)
+unfoldable pub lossFault : Meaning → Study → ℕ → ℕ
+lossFault m t j = firstBreach (lossBreaches m t j)
 
 -- the bounds for the loss of load j
 abbrev pub lossOf : Model → ℕ → Enclosure
 lossOf m j = record { lower = lowerOf m (λ (class : ℕ). bit class j); upper = upperOf m (λ (class : ℕ). bit class j) }
 
 -- the answer: the pair itself
-unfoldable pub loadBounded : Study → ℕ → BoundsAnswer
+unfoldable pub loadBounded : Meaning → Study → ℕ → BoundsAnswer
 unfolding answered lossFault
-loadBounded t j = answered NoBounds (lossFault t j) (Bounds (lossOf (modelOf t) j))
+loadBounded m t j = answered NoBounds (lossFault m t j) (Bounds (lossOf (modelOf m t) j))

@@ -1,4 +1,4 @@
--- What the calls for the bounds of paths and classes answer and write, and by what they are refused.
+-- What the calls for the bounds of paths and classes answer and write, by a study's gates or by a drawn tree, and by what they are refused.
 use Prim.Native.Nat.{ℕ}
 use mathlib.Core.List.{List, [], _∷_}
 use lib.ListN.{length}
@@ -11,9 +11,9 @@ use Rattle.answers.specs.declared.counts.CountAnswer.the-variants.{Count, Refus
 use Rattle.answers.specs.declared.outcome.Outcome.{Outcome}
 use Rattle.answers.specs.declared.outcome.Outcome.the-variants.{Done, Refused}
 use Rattle.entries.specs.Entries.{classPlaces}
-use Rattle.model.specs.Model.{pathsOf}
+use Rattle.model.specs.Model.{Model, pathsOf}
 use Rattle.soundness.specs.Check.{sound}
-use Rattle.study_model.specs.Model.{modelOf}
+use Rattle.meaning.specs.Meaning.{Meaning, meaningFault, modelOf}
 use Rattle.evaluation.specs.Bounds.{pathLowers, pathUppers, classLowers, classUppers}
 
 -- ---- two slices of which each needs so many places
@@ -25,48 +25,48 @@ pairFault need lower upper = firstBreach (roomFault need lower ∷ roomFault nee
 abbrev pub pairRoom : ℕ → List ℕ → List ℕ → ℕ
 pairRoom need lower upper = pairFault need (length lower) (length upper)
 
--- 16, then 18
-abbrev pub pairBreaches : Study → ℕ → ℕ → ℕ → List ℕ
-pairBreaches t need lower upper = unsoundFault (sound t) ∷ pairFault need lower upper ∷ []
+-- 16, then a breach of the meaning, then 18
+abbrev pub pairBreaches : Meaning → Study → ℕ → ℕ → ℕ → List ℕ
+pairBreaches m t need lower upper = unsoundFault (sound t) ∷ meaningFault m t ∷ pairFault need lower upper ∷ []
 
-unfoldable pub pairBreach : Study → ℕ → ℕ → ℕ → ℕ
+unfoldable pub pairBreach : Meaning → Study → ℕ → List ℕ → List ℕ → ℕ
 unfolding pairFault
-pairBreach t need lower upper = firstBreach (pairBreaches t need lower upper)
+pairBreach m t need lower upper = firstBreach (pairBreaches m t need (length lower) (length upper))
 
--- ---- the call for paths
+-- ---- the calls for paths
 
--- 18 alone, once the study is found sound
-abbrev pub pathsRoom : Study → List ℕ → List ℕ → ℕ
-pathsRoom t lower upper = pairRoom (length (pathsOf (modelOf t))) lower upper
+-- 18 alone, where the study and its meaning are judged
+abbrev pub pathsRoom : Model → List ℕ → List ℕ → ℕ
+pathsRoom m lower upper = pairRoom (length (pathsOf m)) lower upper
 
-abbrev pub pathsFault : Study → List ℕ → List ℕ → ℕ
-pathsFault t lower upper = pairBreach t (length (pathsOf (modelOf t))) (length lower) (length upper)
+abbrev pub pathsFault : Meaning → Study → List ℕ → List ℕ → ℕ
+pathsFault m t lower upper = pairBreach m t (length (pathsOf (modelOf m t))) lower upper
 
 -- what the two slices then hold
-abbrev pub lowerOfPaths : Study → List ℕ → List ℕ → List ℕ
-lowerOfPaths t lower upper = filled (pathsFault t lower upper) (pathLowers (modelOf t)) lower
+abbrev pub lowerOfPaths : Meaning → Study → List ℕ → List ℕ → List ℕ
+lowerOfPaths m t lower upper = filled (pathsFault m t lower upper) (pathLowers (modelOf m t)) lower
 
-abbrev pub upperOfPaths : Study → List ℕ → List ℕ → List ℕ
-upperOfPaths t lower upper = filled (pathsFault t lower upper) (pathUppers (modelOf t)) upper
+abbrev pub upperOfPaths : Meaning → Study → List ℕ → List ℕ → List ℕ
+upperOfPaths m t lower upper = filled (pathsFault m t lower upper) (pathUppers (modelOf m t)) upper
 
 -- the answer: the number of paths
-unfoldable pub pathsBounded : Study → List ℕ → List ℕ → CountAnswer
+unfoldable pub pathsBounded : Meaning → Study → List ℕ → List ℕ → CountAnswer
 unfolding answered pairBreach
-pathsBounded t lower upper = answered NoCount (pathsFault t lower upper) (Count (length (pathsOf (modelOf t))))
+pathsBounded m t lower upper = answered NoCount (pathsFault m t lower upper) (Count (length (pathsOf (modelOf m t))))
 
--- ---- the call for classes
+-- ---- the calls for classes
 
-abbrev pub classesFault : Study → List ℕ → List ℕ → ℕ
-classesFault t lower upper = pairBreach t classPlaces (length lower) (length upper)
+abbrev pub classesFault : Meaning → Study → List ℕ → List ℕ → ℕ
+classesFault m t lower upper = pairBreach m t classPlaces lower upper
 
 -- what the two slices then hold
-abbrev pub lowerOfClasses : Study → List ℕ → List ℕ → List ℕ
-lowerOfClasses t lower upper = filled (classesFault t lower upper) (classLowers (modelOf t)) lower
+abbrev pub lowerOfClasses : Meaning → Study → List ℕ → List ℕ → List ℕ
+lowerOfClasses m t lower upper = filled (classesFault m t lower upper) (classLowers (modelOf m t)) lower
 
-abbrev pub upperOfClasses : Study → List ℕ → List ℕ → List ℕ
-upperOfClasses t lower upper = filled (classesFault t lower upper) (classUppers (modelOf t)) upper
+abbrev pub upperOfClasses : Meaning → Study → List ℕ → List ℕ → List ℕ
+upperOfClasses m t lower upper = filled (classesFault m t lower upper) (classUppers (modelOf m t)) upper
 
 -- the answer: only that it is done
-unfoldable pub classesBounded : Study → List ℕ → List ℕ → Outcome
+unfoldable pub classesBounded : Meaning → Study → List ℕ → List ℕ → Outcome
 unfolding answered pairBreach
-classesBounded t lower upper = answered Refused (classesFault t lower upper) Done
+classesBounded m t lower upper = answered Refused (classesFault m t lower upper) Done

@@ -1,9 +1,12 @@
-// The calls for the paths and classes of a study: the list of its paths, and bounds in two lent slices.
+// The calls for the paths and classes of a study, by its gates or by a drawn tree: the list of its paths, and bounds in two lent slices.
 mod classes;
 mod listing;
 mod pairs;
 mod paths;
 
 pub use classes::class_bounds;
+pub use classes::drawn_class_bounds;
+pub use listing::drawn_list_paths;
 pub use listing::list_paths;
+pub use paths::drawn_path_bounds;
 pub use paths::path_bounds;

@@ -14,10 +14,11 @@ use Rattle.answers.specs.declared.outcome.StudyAnswer.{StudyAnswer}
 use Rattle.soundness.specs.Sound.{Sound}
 use Rattle.opening.specs.Opening.{opened}
 use Rattle.opening.proofs.Opened.Study.{opened-sound}
-use Rattle.fault_tree.specs.Classes.{classTable}
 use Rattle.probability.specs.Totals.{lowerClasses, upperClasses, lowerLoads, upperLoads}
-use Rattle.study_model.specs.Model.{modelOf, modelBy}
-use Rattle.study_model.proofs.ClassFront.{table-values}
+use Rattle.study_model.specs.Model.{modelBy}
+use Rattle.meaning.specs.Meaning.{byGates, modelOf}
+use Rattle.meaning.specs.Sources.{Tabled}
+use Rattle.meaning.proofs.Tables.{table-values}
 use Rattle.evaluation.specs.Figures.{figuresBy}
 use Rattle.report_lines.specs.Classes.{allBearing, classLines}
 use Rattle.report_lines.specs.Figures.{figureLines}
@@ -30,7 +31,7 @@ module _ (bytes : List ℕ) {answer : StudyAnswer} (e : answer ≡ opened bytes)
   unfolding reportText
   by-answer is = ap (λ (o : Outcome). textBy o (answer .study)) (sym is) ∙ ap (λ (a : StudyAnswer). textBy (a .outcome) (a .study)) e
 
-  pub text-done : answer .outcome ≡ Done → modelText (modelOf (answer .study)) ≡ reportText bytes
+  pub text-done : answer .outcome ≡ Done → modelText (modelOf byGates (answer .study)) ≡ reportText bytes
   unfolding textBy
   text-done done = by-answer done
 
@@ -42,18 +43,18 @@ module _ (bytes : List ℕ) {answer : StudyAnswer} (e : answer ≡ opened bytes)
   opened-study done =
       subst (λ (a : StudyAnswer). Sound (a .study)) (sym e) (opened-sound bytes (ap (λ (a : StudyAnswer). a .outcome) (sym e) ∙ done))
 
-pub table-text : {t : Study} (table : List ℕ) → Sound t → mostJointStates ≤ length table → table ≡ classTable t
-    → modelText (modelBy t table) ≡ modelText (modelOf t)
+pub table-text : {t : Study} {was : List ℕ} (table : List ℕ) → Sound t → mostJointStates ≤ length table → Tabled byGates t was table
+    → modelText (modelBy t table) ≡ modelText (modelOf byGates t)
 unfolding modelText classesText lossesText modelBy modelOf
-table-text {t} table sound room e =
-    table-values table sound room e
+table-text {t} table sound room tabled =
+    table-values byGates table sound room tabled
     (λ p n entries.
     joined
     (numberLine (letters "PATHS") (length entries)
     ∷ pathLines p n entries
     ∷ classLines (allBearing n entries) (lowerClasses p n entries) (upperClasses p n entries)
     ∷ joined
-    (loadLines (lowerLoads p n entries) (upperLoads p n entries) (length (modelOf t .loads))
-    ∷ figureLines (figuresBy (lowerLoads p n entries) (upperLoads p n entries) (modelOf t .loads))
+    (loadLines (lowerLoads p n entries) (upperLoads p n entries) (length (modelOf byGates t .loads))
+    ∷ figureLines (figuresBy (lowerLoads p n entries) (upperLoads p n entries) (modelOf byGates t .loads))
     ∷ [])
     ∷ []))

@@ -11,7 +11,7 @@ use Rattle.answers.specs.declared.outcome.Outcome.{Outcome}
 use Rattle.answers.specs.declared.outcome.Outcome.the-variants.{Done, Refused}
 use Rattle.model.specs.Model.{Model, components, pathsOf, probabilityTable}
 use Rattle.opening.specs.Opening.{opened}
-use Rattle.study_model.specs.Model.{modelOf}
+use Rattle.meaning.specs.Meaning.{byGates, modelOf}
 use Rattle.evaluation.specs.Bounds.{classLowers, classUppers, loadLowers, loadUppers}
 use Rattle.evaluation.specs.Figures.{figuresBy}
 use Rattle.report_lines.specs.Paths.{pathLines}
@@ -54,7 +54,7 @@ refusedText n = joined (letters "REFUSED" ∷ field n ∷ letters " " ∷ refusa
 -- by what opening answers
 unfoldable pub textBy : Outcome → Study → List ℕ
 unfolding modelText refusedText modelOf
-textBy Done t = modelText (modelOf t)
+textBy Done t = modelText (modelOf byGates t)
 textBy (Refused n) t = refusedText n
 
 -- the report of a study's bytes

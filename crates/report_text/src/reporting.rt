@@ -4,8 +4,9 @@ use crate::model_text::model_text;
 use answers::CountAnswer;
 use answers::Outcome;
 use entries::empty_list;
-use fault_tree::class_table;
+use fault_tree::put_classes;
 use lent_text::hand_over;
+use meaning::no_classes;
 use probability::first_components;
 use study::Study;
 use study_model::list_whole;
@@ -19,16 +20,17 @@ ghost use lib.ListN.{length};
 ghost use Rattle.text.specs.Writing.{Room, Wrote};
 ghost use Rattle.lent_text.specs.Lent.{reported, written};
 ghost use Rattle.soundness.specs.Sound.{Sound};
-ghost use Rattle.study_model.specs.Model.{modelOf};
+ghost use Rattle.meaning.specs.Meaning.{byGates, modelOf};
 ghost use Rattle.report_text.specs.Report.{reportBytes, modelText, refusedText, reportText};
 
 // Writes the text of a sound study.
 fn sound_text(t: Study, out: &mut [u8]) -> usize
     requires { ⌜ Sound t ⌝ }
     requires { ⌜ reportBytes ≤ length (now out) ⌝ }
-    ensures { λ r. ⌜ Wrote (now (out .entry)) 0 (modelText (modelOf t)) (now (out .exit)) r ⌝ }
+    ensures { λ r. ⌜ Wrote (now (out .entry)) 0 (modelText (modelOf byGates t)) (now (out .exit)) r ⌝ }
 {
-    let classes = class_table(t);
+    let mut classes = no_classes();
+    put_classes(t, &mut classes);
     let mut list = empty_list();
     let paths = list_whole(t, &classes, &mut list) as usize;
     let table = study_probabilities(t);

@@ -1,26 +1,31 @@
--- `path_calls::classes::bound_classes` meets its contract: the class table is that of the study's gates.
-use mathlib.Core.Path.{ap, _∙_}
-use denote.Ref.{now}
-use Rattle.lists.specs.Rows.{put}
-use Rattle.probability.specs.Totals.{lowerClasses, upperClasses}
-use Rattle.study_model.proofs.ClassFront.{table-values}
+-- `path_calls::classes::bound_classes` meets its contract: both slices are measured before either is written.
+use mathlib.Core.Path.{sym, _∙_}
+use Rattle.answers.specs.declared.outcome.Outcome.the-variants.{Refused}
+use Rattle.answers.proofs.Answered.{answered-done, answered-refused, filled-done, filled-refused}
+use Rattle.path_calls.proofs.Judged.{pair-room}
 use borrow.Author.Needs.{needs}
 use Rattle.path_calls.proofs.classes.bound_classes.Statement.{statement}
 use Rattle.path_calls.proofs.classes.bound_classes.Tie as tie
 
-abbrev tabled : tie.After-write-classes → tie.After-class-table
-tabled c = c .before .before .before .before
-
-abbrev start : tie.After-class-table → tie.Start
-start c = c .before .before .before
-
 returns : tie.Need-returns
 returns c =
+    let taken = c .if1 .taken in
+    rw (← c .before .pair-fault .ensures) (sym (answered-refused Refused _ _ taken), (sym (filled-refused _ _ _ taken), sym (filled-refused _ _ _ taken)))
+
+write-classes-requires : tie.Need-write-classes-requires
+write-classes-requires c κs =
+    let judged = c .before .before in
+    let pre = judged .before .before .before .before .before .pre in
+    let room = pair-room (sym (judged .before .pair-fault .ensures) ∙ judged .if1 .left) in
+    (pre .0, (pre .1, (room .in-lower, room .in-upper)))
+
+returns-2 : tie.Need-returns-2
+returns-2 c =
     let written = c .before .before .before .before in
-    let begin = start (tabled written) in
-    let values = table-values (tabled written .class-table .result) (begin .pre .0) (search needs) (tabled written .class-table .ensures) in (
-      written .write-classes .ensures .0 ∙ ap (put (now (begin .args .lower)) 0) (values lowerClasses),
-      written .write-classes .ensures .1 ∙ ap (put (now (begin .args .upper)) 0) (values upperClasses),
+    let judged = written .before .before .before in
+    let none = sym (judged .before .pair-fault .ensures) ∙ judged .if1 .left in (
+      sym (answered-done Refused _ _ none),
+      (written .write-classes .ensures .0 ∙ sym (filled-done _ _ _ none), written .write-classes .ensures .1 ∙ sym (filled-done _ _ _ none)),
     )
 
 pub bound-classes-spec : {M : Type 1} → statement M
@@ -28,8 +33,8 @@ bound-classes-spec =
     tie.close
     (tie.spec
     (λ c κs. search needs)
+    returns
+    write-classes-requires
     (λ c. search needs)
-    (λ c κs. search needs)
     (λ c. search needs)
-    (λ c. search needs)
-    returns)
+    returns-2)

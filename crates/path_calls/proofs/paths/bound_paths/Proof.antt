@@ -1,7 +1,6 @@
--- `path_calls::paths::bound_paths` meets its contract: the page holds the list of the study's paths, and their number is the need.
+-- `path_calls::paths::bound_paths` meets its contract: the page holds the list of the paths, and their number is the need.
 use Prim.Native.Nat.{ℕ}
-use mathlib.Core.Path.{_≡_, sym, ap, subst, _∙_}
-use mathlib.Core.List.{List}
+use mathlib.Core.Path.{_≡_, sym, ap, _∙_}
 use lib.ListN.{length}
 use denote.Ref.{now}
 use Rattle.lists.specs.Rows.{put}
@@ -10,13 +9,12 @@ use Rattle.rules.specs.Limits.{mostComponents}
 use Rattle.answers.specs.declared.counts.CountAnswer.the-variants.{Count, Refused}
 use Rattle.answers.proofs.Answered.{answered-done, answered-refused, filled-done, filled-refused}
 use Rattle.model.specs.Held.{HeldOf}
-use Rattle.model.specs.Model.{pathsOf}
+use Rattle.model.specs.Model.{Model}
 use Rattle.probability.specs.Totals.{lowerBounds, upperBounds}
-use Rattle.study_model.specs.Model.{modelOf, modelBy}
-use Rattle.study_model.proofs.ClassFront.{table-paths, table-values}
+use Rattle.study_model.specs.Model.{modelBy}
 use Rattle.study_model.proofs.Table.{front-inside, study-held}
 use Rattle.evaluation.proofs.Bounding.{held-boundable, held-values}
-use Rattle.path_calls.specs.Bounds.{pairRoom, pairFault}
+use Rattle.path_calls.specs.Bounds.{pairFault, pathsRoom}
 use Rattle.path_calls.proofs.Judged.{pair-room}
 use borrow.Author.Needs.{needs}
 use Rattle.path_calls.proofs.paths.bound_paths.Statement.{statement}
@@ -25,28 +23,18 @@ use Rattle.path_calls.proofs.paths.bound_paths.Tie as tie
 abbrev listed : tie.After-pair-fault → tie.After-list-whole
 listed c = c .before .before
 
-abbrev tabled : tie.After-list-whole → tie.After-class-table
-tabled c = c .before .before .before .before
-
-abbrev start : tie.After-class-table → tie.Start
-start c = c .before .before .before
-
 abbrev begun : tie.After-pair-fault → tie.Start
-begun c = start (tabled (listed c))
+begun c = listed c .before .before .before .before .before .before
 
--- the page has as many paths as the study
-number-is : (c : tie.After-pair-fault) → listed c .list-whole .result ≡ length (pathsOf (modelOf (begun c .args .t)))
-number-is c =
-    let table = tabled (listed c) in
-    listed c .list-whole .ensures .number
-    ∙ ap length (table-paths (table .class-table .result) (begun c .pre) (search needs) (table .class-table .ensures))
+-- the model that the class table makes
+abbrev model : tie.After-pair-fault → Model
+model c = modelBy (begun c .args .t) (now (begun c .args .classes))
 
--- and the breach is that of as many places
-fault-is : (c : tie.After-pair-fault)
-    → c .pair-fault .result ≡ pairRoom (length (pathsOf (modelOf (begun c .args .t)))) (now (begun c .args .lower)) (now (begun c .args .upper))
+-- the breach is that of as many places as the page has paths
+fault-is : (c : tie.After-pair-fault) → c .pair-fault .result ≡ pathsRoom (model c) (now (begun c .args .lower)) (now (begun c .args .upper))
 fault-is c =
     let args = begun c .args in
-    c .pair-fault .ensures ∙ ap (λ (need : ℕ). pairFault need (length (now (args .lower))) (length (now (args .upper)))) (number-is c)
+    c .pair-fault .ensures ∙ ap (λ (need : ℕ). pairFault need (length (now (args .lower))) (length (now (args .upper)))) (listed c .list-whole .ensures .number)
 
 -- the steps in front of the writing
 abbrev kept : tie.After-first-components → tie.Else1
@@ -57,13 +45,14 @@ twelve : (c : tie.Start) → length (c .args .t .component) ≡ mostComponents
 twelve c = search (mapped, needs)
 
 held : (c : tie.After-first-components)
-    → let call = listed (kept c .before) in
-    HeldOf (modelBy (start (tabled call) .args .t) (tabled call .class-table .result)) (now (c .first-components .result))
-    (start (tabled call) .args .t .components) (call .list-whole .last .1 .1 .0) (call .list-whole .result)
+    → let judged = kept c .before in
+    HeldOf (model judged) (now (c .first-components .result)) (begun judged .args .t .components) (listed judged .list-whole .last .1 .1 .0)
+    (listed judged .list-whole .result)
 held c =
-    let call = listed (kept c .before) in
-    let begin = start (tabled call) in
-    study-held (tabled call .class-table .result) (begin .pre) (twelve begin) (c .first-components .ensures ∙ c .before .before .before .study-probabilities .ensures) (call .list-whole .ensures)
+    let judged = kept c .before in
+    let begin = begun judged in
+    study-held (now (begin .args .classes)) (begin .pre .0) (twelve begin) (c .first-components .ensures ∙ c .before .before .before .study-probabilities .ensures)
+    (listed judged .list-whole .ensures)
 
 returns : tie.Need-returns
 returns c =
@@ -71,7 +60,7 @@ returns c =
     rw (← fault-is (c .before)) (sym (answered-refused Refused _ _ taken), (sym (filled-refused _ _ _ taken), sym (filled-refused _ _ _ taken)))
 
 first-components-requires : tie.Need-first-components-requires
-first-components-requires c κs = front-inside (begun (c .before .before .before .before) .pre) (search needs)
+first-components-requires c κs = front-inside (begun (c .before .before .before .before) .pre .0) (search needs)
 
 write-paths-requires : tie.Need-write-paths-requires
 write-paths-requires c κs =
@@ -85,17 +74,11 @@ returns-2 c =
     let front = written .before .before .before .before in
     let judged = kept front .before in
     let args = begun judged .args in
-    let table = tabled (listed judged) in
-    let values = table-values (table .class-table .result) (begun judged .pre) (search needs) (table .class-table .ensures) in
     let none = sym (fault-is judged) ∙ kept front .if1 .left in (
-      ap Count (number-is judged) ∙ sym (answered-done Refused _ _ none),
+      ap Count (listed judged .list-whole .ensures .number) ∙ sym (answered-done Refused _ _ none),
       (
-        written .write-paths .ensures .0
-            ∙ ap (put (now (args .lower)) 0) (held-values (held front) lowerBounds ∙ values lowerBounds)
-            ∙ sym (filled-done _ _ _ none),
-        written .write-paths .ensures .1
-            ∙ ap (put (now (args .upper)) 0) (held-values (held front) upperBounds ∙ values upperBounds)
-            ∙ sym (filled-done _ _ _ none),
+        written .write-paths .ensures .0 ∙ ap (put (now (args .lower)) 0) (held-values (held front) lowerBounds) ∙ sym (filled-done _ _ _ none),
+        written .write-paths .ensures .1 ∙ ap (put (now (args .upper)) 0) (held-values (held front) upperBounds) ∙ sym (filled-done _ _ _ none),
       ),
     )
 
@@ -104,8 +87,6 @@ bound-paths-spec =
     tie.close
     (tie.spec
     (λ c κs. search needs)
-    (λ c κs. search needs)
-    (λ c. search needs)
     (λ c. search needs)
     (λ c κs. search needs)
     (λ c. search needs)
