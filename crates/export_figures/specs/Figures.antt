@@ -1,4 +1,4 @@
--- The call for the figures of the study that an image holds, each in two places of its own.
+-- The calls for the figures of the study that an image holds, by its gates or by a drawn tree, each in two places of its own.
 use Prim.Native.Nat.{ℕ}
 use mathlib.Core.Path.{_≡_}
 use mathlib.Core.List.{List, [], _∷_}
@@ -14,7 +14,7 @@ use Rattle.answers.specs.declared.figures.FiguresAnswer.the-variants.{Figures, 
 use Rattle.answers.specs.Answered.{answered}
 use Rattle.answers.specs.Told.{pairValues, caidiValues, figuresTold}
 use Rattle.soundness.specs.Check.{sound}
-use Rattle.study_model.specs.Model.{modelOf}
+use Rattle.meaning.specs.Meaning.{Meaning, meaningFault, modelOf}
 use Rattle.evaluation.specs.Figures.{modelFigures}
 use Rattle.loss_calls.specs.Figures.{customersOf}
 use Rattle.study_image.specs.Image.{studyIn}
@@ -37,18 +37,15 @@ caidiAt = 4
 abbrev pub maifiAt : ℕ
 maifiAt = 6
 
--- 16, then 18
-unfoldable pub placesFault : Study → ℕ → ℕ
-placesFault t room = firstBreach (unsoundFault (sound t) ∷ roomFault figurePlaces room ∷ [])
-
--- 16, 18, then 19
-unfoldable pub figuresInFault : Study → ℕ → ℕ
-figuresInFault t room = firstBreach (unsoundFault (sound t) ∷ roomFault figurePlaces room ∷ customersFault (customersOf t) ∷ [])
+-- 16, then a breach of the meaning, then 18, then 19
+unfoldable pub figuresInFault : Meaning → Study → ℕ → ℕ
+figuresInFault m t room =
+    firstBreach (unsoundFault (sound t) ∷ meaningFault m t ∷ roomFault figurePlaces room ∷ customersFault (customersOf t) ∷ [])
 
 -- the answer
-unfoldable pub figuresIn : Study → ℕ → FiguresAnswer
+unfoldable pub figuresIn : Meaning → Study → ℕ → FiguresAnswer
 unfolding answered
-figuresIn t room = answered Refused (figuresInFault t room) (Figures (modelFigures (modelOf t)))
+figuresIn m t room = answered Refused (figuresInFault m t room) (Figures (modelFigures (modelOf m t)))
 
 -- the places with each figure in its own two; CAIDI, where it is not stated, has no values and leaves its places as they were
 abbrev pub placesWith : FigureValues → List ℕ → List ℕ
@@ -68,6 +65,6 @@ pub record PlacesFigures (given : FiguresAnswer) (was places : List ℕ) (answer
   pub answered : answer ≡ answeredBy pairs (figuresTold given)
   pub left : places ≡ placesLeft given was
 
--- the call
-abbrev pub GivesFigures : (study was places : List ℕ) → ℤ → Type 0
-GivesFigures study was = PlacesFigures (figuresIn (studyIn study) (length was)) was
+-- the calls
+abbrev pub GivesFigures : (m : Meaning) (study was places : List ℕ) → ℤ → Type 0
+GivesFigures m study was = PlacesFigures (figuresIn m (studyIn study) (length was)) was

@@ -1,23 +1,26 @@
-// The figures of an opened study for C, a pair of places each.
+// The figures of an opened study for C, by its gates or by a drawn tree, a pair of places each.
 use answers::Caidi;
 use answers::Enclosure;
 use answers::Figures;
 use answers::FiguresAnswer;
+use evaluation::study_figures;
 use export_answers::counted;
 use export_answers::refused;
+use meaning::Source;
+use meaning::judged_classes;
+use meaning::no_classes;
 use rules::first;
 use rules::room_fault;
-use rules::unsound_fault;
-use soundness::is_sound;
-use study::Study;
 use study_image::read_image;
 ghost use Prim.Native.Nat.{_+_, _≤_};
 ghost use mathlib.Core.Path.{_≡_};
 ghost use lib.ListN.{length};
 ghost use Rattle.lists.specs.Rows.{put};
 ghost use Rattle.answers.specs.Told.{pairValues, caidiValues, figureValues};
+ghost use Rattle.meaning.specs.Meaning.{byGates, byTree};
+ghost use Rattle.meaning.specs.Sources.{meaningOf};
 ghost use Rattle.export_answers.specs.Answers.{pairs};
-ghost use Rattle.export_figures.specs.Figures.{figurePlaces, caidiAt, placesWith, placesFault, PlacesFigures, GivesFigures};
+ghost use Rattle.export_figures.specs.Figures.{figurePlaces, caidiAt, placesWith, PlacesFigures, GivesFigures};
 
 // Where the pair of each figure stands.
 const SAIFI_AT: usize = 0;
@@ -80,25 +83,32 @@ fn hand_on(answer: FiguresAnswer, places: &mut [u64]) -> i64
     }
 }
 
-// The breach of a study, then of places too few for its figures. 18 stands between the two refusals of the call for them, so that 16 is looked
-// at here too.
-fn places_fault(t: Study, places: usize) -> u8
-    ensures { λ r. ⌜ r ≡ placesFault t places ⌝ }
+// The figures under either meaning, in their places. The room is judged behind the study and its meaning, and before the customers.
+fn figures_meant(source: Source, study: &[u8], tree: &[u8], places: &mut [u64]) -> i64
+    ensures { λ r. ⌜ GivesFigures (meaningOf source (now (tree .entry))) (now (study .entry)) (now (places .entry)) (now (places .exit)) r ⌝ }
 {
-    let unsound = unsound_fault(is_sound(t));
-    let room = room_fault(FIGURE_PLACES, places);
-    first(unsound, room)
+    let t = read_image(study);
+    let mut classes = no_classes();
+    let judged = judged_classes(source, t, tree, &mut classes);
+    let room = room_fault(FIGURE_PLACES, places.len());
+    let fault = first(judged, room);
+    if fault != 0 {
+        return refused(fault);
+    }
+    hand_on(study_figures(t, &classes), places)
 }
 
 // SAIFI, SAIDI, CAIDI and MAIFI, lower and upper bound of each in its two of eight places; answers how many are stated, since CAIDI may not be.
 // Refused by 16, 18, 19, in this order.
 pub fn figures(study: &[u8], places: &mut [u64]) -> i64
-    ensures { λ r. ⌜ GivesFigures (now (study .entry)) (now (places .entry)) (now (places .exit)) r ⌝ }
+    ensures { λ r. ⌜ GivesFigures byGates (now (study .entry)) (now (places .entry)) (now (places .exit)) r ⌝ }
 {
-    let t = read_image(study);
-    let fault = places_fault(t, places.len());
-    if fault != 0 {
-        return refused(fault);
-    }
-    hand_on(loss_calls::figures(t), places)
+    figures_meant(Source::Gates, study, &[], places)
+}
+
+// The same by a drawn tree in place of the study's gates. Refused by 16, then 20, 21 or 22, then 18, 19.
+pub fn drawn_figures(study: &[u8], tree: &[u8], places: &mut [u64]) -> i64
+    ensures { λ r. ⌜ GivesFigures (byTree (now (tree .entry))) (now (study .entry)) (now (places .entry)) (now (places .exit)) r ⌝ }
+{
+    figures_meant(Source::Tree, study, tree, places)
 }

@@ -1,23 +1,31 @@
-// The classes of an opened study, and the losses of its loads, for C.
+// The classes of an opened study, and the losses of its loads, for C, by its gates or by a drawn tree.
 use answers::BoundsAnswer;
 use export_answers::answer_outcome;
 use export_answers::counted;
 use export_answers::refused;
 use study_image::read_image;
-ghost use Rattle.export_losses.specs.Losses.{BoundsClasses, BoundsLoad, CountsLost};
+ghost use Rattle.answers.specs.Told.{boundsTold};
+ghost use Rattle.meaning.specs.Meaning.{byGates, byTree};
+ghost use Rattle.export_losses.specs.Losses.{BoundsClasses, TakesPair, BoundsLoad, CountsLost};
 
 // Bounds for the classes of a study, at places 0 to 255 of two slices. Refused by 16, 18, in this order.
 pub fn class_bounds(study: &[u8], lower: &mut [u64], upper: &mut [u64]) -> i64
-    ensures { λ r. ⌜ BoundsClasses (now (study .entry)) (now (lower .entry)) (now (upper .entry)) (now (lower .exit)) (now (upper .exit)) r ⌝ }
+    ensures { λ r. ⌜ BoundsClasses byGates (now (study .entry)) (now (lower .entry)) (now (upper .entry)) (now (lower .exit)) (now (upper .exit)) r ⌝ }
 {
     answer_outcome(path_calls::class_bounds(read_image(study), lower, upper))
 }
 
-// Bounds for the loss of a load, in two numbers. Refused by 16, 17, in this order.
-pub fn load_bounds(study: &[u8], load: usize, lower: &mut u64, upper: &mut u64) -> i64
-    ensures { λ r. ⌜ BoundsLoad (now (study .entry)) load (now (lower .entry)) (now (upper .entry)) (now (lower .exit)) (now (upper .exit)) r ⌝ }
+// The same by a drawn tree in place of the study's gates. Refused by 16, then 20, 21 or 22, then 18.
+pub fn drawn_class_bounds(study: &[u8], tree: &[u8], lower: &mut [u64], upper: &mut [u64]) -> i64
+    ensures { λ r. ⌜ BoundsClasses (byTree (now (tree .entry))) (now (study .entry)) (now (lower .entry)) (now (upper .entry)) (now (lower .exit)) (now (upper .exit)) r ⌝ }
 {
-    let answer = loss_calls::load_bounds(read_image(study), load);
+    answer_outcome(path_calls::drawn_class_bounds(read_image(study), tree, lower, upper))
+}
+
+// Hands on the bounds that a call answered.
+fn hand_bounds(answer: BoundsAnswer, lower: &mut u64, upper: &mut u64) -> i64
+    ensures { λ r. ⌜ TakesPair (boundsTold answer) (now (lower .entry)) (now (upper .entry)) (now (lower .exit)) (now (upper .exit)) r ⌝ }
+{
     match answer {
         BoundsAnswer::Bounds(pair) => {
             *lower = pair.lower;
@@ -26,6 +34,34 @@ pub fn load_bounds(study: &[u8], load: usize, lower: &mut u64, upper: &mut u64) 
         }
         BoundsAnswer::Refused(number) => refused(number),
     }
+}
+
+// Bounds for the loss of a load, in two numbers. Refused by 16, 17, in this order.
+pub fn load_bounds(study: &[u8], load: usize, lower: &mut u64, upper: &mut u64) -> i64
+    ensures { λ r. ⌜ BoundsLoad byGates (now (study .entry)) load (now (lower .entry)) (now (upper .entry)) (now (lower .exit)) (now (upper .exit)) r ⌝ }
+{
+    hand_bounds(
+        loss_calls::load_bounds(read_image(study), load),
+        lower,
+        upper,
+    )
+}
+
+// The same by a drawn tree in place of the study's gates. Refused by 16, 17, then 20, 21 or 22.
+pub fn drawn_load_bounds(
+    study: &[u8],
+    tree: &[u8],
+    load: usize,
+    lower: &mut u64,
+    upper: &mut u64,
+) -> i64
+    ensures { λ r. ⌜ BoundsLoad (byTree (now (tree .entry))) (now (study .entry)) load (now (lower .entry)) (now (upper .entry)) (now (lower .exit)) (now (upper .exit)) r ⌝ }
+{
+    hand_bounds(
+        loss_calls::drawn_load_bounds(read_image(study), tree, load),
+        lower,
+        upper,
+    )
 }
 
 // How many loads are lost in a class.

@@ -9,7 +9,7 @@ returns : tie.Need-returns
 returns c =
     let asked = c .before .before .before in
     let listed = rw (asked .before .before .read-image .ensures) at (asked .list-paths .ensures) in
-    handed-on (ListsPaths _ _ _) (c .answer-listing .ok)
+    handed-on (ListsPaths _ _ _ _) (c .answer-listing .ok)
     (record { answered = rw (listed .0) at (c .answer-listing .ensures); listed = listed .1 })
 
 pub list-paths-spec : {M : Type 1} → statement M

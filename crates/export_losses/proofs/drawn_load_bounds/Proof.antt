@@ -1,0 +1,15 @@
+-- `export_losses::drawn_load_bounds` meets its contract: the call's own, for the study that the image holds and the tree.
+use Rattle.export_answers.proofs.Signed.{handed-on}
+use Rattle.export_losses.specs.Losses.{TakesPair}
+use borrow.Author.Needs.{needs}
+use Rattle.export_losses.proofs.drawn_load_bounds.Statement.{statement}
+use Rattle.export_losses.proofs.drawn_load_bounds.Tie as tie
+
+returns : tie.Need-returns
+returns c =
+    let asked = c .before .before .before in
+    let bounded = rw (asked .before .read-image .ensures) at (asked .drawn-load-bounds .ensures) in
+    handed-on (TakesPair _ _ _ _ _) (c .hand-bounds .ok) (rw bounded at (c .hand-bounds .ensures))
+
+pub drawn-load-bounds-spec : {M : Type 1} → statement M
+drawn-load-bounds-spec = tie.close (tie.spec (λ c κs. search needs) (λ c κs. search needs) (λ c κs. search needs) returns)
