@@ -20,8 +20,8 @@ use Rattle.probability.specs.Bounds.{pathBound}
 use Rattle.probability.specs.Totals.{pathBounds}
 use Rattle.accuracy.proofs.PathBounds.{path-within}
 use Rattle.accuracy.proofs.Totals.{total-within}
-use Rattle.study_model.specs.Model.{modelOf}
-use Rattle.study_model.proofs.Good.{sound-good}
+use Rattle.meaning.specs.Meaning.{Meaning, modelOf}
+use Rattle.meaning.proofs.Tables.{meant-good}
 use Rattle.evaluation.specs.Bounds.{lowerOf, upperOf, pathLowers, pathUppers, classLowers, classUppers}
 use Rattle.path_calls.specs.Bounds.{pairBreach, classesBounded, lowerOfClasses, upperOfClasses}
 use Rattle.loss_calls.specs.Bounds.{lossOf}
@@ -64,23 +64,23 @@ uppers-long m = length-map (pathsOf m) (pathBound up (probabilityTable m) (compo
 
 pub path-bounds-answered : PathBoundsAnswered
 unfolding pairBreach
-path-bounds-answered t lower upper n answer i h =
-    let done = finished (forPaths lower upper) t (n ∷ []) (ap countTold answer) in
-    let m = modelOf t in
+path-bounds-answered meaning t lower upper n answer i h =
+    let done = finished (forPaths meaning lower upper) t (n ∷ []) (ap countTold answer) in
+    let m = modelOf meaning t in
     let count : length (pathsOf m) ≡ n = cc in
     rw (
       filled-front _ (pathLowers m) lower (done .none) i (omega (arith, lowers-long m, count)),
       filled-front _ (pathUppers m) upper (done .none) i (omega (arith, uppers-long m, count)),
     )
-    (paths-within m (sound-good t (done .is-sound)) i (omega (arith, count)))
+    (paths-within m (meant-good meaning t (done .is-sound)) i (omega (arith, count)))
 
 -- the places of classes then hold the bounds of the model
-classes-left : (t : Study) (lower upper : List ℕ) → classesBounded t lower upper ≡ Done → (c : ℕ) → c < classPlaces
-    → SameAt c (lowerOfClasses t lower upper) (upperOfClasses t lower upper) (classLowers (modelOf t)) (classUppers (modelOf t))
+classes-left : (meaning : Meaning) (t : Study) (lower upper : List ℕ) → classesBounded meaning t lower upper ≡ Done → (c : ℕ) → c < classPlaces
+    → SameAt c (lowerOfClasses meaning t lower upper) (upperOfClasses meaning t lower upper) (classLowers (modelOf meaning t)) (classUppers (modelOf meaning t))
 unfolding pairBreach
-classes-left t lower upper answer c h =
-    let none = finished (forClasses lower upper) t [] (ap outcomeTold answer) .none in
-    let m = modelOf t in
+classes-left meaning t lower upper answer c h =
+    let none = finished (forClasses meaning lower upper) t [] (ap outcomeTold answer) .none in
+    let m = modelOf meaning t in
     record {
       lowers =
           filled-front _ (classLowers m) lower none c (omega (arith, length-tabulate (λ (c : ℕ). lowerOf m (λ (class : ℕ). eqb class c)) classPlaces));
@@ -89,21 +89,21 @@ classes-left t lower upper answer c h =
     }
 
 pub class-bounds-answered : ClassBoundsAnswered
-class-bounds-answered t lower upper answer c h =
-    let done = finished (forClasses lower upper) t [] (ap outcomeTold answer) in
-    let left = classes-left t lower upper answer c h in
-    rw (left .lowers, left .uppers) (classes-within (modelOf t) (sound-good t (done .is-sound)) c h)
+class-bounds-answered meaning t lower upper answer c h =
+    let done = finished (forClasses meaning lower upper) t [] (ap outcomeTold answer) in
+    let left = classes-left meaning t lower upper answer c h in
+    rw (left .lowers, left .uppers) (classes-within (modelOf meaning t) (meant-good meaning t (done .is-sound)) c h)
 
 pub class-bounds-alike : ClassBoundsAlike
-class-bounds-alike t lower upper lower′ upper′ answer answer′ c h =
-    let left = classes-left t lower upper answer c h in
-    let left′ = classes-left t lower′ upper′ answer′ c h in
+class-bounds-alike meaning t lower upper lower′ upper′ answer answer′ c h =
+    let left = classes-left meaning t lower upper answer c h in
+    let left′ = classes-left meaning t lower′ upper′ answer′ c h in
     record { lowers = left .lowers ∙ sym (left′ .lowers); uppers = left .uppers ∙ sym (left′ .uppers) }
 
 pub load-bounds-answered : LoadBoundsAnswered
-load-bounds-answered t j pair answer =
-    let done = finished (forLoad j) t (pairValues pair) (ap boundsTold answer) in
-    let m = modelOf t in
+load-bounds-answered meaning t j pair answer =
+    let done = finished (forLoad meaning j) t (pairValues pair) (ap boundsTold answer) in
+    let m = modelOf meaning t in
     let lower : lossOf m j .lower ≡ pair .lower = cc in
     let upper : lossOf m j .upper ≡ pair .upper = cc in
-    rw (← lower, ← upper) (losses-within m (sound-good t (done .is-sound)) j)
+    rw (← lower, ← upper) (losses-within m (meant-good meaning t (done .is-sound)) j)

@@ -23,7 +23,7 @@ use Rattle.opening.specs.Opening.{count, componentAfter, componentRecord, recor
 use Rattle.entries.specs.Entries.{classBorne}
 use Rattle.model.specs.Model.{pathsOf, probabilityTable}
 use Rattle.probability.specs.Bounds.{total}
-use Rattle.study_model.specs.Model.{modelOf}
+use Rattle.meaning.specs.Meaning.{modelOf}
 use Rattle.evaluation.specs.Figures.{figuresBy}
 use Rattle.report_lines.specs.Paths.{markBytes, entryLine, pathLine, pathLines}
 use Rattle.report_lines.specs.Classes.{bearing, allBearing, classLine, classLines}

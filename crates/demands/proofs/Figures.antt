@@ -1,6 +1,6 @@
 -- The figures enclose the quotients of the published formulas. What carries it: the bounds of each load enclose its exact probability, and the
 -- figures do so for any bounds that do; a call answers figures only of a sound study, whose model is good, and only where there are customers.
-use mathlib.Core.Path.{_≡_, refl, sym, ap, subst, _∙_}
+use mathlib.Core.Path.{_≡_, refl, ap, subst}
 use native.Mathlib.Nat.{one-le-pow}
 use native.Mathlib.Omega.{arith}
 use lib.ListN.{length}
@@ -14,13 +14,13 @@ use Rattle.indices.specs.Figures.{customersLost, lossSum}
 use Rattle.indices.specs.Parts.{short}
 use Rattle.indices.proofs.Enclosed.{saifi-encloses, saidi-encloses, caidi-encloses, maifi-encloses}
 use Rattle.indices.proofs.Parted.{sums-parted}
-use Rattle.rules.proofs.Kept.{list-last}
+use Rattle.rules.proofs.Kept.{both-kept}
 use Rattle.rules.proofs.Rows.{customers-kept}
 use Rattle.answers.specs.Told.{figureValues, figuresTold}
 use Rattle.answers.specs.declared.figures.FiguresAnswer.the-variants.{Figures as Given, Refused}
 use Rattle.answers.proofs.Answered.{answered-done}
-use Rattle.study_model.specs.Model.{modelOf}
-use Rattle.study_model.proofs.Good.{sound-good}
+use Rattle.meaning.specs.Meaning.{meaningFault, modelOf}
+use Rattle.meaning.proofs.Tables.{meant-good}
 use Rattle.evaluation.specs.Bounds.{loadLowers, loadUppers}
 use Rattle.evaluation.specs.Figures.{modelFigures}
 use Rattle.evaluation.proofs.LossOrder.{lower-at, upper-at}
@@ -56,11 +56,11 @@ unfolding lossSum
 losses-parted p loads = sums-parted (customersLost p) loads
 
 pub figures-answered : FiguresAnswered
-unfolding figuresGiven figuresFault
-figures-answered t figures answer =
-    let done = finished forFigures t (figureValues figures) (ap figuresTold answer) in
-    let m = modelOf t in
-    let given = answered-done Refused (figuresFault t) (Given (modelFigures m)) (done .none) in
+unfolding figuresGiven figuresFault modelOf
+figures-answered meaning t figures answer =
+    let done = finished (forFigures meaning) t (figureValues figures) (ap figuresTold answer) in
+    let m = modelOf meaning t in
+    let given = answered-done Refused (figuresFault meaning t) (Given (modelFigures m)) (done .none) in
     let same : modelFigures m ≡ figures = cc in
-    let customers = customers-kept (customersOf t) (sym (list-last _) ∙ done .none-behind) in
-    subst (FiguresEnclose m) same (model-figures-enclose m (sound-good t (done .is-sound)) customers)
+    let customers = customers-kept (customersOf t) (both-kept (meaningFault meaning t) _ (done .none-behind) .right) in
+    subst (FiguresEnclose m) same (model-figures-enclose m (meant-good meaning t (done .is-sound)) customers)

@@ -26,11 +26,11 @@ pub headed : (c : Call) (t : Study) → callBreaches c t ≡ unsoundFault (sound
 headed (anEdit (probabilities i p1 p2 p3)) t = refl
 headed (anEdit (customers j n)) t = refl
 headed (anEdit (minutes j n)) t = refl
-headed (listPaths buffer) t = refl
-headed (pathBounds lower upper) t = refl
-headed (classBounds lower upper) t = refl
-headed (loadBounds j) t = refl
-headed figures t = refl
+headed (listPaths m buffer) t = refl
+headed (pathBounds m lower upper) t = refl
+headed (classBounds m lower upper) t = refl
+headed (loadBounds m j) t = refl
+headed (figures m) t = refl
 headed (writeStudy buffer) t = refl
 
 pub record Finished (c : Call) (t : Study) (values : List ℕ) : Type 0 where

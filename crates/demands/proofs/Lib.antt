@@ -1,11 +1,14 @@
 pub mod Bounds
 pub mod CaseA
 pub mod Checked
+pub mod DrawnExamples
+pub mod DrawnTrees
 pub mod EditFinish
 pub mod EditTable
 pub mod Edited
 pub mod Figures
 pub mod Finished
+pub mod Given
 pub mod ListsEqual
 pub mod Lost
 pub mod OneOf

@@ -5,7 +5,7 @@ use mathlib.Core.Path.{_≡_, refl, sym, ap, _∙_}
 use mathlib.Core.List.{List, [], _∷_, _++_}
 use native.Mathlib.Nat.{zero-mul}
 use native.Mathlib.Omega.{arith}
-use lib.ListN.{length, take}
+use lib.ListN.{length, getD, take}
 use lib.Seq.{take-add}
 use Rattle.lists.specs.Bits.{bit}
 use Rattle.lists.specs.Rows.{put, joined}
@@ -14,7 +14,7 @@ use Rattle.lists.proofs.Elements.{Every}
 use Rattle.lists.proofs.Joined.{joined-last, joined-tells}
 use Rattle.lists.proofs.Puts.{put-size}
 use Rattle.rules.specs.Table.{roomFault}
-use Rattle.rules.proofs.Kept.{list-last}
+use Rattle.rules.proofs.Kept.{both-kept}
 use Rattle.rules.proofs.Rows.{room-kept}
 use Rattle.study.specs.declared.Study.{Study}
 use Rattle.answers.specs.Told.{listingTold}
@@ -26,11 +26,13 @@ use Rattle.model.specs.Held.{Listed as Holds}
 use Rattle.model.specs.Model.{Model, components, pathsOf}
 use Rattle.model.proofs.Listing.{entries-wide, list-need, paths-few}
 use Rattle.model.proofs.Paths.{paths-same-iff}
-use Rattle.study_model.specs.Model.{modelOf}
-use Rattle.study_model.proofs.Good.{sound-good}
+use Rattle.drawn_tree.specs.Leaves.{asking}
+use Rattle.drawn_tree.proofs.Leaves.{asking-reaches}
+use Rattle.meaning.specs.Meaning.{Meaning, byTree, meaningFault, modelOf}
+use Rattle.meaning.proofs.Tables.{meant-good}
 use Rattle.path_calls.specs.Listing.{pathList, listFault, bufferListed}
 use Rattle.demands.specs.Calls.{listPaths}
-use Rattle.demands.specs.Demand3.{LoseAlike, ListsEqual, ModelListsEqualIff, ListsEqualIff}
+use Rattle.demands.specs.Demand3.{LoseAlike, ListsEqual, ModelListsEqualIff, ListsEqualIff, Redrawn}
 use Rattle.demands.specs.Listed.{ListedBy}
 use Rattle.demands.proofs.Finished.{finished}
 
@@ -105,17 +107,37 @@ put-holds m good {p} d list number room e =
       entries = rw (e, number) (entries-put (components m) (pathsOf m) d (entries-wide m good));
     }
 
--- a call that was not refused leaves the list of its study's model in the buffer
-pub call-holds : (t : Study) (d : List ℕ) (p : ℕ) → ListedBy t d p → Holds (modelOf t) p (bufferListed t d)
+-- a call that was not refused leaves the list of its model in the buffer
+pub call-holds : (m : Meaning) (t : Study) (d : List ℕ) (p : ℕ) → ListedBy m t d p → Holds (modelOf m t) p (bufferListed m t d)
 unfolding bufferListed listFault
-call-holds t d p answer =
-    let done = finished (listPaths d) t (p ∷ []) (ap listingTold answer) in
-    let count : length (pathList t) ≡ p = cc in
-    let need = length (joined (pathList t)) in
-    put-holds (modelOf t) (sound-good t (done .is-sound)) d (bufferListed t d) (sym count)
-    (room-kept need (length d) (sym (list-last (roomFault need (length d))) ∙ done .none-behind)) (filled-done _ (joined (pathList t)) d (done .none))
+call-holds m t d p answer =
+    let done = finished (listPaths m d) t (p ∷ []) (ap listingTold answer) in
+    let count : length (pathList m t) ≡ p = cc in
+    let need = length (joined (pathList m t)) in
+    put-holds (modelOf m t) (meant-good m t (done .is-sound)) d (bufferListed m t d) (sym count)
+    (room-kept need (length d) (both-kept (meaningFault m t) (roomFault need (length d)) (done .none-behind) .right))
+    (filled-done _ (joined (pathList m t)) d (done .none))
 
 pub lists-equal-iff : ListsEqualIff
 unfolding modelOf
-lists-equal-iff t u p q d e first second counts =
-    model-lists-equal-iff (modelOf t) (modelOf u) p q _ _ counts (call-holds t d p first) (call-holds u e q second)
+lists-equal-iff m n t u p q d e first second counts =
+    model-lists-equal-iff (modelOf m t) (modelOf n u) p q _ _ counts (call-holds m t d p first) (call-holds n u e q second)
+
+-- ---- trees that are drawn anew
+
+pub redrawn : Redrawn
+unfolding modelOf
+redrawn =
+    record {
+      same-list =
+          λ t tree other p q d e first second alike.
+          lists-equal-iff (byTree tree) (byTree other) t t p q d e first second refl .same-lists
+          (λ x joint j. ap (λ (class : ℕ). bit class j) (alike x joint));
+      changed-places =
+          λ counts i k hi hk below x joint.
+          asking-reaches counts i (λ (s : ℕ). asking counts k (below s)) x joint hi
+          ∙ asking-reaches counts k (below (getD x i 0)) x joint hk
+          ∙ sym
+          (asking-reaches counts k (λ (r : ℕ). asking counts i (λ (s : ℕ). below s r)) x joint hk
+          ∙ asking-reaches counts i (λ (s : ℕ). below s (getD x k 0)) x joint hi);
+    }

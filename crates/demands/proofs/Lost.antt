@@ -1,9 +1,9 @@
--- A load is lost in a joint state just when its fault tree says so. What carries it: the truth of a gate is set once, from those of lower
+-- A load is lost in a joint state just when its fault tree, or the leaf of a drawn tree, says so. What carries it: the truth of a gate is set once, from those of lower
 -- gates, which stay as they are; bit j of a class is the truth that was set there; and on a list a joint state fits the one path that bears its class.
 use Prim.Native.Nat.{ℕ, zero, suc, _+_, _<_, _≤_}
 use mathlib.Core.Path.{_≡_, refl, sym, ap, subst, _∙_}
 use mathlib.Core.Bool.{Bool, true, false, false≢true}
-use mathlib.Core.List.{List, []}
+use mathlib.Core.List.{List, [], _∷_}
 use mathlib.Core.Logic.{⊎-elim}
 use native.Mathlib.Nat.{eq-or-lt-of-le, le-of-suc-le-suc}
 use native.Mathlib.Omega.{arith}
@@ -26,9 +26,17 @@ use Rattle.paths.specs.Words.{fits}
 use Rattle.fault_tree.specs.Truth.{trueTests, trueGates, gateTrue, withTruth, gateTruths}
 use Rattle.fault_tree.proofs.GateTruths.{truths-long}
 use Rattle.fault_tree.specs.Classes.{lost, classBy, classOf}
+use Rattle.rules.proofs.Kept.{list-kept}
+use Rattle.answers.specs.Told.{listingTold}
+use Rattle.joint_states.specs.JointStates.{JointState}
+use Rattle.drawn_tree.proofs.Judged.{no-load-beyond}
+use Rattle.drawn_tree.proofs.Leaves.{one-leaf-each}
+use Rattle.meaning.specs.Meaning.{Meaning, byGates, byTree, meaningFault, classMeant, modelOf}
 use Rattle.path_calls.specs.Listing.{bufferListed}
-use Rattle.demands.specs.Demand2.{isTrue, GatesAgree, LossGateTrue, TellsLosses, LostIff, ListedLosses}
+use Rattle.demands.specs.Calls.{listPaths}
+use Rattle.demands.specs.Demand2.{isTrue, GatesAgree, LossGateTrue, LostIff, Tells, DrawnLostIff, ListedLosses}
 use Rattle.demands.specs.Listed.{pathsIn}
+use Rattle.demands.proofs.Finished.{finished}
 use Rattle.demands.proofs.Paths.{one-path}
 use Rattle.lists.proofs.Those.{only-one}
 
@@ -105,11 +113,27 @@ lost-iff t x =
       lacks = λ j h. no-class-bit t x j h;
     }
 
+-- ---- the leaf of a drawn tree
+
+pub drawn-lost-iff : DrawnLostIff
+unfolding modelOf
+drawn-lost-iff t tree x kept joint =
+    let one = one-leaf-each (stateCounts t) (t .loads) tree x kept joint in
+    record { reaches = one .reaches; only = one .only; lacks = λ j h. no-load-beyond (stateCounts t) (t .loads) tree x j h }
+
 -- ---- the classes on a list
 
+-- the class of a joint state tells what it loses, under a meaning that is not refused
+class-tells : (m : Meaning) (t : Study) (x : List ℕ) → meaningFault m t ≡ 0 → JointState (stateCounts t) x → Tells m t x (classMeant m t x)
+unfolding modelOf
+class-tells byGates t x kept joint = lost-iff t x
+class-tells (byTree tree) t x kept joint = drawn-lost-iff t tree x kept joint
+
 pub listed-losses : ListedLosses
-listed-losses t d p answer i h x j fits-path =
-    let one = one-path t d p answer x j in
-    let inside : i < length (pathsIn t d p) = omega (arith, entries-long (length (stateCounts t)) p (bufferListed t d)) in
-    let is = only-one (fits x) [] (pathsIn t d p) (one .path) (one .only) i inside fits-path in
-    subst (TellsLosses t x) (sym (ap (classBorne (length (stateCounts t))) is ∙ one .bears)) (lost-iff t x)
+listed-losses m t d p answer i h x j fits-path =
+    let done = finished (listPaths m d) t (p ∷ []) (ap listingTold answer) in
+    let kept = list-kept (meaningFault m t) _ (done .none-behind) .left in
+    let one = one-path m t d p answer x j in
+    let inside : i < length (pathsIn m t d p) = omega (arith, entries-long (length (stateCounts t)) p (bufferListed m t d)) in
+    let is = only-one (fits x) [] (pathsIn m t d p) (one .path) (one .only) i inside fits-path in
+    subst (Tells m t x) (sym (ap (classBorne (length (stateCounts t))) is ∙ one .bears)) (class-tells m t x kept j)

@@ -2,7 +2,7 @@
 use Prim.Native.Nat.{ℕ}
 use mathlib.Core.Path.{_≡_, refl}
 use mathlib.Core.Bool.{Bool, true, false, _||_, cond}
-use mathlib.Core.List.{List, [], _∷_}
+use mathlib.Core.List.{List, [], _∷_, _++_}
 use mathlib.Core.Logic.{inl, inr}
 use lib.Dec.{eqb}
 use borrow.Author.Tests.{eq-eqb}
@@ -54,3 +54,20 @@ one-among (k ∷ ks) n (inr there) = rw (one-among ks n there) (or-true (eqb n k
     or-true : (b : Bool) → (b || true) ≡ true
     or-true true = refl
     or-true false = refl
+
+-- one of the numbers of a part is one of all
+pub one-left : (front behind : List ℕ) (n : ℕ) → OneOf front n → OneOf (front ++ behind) n
+one-left (k ∷ ks) behind n (inl here) = inl here
+one-left (k ∷ ks) behind n (inr there) = inr (one-left ks behind n there)
+
+pub one-right : (front behind : List ℕ) (n : ℕ) → OneOf behind n → OneOf (front ++ behind) n
+one-right [] behind n here = here
+one-right (k ∷ ks) behind n here = inr (one-right ks behind n here)
+
+pub more-left : (front behind : List ℕ) (n : ℕ) → NoneOr front n → NoneOr (front ++ behind) n
+more-left front behind n (inl none) = inl none
+more-left front behind n (inr here) = inr (one-left front behind n here)
+
+pub more-before : (k : ℕ) (numbers : List ℕ) (n : ℕ) → NoneOr numbers n → NoneOr (k ∷ numbers) n
+more-before k numbers n (inl none) = inl none
+more-before k numbers n (inr here) = inr (inr here)

@@ -53,20 +53,20 @@ call-refuses : (c : Call) (t : Study) → Refuses (callTold c t) (callBreaches c
 unfolding listFault pathsListed bufferListed pairBreach pathsBounded classesBounded lossFault loadBounded figuresFault figuresGiven
     writeFault studyWritten bufferWritten
 call-refuses (anEdit e) t = refuses _ _ [] (edit-tells e t) tt
-call-refuses (listPaths buffer) t = refuses _ _ _ (answered-tells NotListed _ _ listingTold _ (λ n. refl) refl) (refl, tt)
-call-refuses (pathBounds lower upper) t = refuses _ _ _ (answered-tells NoCount _ _ countTold _ (λ n. refl) refl) (refl, (refl, tt))
-call-refuses (classBounds lower upper) t = refuses _ _ _ (answered-tells Refused _ _ outcomeTold _ (λ n. refl) refl) (refl, (refl, tt))
-call-refuses (loadBounds j) t = refuses _ _ [] (answered-tells NoBounds _ _ boundsTold _ (λ n. refl) refl) tt
-call-refuses figures t = refuses _ _ [] (answered-tells NoFigures _ _ figuresTold _ (λ n. refl) refl) tt
+call-refuses (listPaths m buffer) t = refuses _ _ _ (answered-tells NotListed _ _ listingTold _ (λ n. refl) refl) (refl, tt)
+call-refuses (pathBounds m lower upper) t = refuses _ _ _ (answered-tells NoCount _ _ countTold _ (λ n. refl) refl) (refl, (refl, tt))
+call-refuses (classBounds m lower upper) t = refuses _ _ _ (answered-tells Refused _ _ outcomeTold _ (λ n. refl) refl) (refl, (refl, tt))
+call-refuses (loadBounds m j) t = refuses _ _ [] (answered-tells NoBounds _ _ boundsTold _ (λ n. refl) refl) tt
+call-refuses (figures m) t = refuses _ _ [] (answered-tells NoFigures _ _ figuresTold _ (λ n. refl) refl) tt
 call-refuses (writeStudy buffer) t = refuses _ _ _ (answered-tells NoCount _ _ countTold _ (λ n. refl) refl) (refl, tt)
 
 study-kept : (c : Call) (t : Study) (n : ℕ) → callTold c t ≡ refusal n → studyAfter c t ≡ t
 study-kept (anEdit e) t n refused = edit-kept e t (some-breach _ [] n (edit-tells e t) refused)
-study-kept (listPaths buffer) t n refused = refl
-study-kept (pathBounds lower upper) t n refused = refl
-study-kept (classBounds lower upper) t n refused = refl
-study-kept (loadBounds j) t n refused = refl
-study-kept figures t n refused = refl
+study-kept (listPaths m buffer) t n refused = refl
+study-kept (pathBounds m lower upper) t n refused = refl
+study-kept (classBounds m lower upper) t n refused = refl
+study-kept (loadBounds m j) t n refused = refl
+study-kept (figures m) t n refused = refl
 study-kept (writeStudy buffer) t n refused = refl
 
 pub calls-refuse : CallsRefuse

@@ -17,7 +17,8 @@ use Rattle.opening.specs.Opening.{asGiven, opened}
 use Rattle.opening.proofs.Opened.Study.{opened-sound}
 use Rattle.fault_tree.specs.Truth.{gateTrue, withTruth, gateTruths}
 use Rattle.fault_tree.specs.Classes.{classBy, classOf}
-use Rattle.study_model.specs.Model.{stateProbabilities, modelOf}
+use Rattle.study_model.specs.Model.{stateProbabilities}
+use Rattle.meaning.specs.Meaning.{byGates, modelOf}
 use Rattle.demands.specs.Saving.{TruthsKept}
 use Rattle.demands.proofs.SameGates.{true-together}
 use Rattle.demands.proofs.Sorted.{opened-fits, given-fits, opened-same}
@@ -35,7 +36,7 @@ truths-same gates others x (suc n) together =
 
 -- the class goes by the truths, and so does the model
 model-same : (t u : Study) → t .components ≡ u .components → t .component ≡ u .component → t .loads ≡ u .loads → t .load ≡ u .load
-    → ((x : List ℕ) → gateTruths (t .gate) x (t .gates) ≡ gateTruths (u .gate) x (u .gates)) → modelOf t ≡ modelOf u
+    → ((x : List ℕ) → gateTruths (t .gate) x (t .gates) ≡ gateTruths (u .gate) x (u .gates)) → modelOf byGates t ≡ modelOf byGates u
 unfolding modelOf classOf
 model-same t u components component loads load truths =
     λ i.
@@ -60,7 +61,7 @@ module _ (bytes : List ℕ) (done : opened bytes .outcome ≡ Done) where
       (λ i used. gate-kept i (omega (arith, used, gates-most t (opened-sound bytes done))) x)
       ∙ ap (gateTruths (asGiven bytes .gate) x) (opened-same bytes done .gates)
 
-  model-kept : modelOf (opened bytes .study) ≡ modelOf (asGiven bytes)
+  model-kept : modelOf byGates (opened bytes .study) ≡ modelOf byGates (asGiven bytes)
   model-kept =
       let same = opened-same bytes done in
       model-same (opened bytes .study) (asGiven bytes) (same .components) (same .component) (same .loads) (same .load) truths-kept

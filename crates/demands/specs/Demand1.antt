@@ -54,6 +54,15 @@ pub record LongestStudy : Type 0 where
 abbrev pub InputCut : Type 0
 InputCut = (bytes : List ℕ) → reportText (take (longestStudy + 1) bytes) ≡ reportText bytes
 
+-- ---- drawn trees
+
+-- A drawn tree is refused by the first breach met from the left, by the numbers 20 to 22 and by no other; one that is not refused has the bytes that were
+-- given, all of them.
+pub record DrawnReads : Type 0 where
+  pub first-breach : Rattle.drawn_tree.specs.Laws.DrawnReads
+  pub numbers : Rattle.drawn_tree.specs.Laws.DrawnRows
+  pub bytes : Rattle.drawn_tree.specs.Laws.ReadsBack
+
 -- ---- every call
 
 -- P holds of everything that was lent
@@ -101,7 +110,7 @@ abbrev pub OneOf : List ℕ → ℕ → Type 0
 OneOf [] n = ⊥
 OneOf (k ∷ ks) n = (n ≡ k) ⊎ OneOf ks n
 
--- A later call is refused by the numbers that document 01 lists for it, and by no other.
+-- A later call is refused by the numbers that documents 01 and 02 list for it, and by no other.
 abbrev pub NumbersListed : Type 0
 NumbersListed = (c : Call) (t : Study) (n : ℕ) → callTold c t ≡ refusal n → OneOf (16 ∷ numbersBehind c) n
 

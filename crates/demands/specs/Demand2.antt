@@ -1,5 +1,5 @@
--- Demand 2: a load is lost in a joint state just when its fault tree says so; the bounds enclose the exact probabilities, and the figures the
--- exact quotients. Of every good model, and so of every answer that is not a refusal.
+-- Demand 2: a load is lost in a joint state just when its fault tree, or the leaf of a drawn tree, says so; the bounds enclose the exact probabilities, and
+-- the figures the exact quotients. Of every good model, and so of every answer that is not a refusal, by gates or by a drawn tree.
 use Prim.Native.Nat.{ℕ, _+_, _<_, _≤_}
 use mathlib.Core.Path.{_≡_}
 use mathlib.Core.Bool.{Bool, true, false}
@@ -32,7 +32,9 @@ use Rattle.indices.specs.Parts.{short, sustained, every}
 use Rattle.soundness.specs.Sound.{Sound}
 use Rattle.fault_tree.specs.Truth.{gateTrue, gateTruths}
 use Rattle.fault_tree.specs.Classes.{classOf}
-use Rattle.study_model.specs.Model.{modelOf}
+use Rattle.drawn_tree.specs.Drawn.{drawnTree}
+use Rattle.drawn_tree.specs.Leaves.{Reaches}
+use Rattle.meaning.specs.Meaning.{Meaning, byGates, byTree, meaningFault, modelOf}
 use Rattle.evaluation.specs.Bounds.{pathLowers, pathUppers, classLowers, classUppers}
 use Rattle.evaluation.specs.Figures.{modelFigures}
 use Rattle.path_calls.specs.Bounds.{pathsBounded, lowerOfPaths, upperOfPaths, classesBounded, lowerOfClasses, upperOfClasses}
@@ -64,12 +66,30 @@ pub record TellsLosses (t : Study) (x : List ℕ) (class : ℕ) : Type 0 where
 abbrev pub LostIff : Type 0
 LostIff = (t : Study) (x : List ℕ) → TellsLosses t x (classOf t x)
 
+-- Under a drawn tree, a class tells what joint state x loses where x reaches one leaf and only one, which bears that class; bit j stands exactly when load
+-- j is lost, whatever the study's gates say, and the bit of a load that the study lacks is clear.
+pub record TellsLeaf (t : Study) (tree x : List ℕ) (class : ℕ) : Type 0 where
+  pub reaches : Reaches (drawnTree (stateCounts t) (t .loads) tree) x class
+  pub only : (other : ℕ) → Reaches (drawnTree (stateCounts t) (t .loads) tree) x other → other ≡ class
+  pub lacks : (j : ℕ) → t .loads ≤ j → bit class j ≡ false
+
+-- what a joint state loses is told by a class
+abbrev pub Tells : Meaning → Study → List ℕ → ℕ → Type 0
+Tells byGates t x class = TellsLosses t x class
+Tells (byTree tree) t x class = TellsLeaf t tree x class
+
+-- The class of every joint state does so, of a tree that is not refused.
+abbrev pub DrawnLostIff : Type 0
+DrawnLostIff =
+    (t : Study) (tree x : List ℕ) → meaningFault (byTree tree) t ≡ 0 → JointState (stateCounts t) x
+    → TellsLeaf t tree x (modelOf (byTree tree) t .class x)
+
 -- So does, on the list that a call answered, the class of a path, of every joint state that fits it.
 abbrev pub ListedLosses : Type 0
 ListedLosses =
-    (t : Study) (d : List ℕ) (p : ℕ) → ListedBy t d p
-    → (i : ℕ) → i < p → (x : List ℕ) → JointState (stateCounts t) x → fits x (pathIn t d p i) ≡ true
-    → TellsLosses t x (classBorne (length (stateCounts t)) (pathIn t d p i))
+    (m : Meaning) (t : Study) (d : List ℕ) (p : ℕ) → ListedBy m t d p
+    → (i : ℕ) → i < p → (x : List ℕ) → JointState (stateCounts t) x → fits x (pathIn m t d p i) ≡ true
+    → Tells m t x (classBorne (length (stateCounts t)) (pathIn m t d p i))
 
 -- ---- bounds
 
@@ -130,14 +150,14 @@ ModelFiguresEnclose = (m : Model) → Good m → 0 < customersSum (m .loads) →
 -- The call for path bounds answers n: the two places written for each of the n paths are its bounds.
 abbrev pub PathBoundsAnswered : Type 0
 PathBoundsAnswered =
-    (t : Study) (lower upper : List ℕ) (n : ℕ) → pathsBounded t lower upper ≡ Count n
-    → (i : ℕ) → i < n → PathWithin (modelOf t) i (getD (lowerOfPaths t lower upper) i 0) (getD (upperOfPaths t lower upper) i 0)
+    (m : Meaning) (t : Study) (lower upper : List ℕ) (n : ℕ) → pathsBounded m t lower upper ≡ Count n
+    → (i : ℕ) → i < n → PathWithin (modelOf m t) i (getD (lowerOfPaths m t lower upper) i 0) (getD (upperOfPaths m t lower upper) i 0)
 
 -- The call for class bounds answers that it is done: the two places of each class are its bounds.
 abbrev pub ClassBoundsAnswered : Type 0
 ClassBoundsAnswered =
-    (t : Study) (lower upper : List ℕ) → classesBounded t lower upper ≡ Done
-    → (c : ℕ) → c < classPlaces → ClassWithin (modelOf t) c (getD (lowerOfClasses t lower upper) c 0) (getD (upperOfClasses t lower upper) c 0)
+    (m : Meaning) (t : Study) (lower upper : List ℕ) → classesBounded m t lower upper ≡ Done
+    → (c : ℕ) → c < classPlaces → ClassWithin (modelOf m t) c (getD (lowerOfClasses m t lower upper) c 0) (getD (upperOfClasses m t lower upper) c 0)
 
 -- the same stands at place k of both slices of a pair
 pub record SameAt (k : ℕ) (lower upper lower′ upper′ : List ℕ) : Type 0 where
@@ -148,13 +168,15 @@ pub record SameAt (k : ℕ) (lower upper lower′ upper′ : List ℕ) : Type 0 
 -- say, end alike in the places of classes.
 abbrev pub ClassBoundsAlike : Type 0
 ClassBoundsAlike =
-    (t : Study) (lower upper lower′ upper′ : List ℕ) → classesBounded t lower upper ≡ Done → classesBounded t lower′ upper′ ≡ Done → (c : ℕ) → c < classPlaces
-    → SameAt c (lowerOfClasses t lower upper) (upperOfClasses t lower upper) (lowerOfClasses t lower′ upper′) (upperOfClasses t lower′ upper′)
+    (m : Meaning) (t : Study) (lower upper lower′ upper′ : List ℕ) → classesBounded m t lower upper ≡ Done
+    → classesBounded m t lower′ upper′ ≡ Done → (c : ℕ) → c < classPlaces
+    → SameAt c (lowerOfClasses m t lower upper) (upperOfClasses m t lower upper) (lowerOfClasses m t lower′ upper′) (upperOfClasses m t lower′ upper′)
 
 -- The call for a load answers a pair: these are the bounds for its loss.
 abbrev pub LoadBoundsAnswered : Type 0
-LoadBoundsAnswered = (t : Study) (j : ℕ) (pair : Enclosure) → loadBounded t j ≡ Bounds pair → LossWithin (modelOf t) j (pair .lower) (pair .upper)
+LoadBoundsAnswered =
+    (m : Meaning) (t : Study) (j : ℕ) (pair : Enclosure) → loadBounded m t j ≡ Bounds pair → LossWithin (modelOf m t) j (pair .lower) (pair .upper)
 
 -- The call for the figures answers them: all four enclose their quotients, CAIDI where it is stated.
 abbrev pub FiguresAnswered : Type 0
-FiguresAnswered = (t : Study) (figures : Figures) → figuresGiven t ≡ Given figures → FiguresEnclose (modelOf t) figures
+FiguresAnswered = (m : Meaning) (t : Study) (figures : Figures) → figuresGiven m t ≡ Given figures → FiguresEnclose (modelOf m t) figures

@@ -12,8 +12,10 @@ use Rattle.entries.specs.Entries.{entryBytes}
 use Rattle.paths.specs.Words.{OnePath, Ascending, BlankIff}
 use Rattle.model.specs.Held.{Listed as Holds}
 use Rattle.model.specs.Model.{Model, components}
-use Rattle.fault_tree.specs.Classes.{classOf}
-use Rattle.study_model.specs.Model.{modelOf}
+use Rattle.drawn_tree.specs.Drawn.{drawnTree}
+use Rattle.drawn_tree.specs.Leaves.{asking}
+use Rattle.drawn_tree.specs.Tree.{Tree, drawnClass}
+use Rattle.meaning.specs.Meaning.{Meaning, byTree, classMeant, modelOf}
 use Rattle.path_calls.specs.Listing.{bufferListed}
 use Rattle.demands.specs.Listed.{ListedBy, pathsIn, pathIn}
 
@@ -37,27 +39,42 @@ pub record EqualIffAlike (m n : Model) (p q : ℕ) (d e : List ℕ) : Type 0 whe
 abbrev pub ModelListsEqualIff : Type 0
 ModelListsEqualIff = (m n : Model) (p q : ℕ) (d e : List ℕ) → m .counts ≡ n .counts → Holds m p d → Holds n q e → EqualIffAlike m n p q d e
 
--- For any two studies whose components have the same state counts in the same order, whatever the lent buffers held, and calls that were not
--- refused: their lists are equal exactly when they lose the same loads in every joint state.
+-- For any two studies whose components have the same state counts in the same order, each by its gates or by a drawn tree, whatever the lent buffers held,
+-- and calls that were not refused: their lists are equal exactly when they lose the same loads in every joint state.
 abbrev pub ListsEqualIff : Type 0
 ListsEqualIff =
-    (t u : Study) (p q : ℕ) (d e : List ℕ) → ListedBy t d p → ListedBy u e q → stateCounts t ≡ stateCounts u
-    → EqualIffAlike (modelOf t) (modelOf u) p q (bufferListed t d) (bufferListed u e)
+    (m n : Meaning) (t u : Study) (p q : ℕ) (d e : List ℕ) → ListedBy m t d p → ListedBy n u e q → stateCounts t ≡ stateCounts u
+    → EqualIffAlike (modelOf m t) (modelOf n u) p q (bufferListed m t d) (bufferListed n u e)
+
+-- ---- trees that are drawn anew
+
+-- two trees reach the same class in every joint state
+abbrev pub ReachAlike : List ℕ → Tree → Tree → Type 0
+ReachAlike counts a b = (x : List ℕ) → JointState counts x → drawnClass a x ≡ drawnClass b x
+
+pub record Redrawn : Type 0 where
+  -- A tree that reaches the same classes has the same list, in whatever order it asks the components.
+  pub same-list : (t : Study) (tree other : List ℕ) (p q : ℕ) (d e : List ℕ) → ListedBy (byTree tree) t d p → ListedBy (byTree other) t e q
+      → ReachAlike (stateCounts t) (drawnTree (stateCounts t) (t .loads) tree) (drawnTree (stateCounts t) (t .loads) other)
+      → ListsEqual (length (stateCounts t)) p q (bufferListed (byTree tree) t d) (bufferListed (byTree other) t e)
+  -- So it is where two components that are asked one below the other change places.
+  pub changed-places : (counts : List ℕ) (i k : ℕ) → i < length counts → k < length counts → (below : ℕ → ℕ → Tree)
+      → ReachAlike counts (asking counts i (λ (s : ℕ). asking counts k (below s))) (asking counts k (λ (r : ℕ). asking counts i (λ (s : ℕ). below s r)))
 
 -- ---- each list that was answered
 
 -- Every joint state fits one path and only one, and that path bears the joint state's class.
 abbrev pub OnePathEach : Type 0
 OnePathEach =
-    (t : Study) (d : List ℕ) (p : ℕ) → ListedBy t d p
-    → (x : List ℕ) → JointState (stateCounts t) x → OnePath (length (stateCounts t)) (classOf t x) x (pathsIn t d p)
+    (m : Meaning) (t : Study) (d : List ℕ) (p : ℕ) → ListedBy m t d p
+    → (x : List ℕ) → JointState (stateCounts t) x → OnePath (length (stateCounts t)) (classMeant m t x) x (pathsIn m t d p)
 
 -- Paths ascend by state.
 abbrev pub PathsAscend : Type 0
-PathsAscend = (t : Study) (d : List ℕ) (p : ℕ) → ListedBy t d p → Ascending (length (stateCounts t)) (pathsIn t d p)
+PathsAscend = (m : Meaning) (t : Study) (d : List ℕ) (p : ℕ) → ListedBy m t d p → Ascending (length (stateCounts t)) (pathsIn m t d p)
 
 -- A component is blank on a path exactly when, with the states settled before it, its own state changes no loss whatever the states of the others.
 abbrev pub BlankExactly : Type 0
 BlankExactly =
-    (t : Study) (d : List ℕ) (p : ℕ) → ListedBy t d p
-    → (i k : ℕ) → i < p → k < length (stateCounts t) → BlankIff (stateCounts t) (classOf t) k (pathIn t d p i)
+    (m : Meaning) (t : Study) (d : List ℕ) (p : ℕ) → ListedBy m t d p
+    → (i k : ℕ) → i < p → k < length (stateCounts t) → BlankIff (stateCounts t) (classMeant m t) k (pathIn m t d p i)

@@ -3,6 +3,7 @@ pub mod CaseA
 pub mod Demand1
 pub mod Demand2
 pub mod Demand3
+pub mod DrawnExamples
 pub mod Edits
 pub mod Listed
 pub mod Saving

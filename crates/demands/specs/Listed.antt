@@ -7,16 +7,17 @@ use Rattle.study.specs.declared.Study.{Study}
 use Rattle.study.specs.Joint.{stateCounts}
 use Rattle.answers.specs.declared.counts.Listing.the-variants.{Listed}
 use Rattle.entries.specs.Entries.{entriesOf}
+use Rattle.meaning.specs.Meaning.{Meaning}
 use Rattle.path_calls.specs.Listing.{pathsListed, bufferListed}
 
--- a call for the list of t with buffer d was not refused, and answered p paths
-abbrev pub ListedBy : Study → List ℕ → ℕ → Type 0
-ListedBy t d p = pathsListed t d ≡ Listed (record { paths = p })
+-- a call for the list of t under a meaning, with buffer d, was not refused, and answered p paths
+abbrev pub ListedBy : Meaning → Study → List ℕ → ℕ → Type 0
+ListedBy m t d p = pathsListed m t d ≡ Listed (record { paths = p })
 
 -- the paths that the buffer then holds: p entries at its front
-abbrev pub pathsIn : Study → List ℕ → ℕ → List (List ℕ)
-pathsIn t d p = entriesOf (length (stateCounts t)) p (bufferListed t d)
+abbrev pub pathsIn : Meaning → Study → List ℕ → ℕ → List (List ℕ)
+pathsIn m t d p = entriesOf (length (stateCounts t)) p (bufferListed m t d)
 
 -- path i of them
-abbrev pub pathIn : Study → List ℕ → ℕ → ℕ → List ℕ
-pathIn t d p i = getD (pathsIn t d p) i []
+abbrev pub pathIn : Meaning → Study → List ℕ → ℕ → ℕ → List ℕ
+pathIn m t d p i = getD (pathsIn m t d p) i []

@@ -17,7 +17,7 @@ use Rattle.soundness.specs.Sound.{ZeroBehind, Sound}
 use Rattle.opening.specs.Opening.{asGiven, opened}
 use Rattle.writing.specs.Saving.{studyWritten, bufferWritten}
 use Rattle.fault_tree.specs.Truth.{gateTrue, gateTruths}
-use Rattle.study_model.specs.Model.{modelOf}
+use Rattle.meaning.specs.Meaning.{byGates, modelOf}
 use Rattle.demands.specs.Edits.{Reached}
 
 -- ---- the round trip
@@ -98,7 +98,7 @@ pub record TruthKept (bytes : List ℕ) : Type 0 where
   pub gate : (i : ℕ) → i < mostGates → (x : List ℕ) (holds : ℕ → Bool)
       → gateTrue (gateAt (opened bytes .study) i) x holds ≡ gateTrue (gateAt (asGiven bytes) i) x holds
   pub truths : (x : List ℕ) → gateTruths (opened bytes .study .gate) x (opened bytes .study .gates) ≡ gateTruths (asGiven bytes .gate) x (asGiven bytes .gates)
-  pub model : modelOf (opened bytes .study) ≡ modelOf (asGiven bytes)
+  pub model : modelOf byGates (opened bytes .study) ≡ modelOf byGates (asGiven bytes)
 
 abbrev pub TruthsKept : Type 0
 TruthsKept = (bytes : List ℕ) → opened bytes .outcome ≡ Done → TruthKept bytes

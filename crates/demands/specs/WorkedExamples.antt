@@ -25,6 +25,7 @@ use Rattle.answers.specs.declared.outcome.Outcome.the-variants.{Done}
 use Rattle.answers.specs.declared.outcome.StudyAnswer.{StudyAnswer}
 use Rattle.entries.specs.Entries.{blankMark, classPlaces, entry}
 use Rattle.opening.specs.Opening.{opened, refusedOpening}
+use Rattle.meaning.specs.Meaning.{Meaning, byGates}
 use Rattle.path_calls.specs.Bounds.{pathsBounded, lowerOfPaths, upperOfPaths, classesBounded, lowerOfClasses, upperOfClasses}
 use Rattle.path_calls.specs.Listing.{pathsListed, bufferListed}
 use Rattle.loss_calls.specs.Bounds.{loadBounded}
@@ -90,7 +91,7 @@ abbrev between : ℕ → ℕ → Enclosure
 between lower upper = record { lower = lower; upper = upper }
 
 -- both the same
-abbrev at : ℕ → Enclosure
+abbrev pub at : ℕ → Enclosure
 at n = between n n
 
 -- what the paper gives of a study that opens: its paths, the bounds of each, the bounds of each class at its place and of each load, and the figures
@@ -119,11 +120,10 @@ lowers bounds = map (λ (b : Enclosure). b .lower) bounds
 abbrev uppers : List Enclosure → List ℕ
 uppers bounds = map (λ (b : Enclosure). b .upper) bounds
 
--- an example with the paths of its study, the bounds of paths, of classes from 0 on and of loads, and the figures; every other class has no path
-unfoldable pub listing : List ℕ → StudyAnswer → List (List ℕ) → List Enclosure → List Enclosure → List Enclosure → FiguresAnswer → Example
+-- the paths of a study, the bounds of paths, of classes from 0 on and of loads, and the figures; every other class has no path
+unfoldable pub resultsAre : List (List ℕ) → List Enclosure → List Enclosure → List Enclosure → FiguresAnswer → Results
 unfolding padded
-listing bytes opening paths bounds classes loads figures =
-    let results : Results =
+resultsAre paths bounds classes loads figures =
     record {
       paths = paths;
       lower = lowers bounds;
@@ -132,14 +132,19 @@ listing bytes opening paths bounds classes loads figures =
       classUpper = padded classPlaces 0 (uppers classes);
       loads = loads;
       figures = figures;
-    } in
-    record { bytes = bytes; opening = opening; results = some results }
+    }
+
+-- an example with the results of its study
+unfoldable pub listing : List ℕ → StudyAnswer → List (List ℕ) → List Enclosure → List Enclosure → List Enclosure → FiguresAnswer → Example
+unfolding resultsAre
+listing bytes opening paths bounds classes loads figures =
+    record { bytes = bytes; opening = opening; results = some (resultsAre paths bounds classes loads figures) }
 
 -- the figures, and their refusal where there are no customers
-abbrev figuresAre : Enclosure → Enclosure → Caidi → Enclosure → FiguresAnswer
+abbrev pub figuresAre : Enclosure → Enclosure → Caidi → Enclosure → FiguresAnswer
 figuresAre saifi saidi caidi maifi = Figures (record { saifi = saifi; saidi = saidi; caidi = caidi; maifi = maifi })
 
-abbrev noCustomers : FiguresAnswer
+abbrev pub noCustomers : FiguresAnswer
 noCustomers = Refused 19
 
 -- component 0 in state 1, by itself
@@ -150,6 +155,17 @@ failed0 = votes 1 (test 0 2 ∷ [])
 abbrev zeroListed : List (List ℕ)
 zeroListed = entry (0 ∷ []) 0 ∷ entry (1 ∷ []) 1 ∷ []
 
+-- the study of case A
+unfoldable pub caseAOpens : StudyAnswer
+unfolding votes opens
+caseAOpens =
+    opens (twoStates 100_000_000 ∷ twoStates 200_000_000 ∷ []) (votes 1 (test 0 2 ∷ test 1 2 ∷ []) ∷ []) (lostBy 0 100 60 ∷ [])
+
+-- a load without a loss gate, and a component that never fails
+unfoldable pub noLossGateOpens : StudyAnswer
+unfolding votes opens
+noLossGateOpens = opens (twoStates 0 ∷ []) (failed0 ∷ []) (lostBy never 0 0 ∷ [])
+
 abbrev pub examples : List Example
 examples =
     -- A: two components, lost when either fails
@@ -158,7 +174,7 @@ examples =
     ∷ 0x02 ∷ 0x00 ∷ 0xC2 ∷ 0xEB ∷ 0x0B
     ∷ 0x02 ∷ 2 ∷ 0 ∷ 2 ∷ 1 ∷ 2
     ∷ 0x07 ∷ 0 ∷ 0x64 ∷ 0 ∷ 0 ∷ 0 ∷ 0x3C ∷ 0 ∷ 0 ∷ 0 ∷ [])
-    (opens (twoStates 100_000_000 ∷ twoStates 200_000_000 ∷ []) (votes 1 (test 0 2 ∷ test 1 2 ∷ []) ∷ []) (lostBy 0 100 60 ∷ []))
+    caseAOpens
     (entry (0 ∷ 0 ∷ []) 0 ∷ entry (0 ∷ 1 ∷ []) 1 ∷ entry (1 ∷ blankMark ∷ []) 1 ∷ [])
     (at 720_000_000 ∷ at 180_000_000 ∷ at 100_000_000 ∷ [])
     (at 720_000_000 ∷ at 280_000_000 ∷ [])
@@ -178,7 +194,7 @@ examples =
     noCustomers
     -- C: a load without a gate
     ∷ listing (1 ∷ 1 ∷ 1 ∷ 0x00 ∷ 0x02 ∷ 1 ∷ 0 ∷ 2 ∷ 0x00 ∷ [])
-    (opens (twoStates 0 ∷ []) (failed0 ∷ []) (lostBy never 0 0 ∷ []))
+    noLossGateOpens
     (entry (blankMark ∷ []) 0 ∷ [])
     (at one ∷ [])
     (at one ∷ [])
@@ -255,9 +271,9 @@ examples =
 -- ---- the claim
 
 -- the call for the list, with any buffer that has the room, answers the number of these paths and writes them
-pub record ListIs (t : Study) (paths : List (List ℕ)) : Type 0 where
-  pub answer : (buffer : List ℕ) → length (joined paths) ≤ length buffer → pathsListed t buffer ≡ Listed (record { paths = length paths })
-  pub written : (buffer : List ℕ) → length (joined paths) ≤ length buffer → bufferListed t buffer ≡ put buffer 0 (joined paths)
+pub record ListIs (m : Meaning) (t : Study) (paths : List (List ℕ)) : Type 0 where
+  pub answer : (buffer : List ℕ) → length (joined paths) ≤ length buffer → pathsListed m t buffer ≡ Listed (record { paths = length paths })
+  pub written : (buffer : List ℕ) → length (joined paths) ≤ length buffer → bufferListed m t buffer ≡ put buffer 0 (joined paths)
 
 -- a call for bounds, with any two slices that have the room, answers so and writes these
 pub record PairIs {A : Type 0} (answers : List ℕ → List ℕ → A) (left right : List ℕ → List ℕ → List ℕ) (answer : A) (need : ℕ) (lows highs : List ℕ)
@@ -266,18 +282,18 @@ pub record PairIs {A : Type 0} (answers : List ℕ → List ℕ → A) (left rig
   pub lower-written : (lower upper : List ℕ) → need ≤ length lower → need ≤ length upper → left lower upper ≡ put lower 0 lows
   pub upper-written : (lower upper : List ℕ) → need ≤ length lower → need ≤ length upper → right lower upper ≡ put upper 0 highs
 
--- the calls on a study give the results
-pub record Gives (t : Study) (r : Results) : Type 0 where
-  pub list : ListIs t (r .paths)
-  pub paths : PairIs (pathsBounded t) (lowerOfPaths t) (upperOfPaths t) (Count (length (r .paths))) (length (r .paths)) (r .lower) (r .upper)
-  pub classes : PairIs (classesBounded t) (lowerOfClasses t) (upperOfClasses t) Done classPlaces (r .classLower) (r .classUpper)
-  pub loads : (j : ℕ) → j < t .loads → loadBounded t j ≡ Bounded (getD (r .loads) j (at 0))
+-- the calls on a study, by its gates or by a drawn tree, give the results
+pub record Gives (m : Meaning) (t : Study) (r : Results) : Type 0 where
+  pub list : ListIs m t (r .paths)
+  pub paths : PairIs (pathsBounded m t) (lowerOfPaths m t) (upperOfPaths m t) (Count (length (r .paths))) (length (r .paths)) (r .lower) (r .upper)
+  pub classes : PairIs (classesBounded m t) (lowerOfClasses m t) (upperOfClasses m t) Done classPlaces (r .classLower) (r .classUpper)
+  pub loads : (j : ℕ) → j < t .loads → loadBounded m t j ≡ Bounded (getD (r .loads) j (at 0))
   pub each-load : length (r .loads) ≡ t .loads
-  pub figures : figuresGiven t ≡ r .figures
+  pub figures : figuresGiven m t ≡ r .figures
 
 abbrev pub ResultsHold : Study → Option Results → Type 0
 ResultsHold t none = Unit {0}
-ResultsHold t (some r) = Gives t r
+ResultsHold t (some r) = Gives byGates t r
 
 -- a row holds: opening its bytes answers so, and the calls on the study that was opened give its results
 pub record RowHolds (e : Example) : Type 0 where
