@@ -32,11 +32,18 @@
 //                                 behind them hold FILL, and how many do not
 //     y FIELD ITEM PLACE VALUE    alters a field of a copy as `a` does, and writes it out as `x` does into 64 bytes that hold 170
 //
+//     L SIZE FILL TREE            the same as `l`, by a drawn tree in place of the study's gates
+//     U FIELD ITEM PLACE VALUE TREE    the same as `u`
+//     B LOWER UPPER TREE          the same as `b`
+//     K LOWER UPPER TREE          the same as `k`
+//     V ITEM TREE                 the same as `v`
+//     I TREE                      the same as `i`
+//
 // Behind the refusal of `o`, `p`, `c`, `m` and `a` stands on the same line what the bounds of the classes of the study that the call returned leave in two
 // slices of 300 places that all hold 18,446,744,073,709,551,615: how many places then hold the same as those of slices that were cleared
 // before, and how many still hold that number.
 //
-// P1, P2, P3, N and VALUE have four bytes, lowest byte first, SIZE, LOWER and UPPER have two, and the others one. A byte that is missing counts as 0. Any
+// P1, P2, P3, N and VALUE have four bytes, lowest byte first, SIZE, LOWER and UPPER have two, a TREE all that are left, and the others one. A byte that is missing counts as 0. Any
 // other letter does nothing.
 use crate::filled::bound;
 use crate::filled::list;
@@ -115,20 +122,49 @@ fn edit_altered(bytes: &[u8], study: Study) {
     answered(planning::set_minutes(copy, 0, copy.load[0].minutes));
 }
 
+// The bytes behind the first n, which draw a tree; none where there are no more.
+fn behind(bytes: &[u8], n: usize) -> &[u8] {
+    if n < bytes.len() {
+        return &bytes[n..];
+    }
+    &bytes[..0]
+}
+
 // Lists the paths of the study into a buffer of the size that the command asks for.
-fn list_sized(bytes: &[u8], study: Study, sums: bool) {
+fn list_sized(drawn: bool, bytes: &[u8], study: Study, sums: bool) {
     list(
+        drawn,
         study,
+        behind(bytes, 3),
         number_at(bytes, 0) as usize % 65536,
         byte_at(bytes, 2),
         sums,
     );
 }
 
+// Lists the paths of a copy of the study with one field altered.
+fn list_altered(drawn: bool, bytes: &[u8], study: Study) {
+    list(
+        drawn,
+        altered_copy(bytes, study),
+        behind(bytes, 7),
+        64,
+        170,
+        false,
+    );
+}
+
 // Asks for bounds in slices of the sizes that the command asks for.
-fn bound_sized(bytes: &[u8], study: Study, classes: bool) {
+fn bound_sized(drawn: bool, bytes: &[u8], study: Study, classes: bool) {
     let sizes = number_at(bytes, 0) as usize;
-    bound(study, sizes % 65536, sizes / 65536, classes);
+    bound(
+        drawn,
+        study,
+        behind(bytes, 4),
+        sizes % 65536,
+        sizes / 65536,
+        classes,
+    );
 }
 
 // Asks for the word of a refusal in a buffer of the size that the command asks for.
@@ -149,22 +185,34 @@ fn write_sized(bytes: &[u8], study: Study) {
     );
 }
 
+// Obeys a command that draws a tree beside the current study.
+fn look_drawn(letter: u8, bytes: &[u8], study: Study) {
+    match letter {
+        b'L' => list_sized(true, bytes, study, false),
+        b'U' => list_altered(true, bytes, study),
+        b'B' | b'K' => bound_sized(true, bytes, study, letter == b'K'),
+        b'V' => bound_load(true, study, behind(bytes, 1), byte_at(bytes, 0) as usize),
+        b'I' => figures(true, study, bytes),
+        _ => {}
+    }
+}
+
 // Obeys a command that leaves the current study as it is.
 fn look(letter: u8, bytes: &[u8], study: Study) {
     match letter {
         b'f' => open_front_parts(bytes),
         b'a' => edit_altered(bytes, study),
         b's' => show(byte_at(bytes, 0), byte_at(bytes, 1) as usize, study),
-        b'l' | b't' => list_sized(bytes, study, letter == b't'),
-        b'u' => list(altered_copy(bytes, study), 64, 170, false),
-        b'b' | b'k' => bound_sized(bytes, study, letter == b'k'),
-        b'v' => bound_load(study, byte_at(bytes, 0) as usize),
-        b'i' => figures(study),
+        b'l' | b't' => list_sized(false, bytes, study, letter == b't'),
+        b'u' => list_altered(false, bytes, study),
+        b'b' | b'k' => bound_sized(false, bytes, study, letter == b'k'),
+        b'v' => bound_load(false, study, &[], byte_at(bytes, 0) as usize),
+        b'i' => figures(false, study, &[]),
         b'n' => numbers::number(planning::loads_lost(byte_at(bytes, 0)) as u64, true),
         b'w' => word_sized(bytes),
         b'x' => write_sized(bytes, study),
         b'y' => write(altered_copy(bytes, study), 64, 170),
-        _ => {}
+        _ => look_drawn(letter, bytes, study),
     }
 }
 

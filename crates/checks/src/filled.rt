@@ -47,9 +47,16 @@ fn classes_bounded(answer: Outcome) -> Filled {
     }
 }
 
-// Lists the paths.
-fn list_paths(study: Study, lent: &mut [u8]) -> Filled {
-    let answer = planning::list_paths(study, lent);
+// Lists the paths, by the study's gates or by a drawn tree.
+fn list_paths(drawn: bool, study: Study, tree: &[u8], lent: &mut [u8]) -> Listing {
+    if drawn {
+        return planning::drawn_list_paths(study, tree, lent);
+    }
+    planning::list_paths(study, lent)
+}
+
+// What a call for the list of paths answers.
+fn listed(answer: Listing) -> Filled {
     match answer {
         Listing::Listed(count) => Filled {
             refusal: 0,
@@ -62,19 +69,54 @@ fn list_paths(study: Study, lent: &mut [u8]) -> Filled {
     }
 }
 
-// Asks for the bounds of the paths, or of the classes.
-fn ask_bounds(study: Study, lower: &mut [u64], upper: &mut [u64], classes: bool) -> Filled {
-    if classes {
-        return classes_bounded(planning::class_bounds(study, lower, upper));
+// Asks for the bounds of the classes.
+fn bound_classes(
+    drawn: bool,
+    study: Study,
+    tree: &[u8],
+    lower: &mut [u64],
+    upper: &mut [u64],
+) -> Outcome {
+    if drawn {
+        return planning::drawn_class_bounds(study, tree, lower, upper);
     }
-    counted(planning::path_bounds(study, lower, upper))
+    planning::class_bounds(study, lower, upper)
+}
+
+// Asks for the bounds of the paths.
+fn bound_paths(
+    drawn: bool,
+    study: Study,
+    tree: &[u8],
+    lower: &mut [u64],
+    upper: &mut [u64],
+) -> CountAnswer {
+    if drawn {
+        return planning::drawn_path_bounds(study, tree, lower, upper);
+    }
+    planning::path_bounds(study, lower, upper)
+}
+
+// Asks for the bounds of the paths, or of the classes.
+fn ask_bounds(
+    drawn: bool,
+    study: Study,
+    tree: &[u8],
+    lower: &mut [u64],
+    upper: &mut [u64],
+    classes: bool,
+) -> Filled {
+    if classes {
+        return classes_bounded(bound_classes(drawn, study, tree, lower, upper));
+    }
+    counted(bound_paths(drawn, study, tree, lower, upper))
 }
 
 // Lists the paths of a study into a buffer whose bytes hold a value, and shows it all.
-fn list_into(study: Study, lent: &mut [u8], fill: u8, sums: bool)
+fn list_into(drawn: bool, study: Study, tree: &[u8], lent: &mut [u8], fill: u8, sums: bool)
     requires { ⌜ length (now lent) ≤ 53248 ⌝ }
 {
-    let filled = list_paths(study, lent);
+    let filled = listed(list_paths(drawn, study, tree, lent));
     show_listing(
         filled.refusal,
         filled.count,
@@ -85,30 +127,46 @@ fn list_into(study: Study, lent: &mut [u8], fill: u8, sums: bool)
     );
 }
 
-// Lists the paths of a study into so many bytes that hold a value, and shows it all.
-pub fn list(study: Study, size: usize, fill: u8, sums: bool) {
+// Lists the paths of a study, by its gates or by a drawn tree, into so many bytes that hold a value, and shows it all.
+pub fn list(drawn: bool, study: Study, tree: &[u8], size: usize, fill: u8, sums: bool) {
     let mut room = filled_list(fill);
     let end = front_size(&room, size);
-    list_into(study, &mut room[..end], fill, sums);
+    list_into(drawn, study, tree, &mut room[..end], fill, sums);
 }
 
 // Asks for bounds in two slices that no call has touched, and shows it all.
-fn bound_in(study: Study, lower: &mut [u64], upper: &mut [u64], classes: bool)
+fn bound_in(
+    drawn: bool,
+    study: Study,
+    tree: &[u8],
+    lower: &mut [u64],
+    upper: &mut [u64],
+    classes: bool,
+)
     requires { ⌜ length (now lower) ≤ 512 ⌝ }
     requires { ⌜ length (now upper) ≤ 512 ⌝ }
 {
-    let filled = ask_bounds(study, lower, upper, classes);
+    let filled = ask_bounds(drawn, study, tree, lower, upper, classes);
     show_filled(filled.refusal, filled.count, lower, upper, classes);
 }
 
 // Asks for the bounds of the paths, or of the classes, in slices of so many places, and shows it all.
-pub fn bound(study: Study, lower_count: usize, upper_count: usize, classes: bool) {
+pub fn bound(
+    drawn: bool,
+    study: Study,
+    tree: &[u8],
+    lower_count: usize,
+    upper_count: usize,
+    classes: bool,
+) {
     let mut lower = untouched_places();
     let mut upper = untouched_places();
     let lower_end = front_count(&lower, lower_count);
     let upper_end = front_count(&upper, upper_count);
     bound_in(
+        drawn,
         study,
+        tree,
         &mut lower[..lower_end],
         &mut upper[..upper_end],
         classes,

@@ -5,9 +5,17 @@ use planning::Caidi;
 use planning::FiguresAnswer;
 use study::Study;
 
+// Asks for the bounds of a load, by the study's gates or by a drawn tree.
+fn load_bounds(drawn: bool, study: Study, tree: &[u8], load: usize) -> BoundsAnswer {
+    if drawn {
+        return planning::drawn_load_bounds(study, tree, load);
+    }
+    planning::load_bounds(study, load)
+}
+
 // Shows a refusal, 0 for none, and the two bounds of a load on a line.
-pub fn bound_load(study: Study, load: usize) {
-    let answer = planning::load_bounds(study, load);
+pub fn bound_load(drawn: bool, study: Study, tree: &[u8], load: usize) {
+    let answer = load_bounds(drawn, study, tree, load);
     match answer {
         BoundsAnswer::Bounds(pair) => numbers::three(0, pair.lower, pair.upper),
         BoundsAnswer::Refused(number) => numbers::three(number as u64, 0, 0),
@@ -22,9 +30,17 @@ fn show_caidi(caidi: Caidi) {
     }
 }
 
+// Asks for the figures.
+fn figures_of(drawn: bool, study: Study, tree: &[u8]) -> FiguresAnswer {
+    if drawn {
+        return planning::drawn_figures(study, tree);
+    }
+    planning::figures(study)
+}
+
 // Shows the refusal, 0 for none, on a line; unless refused, the figures, a line each.
-pub fn figures(study: Study) {
-    let answer = planning::figures(study);
+pub fn figures(drawn: bool, study: Study, tree: &[u8]) {
+    let answer = figures_of(drawn, study, tree);
     match answer {
         FiguresAnswer::Figures(figures) => {
             let caidi = figures.caidi;
