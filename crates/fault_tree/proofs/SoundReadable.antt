@@ -13,20 +13,11 @@ use Rattle.study.specs.declared.Study.{Study}
 use Rattle.study.specs.Joint.{stateCounts}
 use Rattle.study.specs.Places.{gateAt}
 use Rattle.soundness.specs.Sound.{Sound}
-use Rattle.soundness.proofs.Ranges.{components-most, gates-most, counts-few, counts-long, count-least, count-most}
+use Rattle.soundness.proofs.Ranges.{components-most, gates-most, counts-long, counts-small, count-least}
 use Rattle.soundness.proofs.Ranges.{tests-most, gate-inputs-most, test-component, input-lower}
 use Rattle.fault_tree.specs.Readable.{GateReadable, allUp, TableBegins}
 
 module _ (t : Study) (counts : List ℕ) (s : Sound t) (same : counts ≡ stateCounts t) where
-  few : length counts ≤ t .components
-  few = rw same (counts-few t s)
-
-  pub counts-inside : length counts ≤ mostComponents
-  counts-inside = omega (arith, few, components-most t s)
-
-  pub counts-small : (k : ℕ) → k < length counts → getD counts k 0 ≤ mostStates
-  counts-small k h = rw same (count-most t s k (omega (arith, few)))
-
   -- gate i in joint state x, where the gates have these truths
   pub gate-readable : (x : List ℕ) (truths : List Bool) → JointState counts x → length truths ≡ mostGates → (i : ℕ) → i < t .gates
       → GateReadable (gateAt t i) x truths
@@ -36,7 +27,7 @@ module _ (t : Study) (counts : List ℕ) (s : Sound t) (same : counts ≡ stateC
             record {
               count = tests-most t s i h;
               component = λ k less. rw (j .long, same) (test-component t s i h k less);
-              state = λ k less. omega (arith, j .below k (omega (arith, j .long)), counts-small k (omega (arith, j .long)));
+              state = λ k less. omega (arith, j .below k (omega (arith, j .long)), counts-small t s counts same k (omega (arith, j .long)));
             };
         inputs =
             record {

@@ -2,6 +2,7 @@
 use Prim.Native.Nat.{ℕ, _+_, _<_, _≤_}
 use mathlib.Core.Path.{_≡_, refl, sym, subst, _∙_}
 use mathlib.Core.Bool.{Bool, true, false}
+use mathlib.Core.List.{List}
 use native.Mathlib.Nat.{min-le-left}
 use native.Mathlib.Omega.{arith}
 use lib.Dec.{ltb}
@@ -48,6 +49,17 @@ module _ (t : Study) (s : Sound t) where
 
   pub count-most : (k : ℕ) → k < t .components → getD (stateCounts t) k 0 ≤ mostStates
   count-most k h = rw (count-at k h) (states-kept (componentAt t k .states) (s .component k h .states) .most)
+
+  -- the same of state counts that the code holds
+  module _ (counts : List ℕ) (same : counts ≡ stateCounts t) where
+    few : length counts ≤ t .components
+    few = rw same counts-few
+
+    pub counts-inside : length counts ≤ mostComponents
+    counts-inside = omega (arith, few, components-most)
+
+    pub counts-small : (k : ℕ) → k < length counts → getD counts k 0 ≤ mostStates
+    counts-small k h = rw same (count-most k (omega (arith, few)))
 
   -- states 1 to 3 of every component place, in use or not, sum to one at most
   pub probabilities-sum : (i : ℕ) → i < mostComponents → componentAt t i .p1 + componentAt t i .p2 + componentAt t i .p3 ≤ one

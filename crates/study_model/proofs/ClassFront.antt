@@ -11,8 +11,7 @@ use Rattle.joint_states.proofs.Numbered.{with-number}
 use Rattle.study.specs.declared.Study.{Study}
 use Rattle.study.specs.Joint.{stateCounts}
 use Rattle.soundness.specs.Sound.{Sound}
-use Rattle.soundness.proofs.Ranges.{joint-most}
-use Rattle.fault_tree.proofs.SoundReadable.{counts-inside, counts-small}
+use Rattle.soundness.proofs.Ranges.{joint-most, counts-inside, counts-small}
 use Rattle.paths.specs.Blocks.{Listable}
 use Rattle.paths.specs.Paths.{paths}
 use Rattle.model.specs.Model.{components, classesOf, pathsOf, probabilityTable}
@@ -66,7 +65,7 @@ pub record Cut (t : Study) (table counts block : List ℕ) : Type 0 where
 pub cut-inside : {t : Study} (table counts : List ℕ) → Sound t → mostJointStates ≤ length table → counts ≡ stateCounts t
     → (length counts ≤ mostComponents) × (((k : ℕ) → k < length counts → getD counts k 0 ≤ mostStates) × (product counts ≤ length table))
 cut-inside {t} table counts sound room e =
-    (counts-inside t counts sound e, (counts-small t counts sound e, rw e (front-inside table sound room)))
+    (counts-inside t sound counts e, (counts-small t sound counts e, rw e (front-inside table sound room)))
 
 module _ {t : Study} {table counts block : List ℕ} (cut : Cut t table counts block) where
   cut-is : block ≡ classesOf (modelBy t table)

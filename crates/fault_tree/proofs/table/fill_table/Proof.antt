@@ -6,10 +6,10 @@ use native.Mathlib.Omega.{arith}
 use borrow.Author.Needs.{needs}
 use Rattle.lists.specs.Product.{product}
 use Rattle.rules.specs.Limits.{mostGates}
-use Rattle.soundness.proofs.Ranges.{loads-most, gates-most, joint-most}
+use Rattle.soundness.proofs.Ranges.{loads-most, gates-most, joint-most, counts-inside, counts-small}
 use Rattle.fault_tree.specs.Classes.{classOf}
 use Rattle.fault_tree.proofs.GateRows.{row-in}
-use Rattle.fault_tree.proofs.SoundReadable.{counts-inside, counts-small, gate-readable}
+use Rattle.fault_tree.proofs.SoundReadable.{gate-readable}
 use Rattle.fault_tree.proofs.Tables.{Tabled, tabled-start, tabled-more, tabled-inside, tabled-long, tabled-done}
 use Rattle.fault_tree.proofs.GateTruths.{Evaluated, evaluated-start, evaluated-more, evaluated-long, evaluated-done}
 use Rattle.fault_tree.proofs.table.fill_table.Statement.{statement}
@@ -60,7 +60,7 @@ put-rows-requires c κs = (gates-most _ (start (c .before .before) .pre .0 .soun
 joint-states-requires : tie.Need-joint-states-requires Inv-loop2 μ-loop2 Inv-loop μ-loop
 joint-states-requires c κs =
     let b = begun (c .before) .pre .0 in
-    (counts-inside _ _ (b .sound) (b .same), counts-small _ _ (b .sound) (b .same))
+    (counts-inside _ (b .sound) _ (b .same), counts-small _ (b .sound) _ (b .same))
 
 cast-joint : tie.Need-cast-joint Inv-loop2 μ-loop2 Inv-loop μ-loop
 cast-joint c =

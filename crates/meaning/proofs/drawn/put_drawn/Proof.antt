@@ -4,8 +4,7 @@ use mathlib.Core.Path.{sym, ap, _∙_}
 use mathlib.Core.List.{List}
 use denote.Ref.{now}
 use lib.Seq.{length-take-le}
-use Rattle.soundness.proofs.Ranges.{loads-most}
-use Rattle.fault_tree.proofs.SoundReadable.{counts-inside, counts-small}
+use Rattle.soundness.proofs.Ranges.{loads-most, counts-inside, counts-small}
 use Rattle.drawn_tree.specs.Drawn.{drawnFault}
 use Rattle.meaning.proofs.TreeFront.{Front, front-inside, front-block, front-few, front-put}
 use borrow.Author.Needs.{needs}
@@ -18,7 +17,7 @@ start c = c .before .before .before .before .before .before
 joint-states-requires : tie.Need-joint-states-requires
 joint-states-requires c κs =
     let sound = start c .pre .0 in
-    (counts-inside _ _ sound (c .counts-in-use .ensures), counts-small _ _ sound (c .counts-in-use .ensures))
+    (counts-inside _ sound _ (c .counts-in-use .ensures), counts-small _ sound _ (c .counts-in-use .ensures))
 
 -- the part of the table that is filled
 front : (c : tie.After-joint-states)
