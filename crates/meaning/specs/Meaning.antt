@@ -32,6 +32,6 @@ unfoldable pub modelOf : Meaning → Study → Model
 unfolding classOf drawnTree drawnClass
 modelOf m t = modelWith t (classMeant m t)
 
--- 16, then the meaning: what every call judges before the room that is lent
+-- 16, then the meaning: what the calls judge before they know of classes; the one for a load judges 17 between the two
 abbrev pub meantBreaches : Meaning → Study → List ℕ
 meantBreaches m t = unsoundFault (sound t) ∷ meaningFault m t ∷ []
