@@ -1,13 +1,14 @@
 -- What carries the filling of a branch, state by state of the first component: painting the parts that are left gives the whole branch filled.
-use Prim.Native.Nat.{ℕ, suc, _+_, _-_, _*_, _/_, _<_, _≤_}
-use mathlib.Core.Path.{_≡_, refl, sym, ap, _∙_}
-use mathlib.Core.Bool.{Bool, true, false, not, _&&_, _||_, true≢false, false≢true}
+use Prim.Native.Nat.{ℕ, zero, suc, _+_, _-_, _*_, _/_, _<_, _≤_}
+use mathlib.Core.Path.{_≡_, refl, sym, ap, subst, _∙_}
+use mathlib.Core.Bool.{Bool, true, false, _&&_, _||_}
 use mathlib.Core.List.{List, [], _∷_, _++_, map, append-assoc}
-use native.Mathlib.Nat.{zero-mul, sub-zero}
+use native.Mathlib.Nat.{zero-mul, zero-add, sub-zero, add-sub-cancel-left}
 use native.Mathlib.Omega.{arith}
 use lib.Dec.{eqb}
 use lib.ListN.{length, getD, take, drop, set, length-map, take-append-drop}
 use lib.Seq.{take-all, drop-drop}
+use borrow.Author.Tests.{eq-eqb, ne-eqb}
 use Rattle.lists.specs.Product.{product}
 use Rattle.lists.proofs.Lent.{lentBack, back-front, back-behind, back-long}
 use Rattle.joint_states.specs.JointStates.{divided, jointStates}
@@ -21,21 +22,10 @@ use Rattle.paths.proofs.Sizes.{part-size, part-inside, part-long}
 use Rattle.drawn_tree.specs.Filling.{painted, branchFilled}
 use Rattle.drawn_tree.proofs.Painted.{length-painted, painted-append, painted-map, painted-none}
 
--- ---- no component is left, or nothing is wanted
-
-pub filled-nowhere : (wanted : Bool) (counts marks : List ℕ) (class : ℕ) (block : List ℕ) → not wanted ≡ true
-    → block ≡ branchFilled wanted counts marks class block
-unfolding branchFilled
-filled-nowhere true counts marks class block e = absurd (false≢true e)
-filled-nowhere false counts marks class block e = sym (painted-none (λ x. false) (λ x. class) (jointStates counts) block (λ k h. refl))
-
-pub filled-wanted : (wanted : Bool) (counts marks : List ℕ) (class : ℕ) (block d : List ℕ) → not wanted ≡ false
-    → d ≡ branchFilled true counts marks class block → d ≡ branchFilled wanted counts marks class block
-filled-wanted true counts marks class block d e same = same
-filled-wanted false counts marks class block d e same = absurd (true≢false e)
+-- ---- no component is left
 
 pub filled-one : (counts marks : List ℕ) (class : ℕ) (block : List ℕ) → length counts ≡ 0 → length block ≡ 1
-    → set block 0 class ≡ branchFilled true counts marks class block
+    → set block 0 class ≡ branchFilled counts marks class block
 unfolding branchFilled painted fits jointStates
 filled-one [] marks class [] none one = absurd (omega arith)
 filled-one [] marks class (old ∷ block) none one = refl
@@ -48,10 +38,14 @@ module _ (class mark : ℕ) (later behind : List ℕ) where
   abbrev left : ℕ → ℕ → List ℕ → List ℕ
   left s n block = painted (λ x. fits x (mark ∷ behind)) (λ x. class) (divided (λ s. s) (λ s. jointStates later) s n) block
 
-  -- the part of state s is a block of its own, filled where the state suits the mark
+  -- a block of the later components, filled where a state suits the mark
+  abbrev own : Bool → List ℕ → List ℕ
+  own suits block = painted (λ x. suits && fits x behind) (λ x. class) (jointStates later) block
+
+  -- the part of state s is such a block
   left-next : (s n : ℕ) (first rest : List ℕ) → length first ≡ product later
-      → left s (suc n) (first ++ rest) ≡ branchFilled (eqb mark blankMark || eqb mark s) later behind class first ++ left (s + 1) n rest
-  unfolding divided branchFilled fits
+      → left s (suc n) (first ++ rest) ≡ own (eqb mark blankMark || eqb mark s) first ++ left (s + 1) n rest
+  unfolding divided fits
   left-next s n first rest long =
       let suited : List ℕ → Bool = λ x. fits x (mark ∷ behind) in
       let rows = jointStates later in
@@ -87,7 +81,7 @@ split (c ∷ cs) (m ∷ ms) block b few some =
 pub record Filled (counts marks : List ℕ) (class : ℕ) (block₀ : List ℕ) (states size mark : ℕ) (later behind : List ℕ) (s : ℕ) (block : List ℕ) : Type 0 where
   pub parts : Split counts marks block₀ states size mark later behind
   pub long : length block ≡ length block₀
-  pub same : take (s * size) block ++ left class mark later behind s (states - s) (drop (s * size) block) ≡ branchFilled true counts marks class block₀
+  pub same : take (s * size) block ++ left class mark later behind s (states - s) (drop (s * size) block) ≡ branchFilled counts marks class block₀
 
 module _ {counts marks : List ℕ} {class : ℕ} {block₀ : List ℕ} {states size mark : ℕ} {later behind : List ℕ} where
   pub filled-start : Split counts marks block₀ states size mark later behind
@@ -113,25 +107,23 @@ module _ {counts marks : List ℕ} {class : ℕ} {block₀ : List ℕ} {states s
     pub filled-part : s < states → Block later (part size s block)
     filled-part h = rw (f .parts .is-size) (part-block whole s h)
 
-    -- the part of state s is filled too
-    pub filled-more : (wanted : Bool) (p : List ℕ) → s < states → wanted ≡ (eqb mark blankMark || eqb mark s)
-        → p ≡ branchFilled wanted later behind class (part size s block)
+    -- the part of state s is filled too, where that state suits the mark
+    next : (suits : Bool) (p : List ℕ) → s < states → (eqb mark blankMark || eqb mark s) ≡ suits → p ≡ own class mark later behind suits (part size s block)
         → Filled counts marks class block₀ states size mark later behind (s + 1) (lentBack block p (s * size) size)
-    unfolding branchFilled
-    filled-more wanted p h suits wrote =
+    next suits p h e wrote =
         let n = states - (s + 1) in
         let at = s * size in
         let old = part size s block in
         let inside = filled-inside h in
         let old-long = part-long states size s block shared h in
-        let long : length p ≡ size = ap length wrote ∙ length-painted (λ x. wanted && fits x behind) (λ x. class) (jointStates later) old ∙ old-long in
+        let long : length p ≡ size = ap length wrote ∙ length-painted (λ x. suits && fits x behind) (λ x. class) (jointStates later) old ∙ old-long in
         let next : (s + 1) * size ≡ at + size = omega arith in
         let more : suc n ≡ states - s = omega arith in
         let behind-it = drop (at + size) block in
         let rest = left class mark later behind (s + 1) n behind-it in
         let parted : old ++ behind-it ≡ drop at block = ap (λ (l : List ℕ). old ++ l) (sym (drop-drop size at block)) ∙ take-append-drop size (drop at block) in
         let filled : p ++ rest ≡ left class mark later behind s (states - s) (drop at block) =
-        ap (λ (l : List ℕ). l ++ rest) (wrote ∙ ap (λ (b : Bool). branchFilled b later behind class old) suits)
+        ap (λ (l : List ℕ). l ++ rest) (wrote ∙ ap (λ (b : Bool). own class mark later behind b old) (sym e))
         ∙ sym (left-next class mark later behind s n old behind-it (old-long ∙ f .parts .is-size))
         ∙ ap (left class mark later behind s (suc n)) parted
         ∙ ap (λ (k : ℕ). left class mark later behind s k (drop at block)) more in
@@ -143,9 +135,46 @@ module _ {counts marks : List ℕ} {class : ℕ} {block₀ : List ℕ} {states s
               (append-assoc (take at block) p rest ∙ ap (λ (l : List ℕ). take at block ++ l) filled ∙ f .same);
         }
 
-    pub filled-done : states ≤ s → block ≡ branchFilled true counts marks class block₀
+    pub filled-more : {p : List ℕ} → s < states → (eqb mark blankMark || eqb mark s) ≡ true → p ≡ branchFilled later behind class (part size s block)
+        → Filled counts marks class block₀ states size mark later behind (s + 1) (lentBack block p (s * size) size)
+    unfolding branchFilled
+    filled-more {p = p} h suits wrote = next true p h suits wrote
+
+    -- a state that does not suit the mark is passed over
+    filled-passed : s < states → (eqb mark blankMark || eqb mark s) ≡ false → Filled counts marks class block₀ states size mark later behind (s + 1) block
+    filled-passed h other =
+        let at = s * size in
+        let old = part size s block in
+        let kept : lentBack block old at size ≡ block =
+        rw add-sub-cancel-left (ap (λ (l : List ℕ). take at block ++ l) (take-append-drop size (drop at block)) ∙ take-append-drop at block) in
+        let none = painted-none (λ x. false) (λ x. class) (jointStates later) old (λ k h. refl) in
+        subst (Filled counts marks class block₀ states size mark later behind (s + 1)) kept (next false old h other (sym none))
+
+    pub filled-done : states ≤ s → block ≡ branchFilled counts marks class block₀
     filled-done h =
         let none : states - s ≡ 0 = omega arith in
         sym (take-append-drop (s * size) block)
         ∙ ap (λ (l : List ℕ). take (s * size) block ++ l) (sym (left-none class mark later behind s (drop (s * size) block)))
         ∙ (rw none at (f .same))
+
+  -- ---- a mark that is settled: no state but its own suits it
+
+  module _ (settled : mark ≡ blankMark → ⊥) where
+    past : (n : ℕ) {s to : ℕ} {block : List ℕ} → Filled counts marks class block₀ states size mark later behind s block → s + n ≡ to → to ≤ states
+        → ((k : ℕ) → s ≤ k → k < to → mark ≡ k → ⊥) → Filled counts marks class block₀ states size mark later behind to block
+    past zero {block = block} f end inside others =
+        subst (λ (k : ℕ). Filled counts marks class block₀ states size mark later behind k block) (omega arith) f
+    past (suc n) {s = s} f end inside others =
+        let other = others s (omega arith) (omega arith) in
+        past n (filled-passed f (omega arith) (rw (ne-eqb mark blankMark settled, ne-eqb mark s other) refl)) (omega arith) inside
+        (λ k low high. others k (omega arith) high)
+
+    -- the states up to the mark are passed over
+    pub filled-below : {to : ℕ} → to ≤ mark → to ≤ states → Split counts marks block₀ states size mark later behind
+        → Filled counts marks class block₀ states size mark later behind to block₀
+    filled-below {to = to} h inside p = past to (filled-start p) (zero-add to) inside (λ k low high same. omega arith)
+
+    -- and those behind it
+    pub filled-behind : {block : List ℕ} → mark < states → Filled counts marks class block₀ states size mark later behind (mark + 1) block
+        → Filled counts marks class block₀ states size mark later behind states block
+    filled-behind h f = past (states - (mark + 1)) f (omega arith) (omega arith) (λ k low high same. omega arith)

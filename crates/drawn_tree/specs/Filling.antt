@@ -1,6 +1,6 @@
 -- What reading does to a class table while it goes: the class of each leaf stands at every joint state of its branch.
 use Prim.Native.Nat.{ℕ, zero, suc, _+_}
-use mathlib.Core.Bool.{Bool, true, cond, _&&_}
+use mathlib.Core.Bool.{Bool, cond}
 use mathlib.Core.List.{List, [], _∷_}
 use lib.Dec.{eqb}
 use lib.ListN.{length, getD, set}
@@ -19,10 +19,10 @@ painted keep f [] table = table
 painted keep f (x ∷ xs) [] = []
 painted keep f (x ∷ xs) (class ∷ table) = cond (keep x) (f x) class ∷ painted keep f xs table
 
--- a class at every joint state that fits the marks of a branch, as it would fit a path; where it is not wanted, at none
-unfoldable pub branchFilled : Bool → List ℕ → List ℕ → ℕ → List ℕ → List ℕ
+-- a class at every joint state that fits the marks of a branch, as it would fit a path
+unfoldable pub branchFilled : List ℕ → List ℕ → ℕ → List ℕ → List ℕ
 unfolding painted jointStates fits
-branchFilled wanted counts marks class table = painted (λ (x : List ℕ). wanted && fits x marks) (λ (x : List ℕ). class) (jointStates counts) table
+branchFilled counts marks class table = painted (λ (x : List ℕ). fits x marks) (λ (x : List ℕ). class) (jointStates counts) table
 
 -- how many components are not asked yet
 unfoldable pub unasked : List ℕ → ℕ
@@ -35,7 +35,7 @@ unfolding byteOr branchFilled refuse
 leafDrawn counts loads marks table = do
   class ← treeByte
   judge (leafFault loads class)
-  return (branchFilled true counts marks class table)
+  return (branchFilled counts marks class table)
 
 unfoldable pub nodeDrawn : List ℕ → List ℕ → ℕ → (ℕ → List ℕ → Reader (List ℕ)) → List ℕ → Reader (List ℕ)
 unfolding refuse

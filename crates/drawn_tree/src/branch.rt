@@ -3,32 +3,16 @@ use entries::BLANK;
 use entries::Class;
 ghost use Prim.Native.Nat.{_≤_};
 ghost use mathlib.Core.Path.{_≡_};
-ghost use mathlib.Core.Bool.{_||_};
-ghost use lib.Dec.{eqb};
 ghost use lib.ListN.{length};
-ghost use Rattle.entries.specs.Entries.{blankMark};
 ghost use Rattle.paths.specs.Blocks.{Block};
 ghost use Rattle.drawn_tree.specs.Filling.{branchFilled};
 
-// Whether a component's state is one of a branch that has this mark for it.
-fn suits(mark: u8, s: u8) -> bool
-    ensures { λ r. ⌜ r ≡ (eqb mark blankMark || eqb mark s) ⌝ }
-{
-    if mark == BLANK {
-        return true;
-    }
-    mark == s
-}
-
-// Writes a class at every joint state that fits the marks, in a block of the classes of these components; where it is not wanted, at none.
-pub fn fill_branch(wanted: bool, counts: &[u8], marks: &[u8], class: Class, block: &mut [Class])
+// Writes a class at every joint state that fits the marks, in a block of the classes of these components.
+pub fn fill_branch(counts: &[u8], marks: &[u8], class: Class, block: &mut [Class])
     requires { ⌜ Block (now counts) (now block) ⌝ }
     requires { ⌜ length (now counts) ≤ length (now marks) ⌝ }
-    ensures { λ r. ⌜ now (block .exit) ≡ branchFilled wanted (now (counts .entry)) (now (marks .entry)) class (now (block .entry)) ⌝ }
+    ensures { λ r. ⌜ now (block .exit) ≡ branchFilled (now (counts .entry)) (now (marks .entry)) class (now (block .entry)) ⌝ }
 {
-    if !wanted {
-        return;
-    }
     if counts.len() == 0 {
         block[0] = class;
         return;
@@ -38,16 +22,17 @@ pub fn fill_branch(wanted: bool, counts: &[u8], marks: &[u8], class: Class, bloc
     let mark = marks[0];
     let later = &counts[1..];
     let behind = &marks[1..];
-    let mut s: u8 = 0;
-    while s < states {
-        let from = s as usize * size;
-        fill_branch(
-            suits(mark, s),
-            later,
-            behind,
-            class,
-            &mut block[from..from + size],
-        );
-        s = s + 1;
+    if mark == BLANK {
+        let mut s: u8 = 0;
+        while s < states {
+            let from = s as usize * size;
+            fill_branch(later, behind, class, &mut block[from..from + size]);
+            s = s + 1;
+        }
+        return;
+    }
+    if mark < states {
+        let own = mark as usize * size;
+        fill_branch(later, behind, class, &mut block[own..own + size]);
     }
 }

@@ -80,7 +80,7 @@ fn draw_leaf(
             next: class.next,
         };
     }
-    fill_branch(true, counts, &marks, class.value, table);
+    fill_branch(counts, &marks, class.value, table);
     Place {
         refusal: 0,
         next: class.next,

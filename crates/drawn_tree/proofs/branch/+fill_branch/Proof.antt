@@ -1,20 +1,20 @@
 -- `drawn_tree::branch::fill_branch` meets its contract. The components left fall at each call; the parts of the states below s are filled (`Filled`).
-use Prim.Native.Nat.{ℕ, _-_, _<_}
-use mathlib.Core.Path.{_≡_, ap}
+use Prim.Native.Nat.{ℕ, _-_, _/_, _<_}
+use mathlib.Core.Path.{_≡_, refl, ap}
 use native.Mathlib.Nat.{add-sub-cancel-left}
 use native.Mathlib.Omega.{arith}
-use lib.ListN.{length, length-set}
+use lib.ListN.{length, getD, take, drop, length-set}
 use denote.Ref.{now}
 use borrow.Author.Needs.{needs}
+use borrow.Author.Tests.{eq-eqb, ne-eqb}
 use borrow.Fn.Kinds.{In, Out}
 use borrow.Fn.PlainCycle.{Measures, is, falls, and}
 use Rattle.paths.proofs.Sizes.{one-class}
-use Rattle.drawn_tree.proofs.BranchFilled.{Filled, filled-nowhere, filled-wanted, filled-one, split, filled-start, filled-most, filled-inside}
-use Rattle.drawn_tree.proofs.BranchFilled.{filled-part, filled-more, filled-done}
+use Rattle.drawn_tree.proofs.BranchFilled.{Split, Filled, filled-one, split, filled-start, filled-most, filled-inside}
+use Rattle.drawn_tree.proofs.BranchFilled.{filled-part, filled-more, filled-done, filled-below, filled-behind}
 use Rattle.drawn_tree.proofs.branch.fill_branch.Reads as fill-branch
 use Rattle.drawn_tree.proofs.branch.fill_branch.Kinds as fill-branch-kinds
 use Rattle.drawn_tree.proofs.branch.+fill_branch.Lts-fill_branch as lts
-use Rattle.drawn_tree.proofs.branch.suits.Reads as suits
 use Rattle.drawn_tree.proofs.branch.+fill_branch.{statement}
 use Rattle.drawn_tree.proofs.branch.+fill_branch.Tie.{close}
 
@@ -30,75 +30,111 @@ under-t t =
     and 3 fill-branch-kinds.ps (falls 3 fill-branch-kinds.ps _<_ μ t) fill-branch.Pre
 
 abbrev claims : ℕ → lts.Claims
-claims t = (suits.Asked, suits.Learnt, under-t t, fill-branch.Post)
+claims t = (under-t t, fill-branch.Post)
 
 abbrev Inv-loop : lts.InvT-loop
-Inv-loop wanted counts marks class block₀ states size mark later behind s₀ block s =
+Inv-loop counts marks class block₀ states size mark later behind s₀ block s =
     Filled counts marks class block₀ states size mark later behind s block
 
 abbrev μ-loop : lts.MeasureT-loop
-μ-loop wanted counts marks class block₀ states size mark later behind s₀ block s = states - s
+μ-loop counts marks class block₀ states size mark later behind s₀ block s = states - s
 
 module _ (t : ℕ) where
   -- a step or a need of the call with t components left
   abbrev here : (lts.Claims → In 3 fill-branch-kinds.ps → Out 3 fill-branch-kinds.ps fill-branch-kinds.r → lts.InvT-loop → lts.MeasureT-loop → Type 0) → Type 0
   here of = of (claims t) (at t) fill-branch.Post Inv-loop μ-loop
 
+  -- no component is left
+  one-place : (c : here lts.Then1) → length (now (c .before .before .before .before .args .block)) ≡ 1
+  one-place c = one-class _ _ (c .before .before .before .before .pre .1 .0) (c .if1 .taken)
+
+  returns : here lts.Need-returns
+  returns c = filled-one _ _ _ _ (c .if1 .taken) (one-place c)
+
+  -- a component is left
   abbrev start : here lts.Else1 → here lts.Start
   start c = c .before .before .before .before
 
-  -- no component is left
-  one-place : (c : here lts.Then2) → length (now (start (c .before) .args .block)) ≡ 1
-  one-place c = one-class _ _ (start (c .before) .pre .1 .0) (c .if2 .taken)
-
-  -- a component is left
-  abbrev some : here lts.After-behind → here lts.Else2
-  some c = c .before .before .before .before
-
-  -- a turn of the loop, from behind its call
-  abbrev turn : here lts.After-slice-known2 → here lts.In-loop
-  turn c = c .before .before .before .before .before
-
-  returns-2 : here lts.Need-returns-2
-  returns-2 c = filled-wanted _ _ _ _ _ _ (c .before .if1 .left) (filled-one _ _ _ _ (c .if2 .taken) (one-place c))
-
   cast-size : here lts.Need-cast-size
-  cast-size c = let s = start (c .before .before) in omega (arith, s .pre .1 .0 .most 0 (omega (arith, c .before .if2 .left)))
+  cast-size c = let s = start (c .before) in omega (arith, s .pre .1 .0 .most 0 (omega (arith, c .before .if1 .left)))
 
   div-size : here lts.Need-div-size
-  div-size c = start (c .before .before) .pre .1 .0 .some 0 (omega (arith, c .before .if2 .left))
+  div-size c = start (c .before) .pre .1 .0 .some 0 (omega (arith, c .before .if1 .left))
 
-  loop-holds : here lts.Need-loop-holds
-  loop-holds c = let s = start (some c .before) in filled-start (split _ _ _ (s .pre .1 .0) (s .pre .1 .1) (some c .if2 .left))
+  abbrev some : here lts.After-behind → here lts.Else1
+  some c = c .before .before .before .before
+
+  parts : (c : here lts.After-behind)
+      → let a = start (some c) .args in
+      let counts = now (a .counts) in
+      let marks = now (a .marks) in
+      let block = now (a .block) in
+      Split counts marks block (getD counts 0 0) (length block / getD counts 0 0) (getD marks 0 0) (take (length counts - 1) (drop 1 counts))
+      (take (length marks - 1) (drop 1 marks))
+  parts c = let s = start (some c) in split _ _ _ (s .pre .1 .0) (s .pre .1 .1) (some c .if1 .left)
+
+  -- ---- the component is not asked: a turn of the loop, from behind its call
+
+  abbrev turn : here lts.After-slice-known2 → here lts.In-loop
+  turn c = c .before .before .before .before
 
   fill-branch-requires : here lts.Need-fill-branch-requires
   fill-branch-requires c κs =
-      let l = c .before .before .before in
+      let l = c .before .before in
       let f = l .loop .inv in
-      let left = start (some (l .before) .before) .pre .0 in
-      (omega (arith, left, ap length (f .parts .is-counts)), (rw add-sub-cancel-left (filled-part f (c .before .before .loop-test .taken)), f .parts .few))
+      let left = start (some (l .before .before)) .pre .0 in
+      (omega (arith, left, ap length (f .parts .is-counts)), (rw add-sub-cancel-left (filled-part f (c .before .loop-test .taken)), f .parts .few))
 
   loop-again : here lts.Need-loop-again
   loop-again c =
       let l = turn c .before in
-      filled-more (l .loop .inv) _ _ (turn c .loop-test .taken) (c .before .before .before .before .suits .ensures)
+      filled-more (l .loop .inv) (turn c .loop-test .taken) (rw (eq-eqb _ _ (l .before .if2 .taken)) refl)
       (rw add-sub-cancel-left at (c .before .before .fill-branch .ensures))
+
+  -- ---- the component is asked
+
+  below : (c : here lts.Then3)
+      → let a = start (some (c .before .before)) .args in
+      let counts = now (a .counts) in
+      let marks = now (a .marks) in
+      let block = now (a .block) in
+      Filled counts marks (a .class) block (getD counts 0 0) (length block / getD counts 0 0) (getD marks 0 0) (take (length counts - 1) (drop 1 counts))
+      (take (length marks - 1) (drop 1 marks)) (getD marks 0 0) block
+  below c = filled-below (c .before .if2 .left) (omega arith) (omega (arith, c .if3 .taken)) (parts (c .before .before))
+
+  fill-branch-requires-2 : here lts.Need-fill-branch-requires-2
+  fill-branch-requires-2 c κs =
+      let f = below (c .before) in
+      let left = start (some (c .before .before .before)) .pre .0 in
+      (omega (arith, left, ap length (f .parts .is-counts)), (rw add-sub-cancel-left (filled-part f (c .before .if3 .taken)), f .parts .few))
+
+  abbrev own : here lts.After-slice-known3 → here lts.Then3
+  own c = c .before .before .before .before
 
   returns-3 : here lts.Need-returns-3
   returns-3 c =
-      let l = c .before in
-      filled-wanted _ _ _ _ _ _ (some (l .before) .before .if1 .left) (filled-done (l .loop .inv) (c .loop-test .left))
+      let settled = own c .before .if2 .left in
+      let inside = own c .if3 .taken in
+      let wrote = c .before .before .fill-branch2 .ensures in
+      let filled = filled-more (below (own c)) inside (rw (ne-eqb _ _ settled, eq-eqb _ _ refl) refl) (rw add-sub-cancel-left at wrote) in
+      filled-done (filled-behind settled inside filled) (omega arith)
 
 pub +fill-branch-spec : {M : Type 1} → statement M
 +fill-branch-spec =
     close μ
-    λ t. lts.spec (claims t) (at t) fill-branch.Post Inv-loop μ-loop (λ c. filled-nowhere _ _ _ _ _ (c .if1 .taken)) (λ c. omega (arith, one-place t c))
-    (λ c. search (length-set, needs)) (returns-2 t)
-    (λ c. omega (arith, c .before .if2 .left)) (cast-size t) (div-size t) (λ c. search needs)
-    (λ c. search needs) (λ c. search needs) (λ c. search needs) (λ c. search needs) (λ c. search needs) (λ c. search needs) (loop-holds t)
+    λ t. lts.spec (claims t) (at t) fill-branch.Post Inv-loop μ-loop (λ c. omega (arith, one-place t c)) (λ c. search (length-set, needs)) (returns t)
+    (λ c. omega (arith, c .before .if1 .left)) (cast-size t) (div-size t) (λ c. search needs)
+    (λ c. search needs) (λ c. search needs) (λ c. search needs) (λ c. search needs) (λ c. search needs) (λ c. search needs)
+    (λ c. filled-start (parts t (c .before)))
     (λ c. omega (arith, filled-most (c .before .loop .inv) (c .loop-test .taken)))
-    (λ c. search (filled-inside (c .before .loop .inv) (c .loop-test .taken), needs)) (λ c κs. search needs)
-    (λ c. search (filled-inside (c .before .before .loop .inv) (c .before .loop-test .taken), needs)) (λ c. search needs) (λ c. search needs)
-    (λ c. filled-inside (c .before .before .loop .inv) (c .before .loop-test .taken)) (fill-branch-requires t)
+    (λ c. search (filled-inside (c .before .loop .inv) (c .loop-test .taken), needs))
+    (λ c. search (filled-inside (c .before .loop .inv) (c .loop-test .taken), needs)) (λ c. search needs) (λ c. search needs)
+    (λ c. filled-inside (c .before .loop .inv) (c .loop-test .taken)) (fill-branch-requires t)
     (λ c. omega (arith, filled-most (turn t c .before .loop .inv) (turn t c .loop-test .taken)))
-    (λ c. omega (arith, turn t c .loop-test .taken)) (loop-again t) (λ c. c .before .loop .inv .long) (returns-3 t)
+    (λ c. omega (arith, turn t c .loop-test .taken)) (loop-again t) (λ c. c .before .loop .inv .long) (λ c. filled-done (c .before .loop .inv) (c .loop-test .left))
+    (λ c. omega (arith, filled-most (below t c) (c .if3 .taken)))
+    (λ c. search (filled-inside (below t c) (c .if3 .taken), needs))
+    (λ c. search (filled-inside (below t c) (c .if3 .taken), needs)) (λ c. search needs) (λ c. search needs)
+    (λ c. filled-inside (below t c) (c .if3 .taken)) (fill-branch-requires-2 t)
+    (λ c. search needs) (returns-3 t)
+    (λ c. filled-done (filled-below (c .before .if2 .left) (c .if3 .left) (omega arith) (parts t (c .before .before))) (omega arith))

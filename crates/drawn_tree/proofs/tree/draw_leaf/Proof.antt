@@ -1,6 +1,5 @@
 -- `drawn_tree::tree::draw_leaf` meets its contract: the byte is read, then its rule is judged, and what is read is the branch filled (`read`).
 use Prim.Native.Nat.{ℕ}
-use mathlib.Core.Bool.{true}
 use mathlib.Core.List.{List}
 use denote.Ref.{now}
 use borrow.Author.Needs.{needs}
@@ -24,7 +23,7 @@ read : (c : tie.After-first)
     → let a = start (byte c) .args in
     let class = byte c .byte-or .result in
     ReadsAt (now (a .bytes)) (a .at) (leafDrawn (now (a .counts)) (a .loads) (marks (byte c)) (now (a .table))) (c .first .result) (class .next)
-    (branchFilled true (now (a .counts)) (marks (byte c)) (class .value) (now (a .table)))
+    (branchFilled (now (a .counts)) (marks (byte c)) (class .value) (now (a .table)))
 unfolding leafDrawn
 read c = after _ (byte c .byte-or .ensures) (judged-last _ (c .before .leaf-fault .ensures)) (c .first .ensures)
 
