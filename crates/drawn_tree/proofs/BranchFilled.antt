@@ -107,7 +107,7 @@ module _ {counts marks : List ℕ} {class : ℕ} {block₀ : List ℕ} {states s
     pub filled-part : s < states → Block later (part size s block)
     filled-part h = rw (f .parts .is-size) (part-block whole s h)
 
-    -- the part of state s is filled too, where that state suits the mark
+    -- the part of state s is filled too, if that state suits the mark
     next : (suits : Bool) (p : List ℕ) → s < states → (eqb mark blankMark || eqb mark s) ≡ suits → p ≡ own class mark later behind suits (part size s block)
         → Filled counts marks class block₀ states size mark later behind (s + 1) (lentBack block p (s * size) size)
     next suits p h e wrote =
@@ -117,7 +117,7 @@ module _ {counts marks : List ℕ} {class : ℕ} {block₀ : List ℕ} {states s
         let inside = filled-inside h in
         let old-long = part-long states size s block shared h in
         let long : length p ≡ size = ap length wrote ∙ length-painted (λ x. suits && fits x behind) (λ x. class) (jointStates later) old ∙ old-long in
-        let next : (s + 1) * size ≡ at + size = omega arith in
+        let end : (s + 1) * size ≡ at + size = omega arith in
         let more : suc n ≡ states - s = omega arith in
         let behind-it = drop (at + size) block in
         let rest = left class mark later behind (s + 1) n behind-it in
@@ -131,7 +131,7 @@ module _ {counts marks : List ℕ} {class : ℕ} {block₀ : List ℕ} {states s
           parts = f .parts;
           long = back-long block p at size inside long ∙ f .long;
           same =
-              rw (next, back-front block p at size inside long, back-behind block p at size inside long)
+              rw (end, back-front block p at size inside long, back-behind block p at size inside long)
               (append-assoc (take at block) p rest ∙ ap (λ (l : List ℕ). take at block ++ l) filled ∙ f .same);
         }
 
@@ -140,9 +140,8 @@ module _ {counts marks : List ℕ} {class : ℕ} {block₀ : List ℕ} {states s
     unfolding branchFilled
     filled-more {p = p} h suits wrote = next true p h suits wrote
 
-    -- a state that does not suit the mark is passed over
-    filled-passed : s < states → (eqb mark blankMark || eqb mark s) ≡ false → Filled counts marks class block₀ states size mark later behind (s + 1) block
-    filled-passed h other =
+    passed : s < states → (eqb mark blankMark || eqb mark s) ≡ false → Filled counts marks class block₀ states size mark later behind (s + 1) block
+    passed h other =
         let at = s * size in
         let old = part size s block in
         let kept : lentBack block old at size ≡ block =
@@ -157,24 +156,23 @@ module _ {counts marks : List ℕ} {class : ℕ} {block₀ : List ℕ} {states s
         ∙ ap (λ (l : List ℕ). take (s * size) block ++ l) (sym (left-none class mark later behind s (drop (s * size) block)))
         ∙ (rw none at (f .same))
 
-  -- ---- a mark that is settled: no state but its own suits it
-
+  -- a mark that is settled suits its own state alone: the others are passed over
   module _ (settled : mark ≡ blankMark → ⊥) where
-    past : (n : ℕ) {s to : ℕ} {block : List ℕ} → Filled counts marks class block₀ states size mark later behind s block → s + n ≡ to → to ≤ states
-        → ((k : ℕ) → s ≤ k → k < to → mark ≡ k → ⊥) → Filled counts marks class block₀ states size mark later behind to block
-    past zero {block = block} f end inside others =
+    all-passed : (n : ℕ) {s to : ℕ} {block : List ℕ} → s + n ≡ to → to ≤ states → ((k : ℕ) → s ≤ k → k < to → mark ≡ k → ⊥)
+        → Filled counts marks class block₀ states size mark later behind s block → Filled counts marks class block₀ states size mark later behind to block
+    all-passed zero {block = block} end inside others f =
         subst (λ (k : ℕ). Filled counts marks class block₀ states size mark later behind k block) (omega arith) f
-    past (suc n) {s = s} f end inside others =
+    all-passed (suc n) {s = s} end inside others f =
         let other = others s (omega arith) (omega arith) in
-        past n (filled-passed f (omega arith) (rw (ne-eqb mark blankMark settled, ne-eqb mark s other) refl)) (omega arith) inside
-        (λ k low high. others k (omega arith) high)
+        all-passed n (omega arith) inside (λ k least less. others k (omega arith) less)
+        (passed f (omega arith) (rw (ne-eqb mark blankMark settled, ne-eqb mark s other) refl))
 
-    -- the states up to the mark are passed over
-    pub filled-below : {to : ℕ} → to ≤ mark → to ≤ states → Split counts marks block₀ states size mark later behind
-        → Filled counts marks class block₀ states size mark later behind to block₀
-    filled-below {to = to} h inside p = past to (filled-start p) (zero-add to) inside (λ k low high same. omega arith)
+    -- those in front of it, or some of them
+    pub filled-before : {to : ℕ} {block : List ℕ} → to ≤ mark → to ≤ states → Filled counts marks class block₀ states size mark later behind 0 block
+        → Filled counts marks class block₀ states size mark later behind to block
+    filled-before {to = to} h inside f = all-passed to (zero-add to) inside (λ k least less same. omega arith) f
 
-    -- and those behind it
+    -- those behind it
     pub filled-behind : {block : List ℕ} → mark < states → Filled counts marks class block₀ states size mark later behind (mark + 1) block
         → Filled counts marks class block₀ states size mark later behind states block
-    filled-behind h f = past (states - (mark + 1)) f (omega arith) (omega arith) (λ k low high same. omega arith)
+    filled-behind h f = all-passed (states - (mark + 1)) (omega arith) (omega arith) (λ k least less same. omega arith) f
