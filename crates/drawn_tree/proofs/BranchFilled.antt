@@ -8,7 +8,7 @@ use native.Mathlib.Omega.{arith}
 use lib.Dec.{eqb}
 use lib.ListN.{length, getD, take, drop, set, length-map, take-append-drop}
 use lib.Seq.{take-all, drop-drop}
-use borrow.Author.Tests.{eq-eqb, ne-eqb}
+use borrow.Author.Tests.{ne-eqb}
 use Rattle.lists.specs.Product.{product}
 use Rattle.lists.proofs.Lent.{lentBack, back-front, back-behind, back-long}
 use Rattle.joint_states.specs.JointStates.{divided, jointStates}
