@@ -1,12 +1,12 @@
 -- A sound study and its joint states can be read: its gates name components, lower gates and states that are there.
-use Prim.Native.Nat.{ℕ, zero, suc, _<_, _≤_}
+use Prim.Native.Nat.{ℕ, zero, suc, _<_}
 use mathlib.Core.Path.{_≡_, refl, sym, _∙_}
 use mathlib.Core.Bool.{Bool}
 use mathlib.Core.List.{List}
 use native.Mathlib.Omega.{arith}
 use lib.ListN.{length, getD, take, replicate}
 use lib.Seq.{length-take-le}
-use Rattle.rules.specs.Limits.{mostStates, mostComponents, mostGates}
+use Rattle.rules.specs.Limits.{mostComponents, mostGates}
 use Rattle.joint_states.specs.JointStates.{JointState}
 use Rattle.joint_states.proofs.Numbered.{number-up}
 use Rattle.study.specs.declared.Study.{Study}
