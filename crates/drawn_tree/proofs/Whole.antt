@@ -6,8 +6,7 @@ use mathlib.Core.Bool.{true}
 use mathlib.Core.List.{List, [], _∷_, map}
 use native.Mathlib.Decide.{decLt}
 use native.Mathlib.Omega.{arith}
-use lib.ListN.{length, getD, drop, replicate, length-drop, length-map, List·getD-eq-default}
-use Rattle.lists.specs.Product.{product}
+use lib.ListN.{length, getD, drop, replicate, length-drop, List·getD-eq-default}
 use Rattle.rules.specs.Breach.{first}
 use Rattle.rules.specs.Limits.{mostComponents}
 use Rattle.rules.specs.Table.{behindFault}
@@ -27,11 +26,6 @@ use Rattle.drawn_tree.specs.Filling.{unasked, treeDrawn, branchDrawn}
 use Rattle.drawn_tree.proofs.Drawn.{treePainted, tree-drawn}
 use Rattle.drawn_tree.proofs.Painted.{painted-all}
 use Rattle.drawn_tree.proofs.Steps.{below}
-
--- as many classes as joint states
-pub classes-long : (counts : List ℕ) (loads : ℕ) (bytes : List ℕ) → length (drawnClasses counts loads bytes) ≡ product counts
-unfolding drawnClasses
-classes-long counts loads bytes = length-map (jointStates counts) (drawnClass (drawnTree counts loads bytes)) ∙ length-jointStates counts
 
 all-fit : (n : ℕ) (x : List ℕ) → fits x (replicate n blankMark) ≡ true
 unfolding fits
