@@ -1,18 +1,18 @@
--- `drawn_tree::branch::fill_branch` meets its contract. The components left fall at each call; the parts of the states below s are filled (`Filled`), of
--- which a mark that is settled passes over all but its own.
-use Prim.Native.Nat.{ℕ, _-_, _/_, _<_}
-use mathlib.Core.Path.{_≡_, refl, ap}
+-- `drawn_tree::branch::fill_branch` meets its contract. The components left fall at each call. Settled marks lead to the part that is left to fill (`Ahead`);
+-- at a blank one the parts of the states below s are filled (`Filled`).
+use Prim.Native.Nat.{ℕ, _+_, _-_, _*_, _/_, _<_, _≤_}
+use mathlib.Core.Path.{_≡_, ap, _∙_}
 use native.Mathlib.Nat.{add-sub-cancel-left}
 use native.Mathlib.Omega.{arith}
-use lib.ListN.{length, getD, take, drop, length-set}
+use lib.ListN.{length, getD, length-set}
 use denote.Ref.{now}
 use borrow.Author.Needs.{needs}
-use borrow.Author.Tests.{eq-eqb, ne-eqb}
 use borrow.Fn.Kinds.{In, Out}
 use borrow.Fn.PlainCycle.{Measures, is, falls, and}
-use Rattle.paths.proofs.Sizes.{one-class}
-use Rattle.drawn_tree.proofs.BranchFilled.{Filled, filled-one, split, filled-start, filled-most, filled-inside}
-use Rattle.drawn_tree.proofs.BranchFilled.{filled-part, filled-more, filled-done, filled-before, filled-behind}
+use Rattle.drawn_tree.specs.Filling.{branchFilled}
+use Rattle.drawn_tree.proofs.BranchFilled.{Filled, filled-most, filled-inside, filled-part, filled-more, filled-done}
+use Rattle.drawn_tree.proofs.BranchFilled.{Ahead, ahead-start, ahead-place, ahead-one, ahead-some, ahead-most, ahead-nowhere, ahead-inside}
+use Rattle.drawn_tree.proofs.BranchFilled.{ahead-settled, ahead-blank}
 use Rattle.drawn_tree.proofs.branch.fill_branch.Reads as fill-branch
 use Rattle.drawn_tree.proofs.branch.fill_branch.Kinds as fill-branch-kinds
 use Rattle.drawn_tree.proofs.branch.+fill_branch.Lts-fill_branch as lts
@@ -33,113 +33,120 @@ under-t t =
 abbrev claims : ℕ → lts.Claims
 claims t = (under-t t, fill-branch.Post)
 
+abbrev Inv-loop2 : lts.InvT-loop2
+Inv-loop2 counts marks class block₀ next from₀ size states mark later behind s₀ block from s =
+    Filled counts marks class block₀ states size later behind s from block
+
+abbrev μ-loop2 : lts.MeasureT-loop2
+μ-loop2 counts marks class block₀ next from₀ size states mark later behind s₀ block from s = states - s
+
 abbrev Inv-loop : lts.InvT-loop
-Inv-loop counts marks class block₀ states size mark later behind s₀ block s =
-    Filled counts marks class block₀ states size mark later behind s block
+Inv-loop counts marks class block₀ next₀ from₀ size₀ block next from size = Ahead counts marks class block₀ next from size block
 
 abbrev μ-loop : lts.MeasureT-loop
-μ-loop counts marks class block₀ states size mark later behind s₀ block s = states - s
+μ-loop counts marks class block₀ next₀ from₀ size₀ block next from size = length counts - next
 
 module _ (t : ℕ) where
   -- a step or a need of the call with t components left
-  abbrev here : (lts.Claims → In 3 fill-branch-kinds.ps → Out 3 fill-branch-kinds.ps fill-branch-kinds.r → lts.InvT-loop → lts.MeasureT-loop → Type 0) → Type 0
-  here of = of (claims t) (at t) fill-branch.Post Inv-loop μ-loop
+  abbrev here
+      : (lts.Claims → In 3 fill-branch-kinds.ps → Out 3 fill-branch-kinds.ps fill-branch-kinds.r → lts.InvT-loop2 → lts.MeasureT-loop2 → lts.InvT-loop
+      → lts.MeasureT-loop → Type 0)
+      → Type 0
+  here of = of (claims t) (at t) fill-branch.Post Inv-loop2 μ-loop2 Inv-loop μ-loop
 
-  -- no component is left
-  abbrev none : here lts.Then1 → here lts.Start
-  none c = c .before .before .before .before
+  -- a turn of the outer loop, from where the component's mark is tested
+  abbrev turn : here lts.After-shared-slice-known4 → here lts.In-loop
+  turn c = c .before .before
 
-  one-place : (c : here lts.Then1) → length (now (none c .args .block)) ≡ 1
-  one-place c = one-class _ _ (none c .pre .1 .0) (c .if1 .taken)
+  abbrev start : here lts.After-shared-slice-known4 → here lts.Start
+  start c = turn c .before .before .before .before .before
 
-  returns : here lts.Need-returns
-  returns c = filled-one _ _ _ _ (c .if1 .taken) (one-place c)
-
-  -- a component is left
-  abbrev some : here lts.Else1 → here lts.Start
-  some c = c .before .before .before .before
-
-  cast-size : here lts.Need-cast-size
-  cast-size c = let b = some (c .before) .pre .1 .0 in omega (arith, b .most 0 (omega (arith, c .before .if1 .left)))
+  loop-holds : here lts.Need-loop-holds
+  loop-holds c = let p = c .before .before .before .pre .1 in ahead-start _ _ _ _ (p .0) (p .1)
 
   div-size : here lts.Need-div-size
-  div-size c = some (c .before) .pre .1 .0 .some 0 (omega (arith, c .before .if1 .left))
+  div-size c = ahead-some (turn c .before .loop .inv) (turn c .loop-test .taken)
 
-  -- from where the component's mark is tested
-  abbrev split-at : here lts.After-behind → here lts.Else1
-  split-at c = c .before .before .before .before
+  states-most : (c : here lts.After-shared-slice-known4) → getD (now (start c .args .counts)) (turn c .before .loop .next) 0 < 256
+  states-most c = omega (arith, ahead-most (turn c .before .loop .inv) (turn c .loop-test .taken))
 
-  abbrev start : here lts.After-behind → here lts.Start
-  start c = some (split-at c)
-
-  -- nothing is written yet, nor to be written in the parts of the states below s
-  abbrev Untouched : here lts.After-behind → ℕ → Type 0
-  Untouched c s =
-      let a = start c .args in
-      let counts = now (a .counts) in
-      let marks = now (a .marks) in
-      let block = now (a .block) in
-      Filled counts marks (a .class) block (getD counts 0 0) (length block / getD counts 0 0) (getD marks 0 0) (take (length counts - 1) (drop 1 counts))
-      (take (length marks - 1) (drop 1 marks)) s block
-
-  untouched : (c : here lts.After-behind) → Untouched c 0
-  untouched c = let p = start c .pre .1 in filled-start (split _ _ _ (p .0) (p .1) (split-at c .if1 .left))
-
-  -- the component is not asked; a turn of the loop, from behind its call
-  abbrev turn : here lts.After-slice-known2 → here lts.In-loop
-  turn c = c .before .before .before .before
-
-  fill-branch-requires : here lts.Need-fill-branch-requires
-  fill-branch-requires c κs =
-      let l = c .before .before in
-      let f = l .loop .inv in
-      let left = start (l .before .before) .pre .0 in
-      (omega (arith, left, ap length (f .parts .is-counts)), (rw add-sub-cancel-left (filled-part f (c .before .loop-test .taken)), f .parts .few))
+  -- the mark is settled, and a state
+  suited-inside : (c : here lts.Else2)
+      → let l = turn (c .before .before) .before .loop in
+      let args = start (c .before .before) .args in
+      let size = l .size / getD (now (args .counts)) (l .next) 0 in
+      l .from + getD (now (args .marks)) (l .next) 0 * size + size ≤ length (l .block)
+  suited-inside c =
+      let l = turn (c .before .before) in
+      ahead-inside (l .before .loop .inv) (l .loop-test .taken) (c .before .if1 .left) (c .if2 .left)
 
   loop-again : here lts.Need-loop-again
   loop-again c =
-      let l = turn c .before in
-      filled-more (l .loop .inv) (turn c .loop-test .taken) (rw (eq-eqb _ _ (l .before .if2 .taken)) refl)
-      (rw add-sub-cancel-left at (c .before .before .fill-branch .ensures))
+      let l = turn (c .before .before) in
+      ahead-settled (l .before .loop .inv) (l .loop-test .taken) (c .before .if1 .left) (c .if2 .left)
 
-  -- the component is asked
-  below : (c : here lts.Then3) → Untouched (c .before .before) (getD (now (start (c .before .before) .args .marks)) 0 0)
-  below c = filled-before (c .before .if2 .left) (omega arith) (omega (arith, c .if3 .taken)) (untouched (c .before .before))
+  -- it is settled, and no state
+  returns-2 : here lts.Need-returns-2
+  returns-2 c =
+      let l = turn (c .before .before) in
+      ahead-nowhere (l .before .loop .inv) (l .loop-test .taken) (c .before .if1 .left) (c .if2 .taken)
 
-  fill-branch-requires-2 : here lts.Need-fill-branch-requires-2
-  fill-branch-requires-2 c κs =
-      let f = below (c .before) in
-      let left = start (c .before .before .before) .pre .0 in
-      (omega (arith, left, ap length (f .parts .is-counts)), (rw add-sub-cancel-left (filled-part f (c .before .if3 .taken)), f .parts .few))
+  -- the mark is blank
+  loop2-holds : here lts.Need-loop2-holds
+  loop2-holds c =
+      let tested = c .before .before in
+      let l = turn (tested .before) in
+      ahead-blank (l .before .loop .inv) (l .loop-test .taken) (tested .if1 .taken)
+
+  -- a turn of the inner loop: what the outer loop holds
+  abbrev outer : here lts.In-loop2 → here lts.After-shared-slice-known4
+  outer c = c .before .before .before .before .before
+
+  inside : (c : here lts.In-loop2)
+      → let l = turn (outer c) .before .loop in
+      c .before .loop2 .from + l .size / getD (now (start (outer c) .args .counts)) (l .next) 0 ≤ length (c .before .loop2 .block)
+  inside c = filled-inside (c .before .loop2 .inv) (c .loop2-test .taken)
+
+  fill-branch-requires : here lts.Need-fill-branch-requires
+  fill-branch-requires c κs =
+      let f = c .before .before .loop2 .inv in
+      let left = start (outer (c .before)) .pre .0 in
+      (omega (arith, left, f .fewer), (rw add-sub-cancel-left (filled-part f (c .before .loop2-test .taken)), f .few))
 
   -- from behind its call
-  abbrev own : here lts.After-slice-known3 → here lts.Then3
-  own c = c .before .before .before .before
+  abbrev inner : here lts.After-slice-known2 → here lts.In-loop2
+  inner c = c .before .before .before .before
 
-  returns-3 : here lts.Need-returns-3
-  returns-3 c =
-      let settled = own c .before .if2 .left in
-      let inside = own c .if3 .taken in
-      let wrote = c .before .before .fill-branch2 .ensures in
-      let filled = filled-more (below (own c)) inside (rw (ne-eqb _ _ settled, eq-eqb _ _ refl) refl) (rw add-sub-cancel-left at wrote) in
-      filled-done (filled-behind settled inside filled) (omega arith)
+  loop2-again : here lts.Need-loop2-again
+  loop2-again c =
+      filled-more (inner c .before .loop2 .inv) (inner c .loop2-test .taken) (rw add-sub-cancel-left at (c .before .before .fill-branch .ensures))
 
-  returns-4 : here lts.Need-returns-4
-  returns-4 c = filled-done (filled-before (c .before .if2 .left) (c .if3 .left) (omega arith) (untouched (c .before .before))) (omega arith)
+  -- behind the inner loop: nothing was written before it
+  kept : (c : here lts.After-loop2)
+      → let tested = c .before .before .before .before .before in
+      turn tested .before .loop .block ≡ now (start tested .args .block)
+  kept c = turn (c .before .before .before .before .before) .before .loop .inv .kept
+
+  returns : here lts.Need-returns
+  returns c = filled-done (c .before .loop2 .inv) (c .loop2-test .left) ∙ ap (branchFilled _ _ _) (kept c)
+
+  -- no component is left
+  same-length-3 : here lts.Need-same-length-3
+  same-length-3 c =
+      let l = c .before .loop in
+      length-set (l .block) (l .from) (c .before .before .before .before .before .args .class) ∙ ap length (l .inv .kept)
 
 pub +fill-branch-spec : {M : Type 1} → statement M
 +fill-branch-spec =
     close μ
-    λ t. lts.spec (claims t) (at t) fill-branch.Post Inv-loop μ-loop (λ c. omega (arith, one-place t c)) (λ c. search (length-set, needs)) (returns t)
-    (λ c. omega (arith, c .before .if1 .left)) (cast-size t) (div-size t) (λ c. search needs)
-    (λ c. search needs) (λ c. search needs) (λ c. search needs) (λ c. search needs) (λ c. search needs) (λ c. search needs) (λ c. untouched t (c .before))
-    (λ c. omega (arith, filled-most (c .before .loop .inv) (c .loop-test .taken)))
-    (λ c. search (filled-inside (c .before .loop .inv) (c .loop-test .taken), needs))
-    (λ c. search (filled-inside (c .before .loop .inv) (c .loop-test .taken), needs)) (λ c. search needs) (λ c. search needs)
-    (λ c. filled-inside (c .before .loop .inv) (c .loop-test .taken)) (fill-branch-requires t)
-    (λ c. omega (arith, filled-most (turn t c .before .loop .inv) (turn t c .loop-test .taken)))
-    (λ c. omega (arith, turn t c .loop-test .taken)) (loop-again t) (λ c. c .before .loop .inv .long)
-    (λ c. filled-done (c .before .loop .inv) (c .loop-test .left)) (λ c. omega (arith, filled-most (below t c) (c .if3 .taken)))
-    (λ c. search (filled-inside (below t c) (c .if3 .taken), needs)) (λ c. search (filled-inside (below t c) (c .if3 .taken), needs))
-    (λ c. search needs) (λ c. search needs) (λ c. filled-inside (below t c) (c .if3 .taken)) (fill-branch-requires-2 t) (λ c. search needs) (returns-3 t)
-    (returns-4 t)
+    λ t. lts.spec (claims t) (at t) fill-branch.Post Inv-loop2 μ-loop2 Inv-loop μ-loop (loop-holds t) (λ c. c .before .loop-test .taken)
+    (λ c. omega (arith, c .before .before .loop-test .taken, c .before .before .before .loop .inv .few)) (λ c. omega (arith, states-most t c))
+    (div-size t) (λ c. search (turn t c .loop-test .taken, needs)) (λ c. search needs) (λ c. search needs) (λ c. search needs) (λ c. search needs)
+    (λ c. search needs) (λ c. search needs) (loop2-holds t) (λ c. search (inside t c, needs)) (λ c. search needs) (λ c. search (inside t c, needs))
+    (λ c. inside t c) (fill-branch-requires t) (λ c. search (inside t (inner t c), needs))
+    (λ c. omega (arith, filled-most (inner t c .before .loop2 .inv) (inner t c .loop2-test .taken)))
+    (λ c. omega (arith, inner t c .loop2-test .taken)) (loop2-again t) (λ c. c .before .loop2 .inv .long ∙ ap length (kept t c)) (returns t)
+    (λ c. ap length (turn t (c .before .before) .before .loop .inv .kept)) (returns-2 t)
+    (λ c. omega (arith, c .if2 .left, states-most t (c .before .before))) (λ c. search (suited-inside t c, needs))
+    (λ c. search (suited-inside t c, needs)) (λ c. omega (arith, turn t (c .before .before) .loop-test .taken)) (loop-again t)
+    (λ c. ahead-place (c .before .loop .inv) (c .loop-test .left)) (same-length-3 t) (λ c. ahead-one (c .before .loop .inv) (c .loop-test .left))
