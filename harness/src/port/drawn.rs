@@ -27,10 +27,13 @@ fn fill_branch(counts: &[u8], marks: &[u8], class: u8, block: &mut [u8]) {
         return;
     };
     let size = block.len() / usize::from(states);
-    for (state, part) in block.chunks_exact_mut(size).enumerate() {
-        if marks[0] == UNASKED || usize::from(marks[0]) == state {
+    if marks[0] == UNASKED {
+        for part in block.chunks_exact_mut(size) {
             fill_branch(behind, &marks[1..], class, part);
         }
+    } else if marks[0] < states {
+        let from = usize::from(marks[0]) * size;
+        fill_branch(behind, &marks[1..], class, &mut block[from..from + size]);
     }
 }
 
