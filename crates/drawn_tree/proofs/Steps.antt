@@ -76,24 +76,27 @@ pub fewer-left : {counts marks marks′ : List ℕ} {component states i : ℕ} �
     → unasked marks′ < unasked marks
 fewer-left {i = i} node e h = let less = one-asked i node h in rw e (omega arith)
 
--- the subtrees of the states below i are drawn
-pub record Drawing (counts : List ℕ) (loads : ℕ) (marks s table₀ : List ℕ) (m component states i : ℕ) (table : List ℕ) (p n : ℕ) : Type 0 where
+-- the subtrees of the states below i are drawn; the marks of the branch of i are at hand
+pub record Drawing (counts : List ℕ) (loads : ℕ) (marks s table₀ : List ℕ) (m component states i : ℕ) (marks′ table : List ℕ) (p n : ℕ) : Type 0 where
+  pub marked : marks′ ≡ set marks component i
   pub node : AtNode counts marks component states
   pub turns : RepeatLeft (subtree counts loads marks component) states table₀ s m p n table i
   pub whole : Block counts table
   pub long : length table ≡ length table₀
 
 module _ {counts : List ℕ} {loads : ℕ} {marks s table₀ : List ℕ} {m component states : ℕ} where
-  pub drawing-start : AtNode counts marks component states → Block counts table₀ → Drawing counts loads marks s table₀ m component states 0 table₀ 0 m
-  drawing-start node b = record { node = node; turns = repeat-start refl; whole = b; long = refl }
+  pub drawing-start : {marks′ : List ℕ} → AtNode counts marks component states → Block counts table₀ → marks′ ≡ set marks component 0
+      → Drawing counts loads marks s table₀ m component states 0 marks′ table₀ 0 m
+  drawing-start node b e = record { marked = e; node = node; turns = repeat-start refl; whole = b; long = refl }
 
-  module _ {i : ℕ} {table : List ℕ} {p n : ℕ} (w : Drawing counts loads marks s table₀ m component states i table p n) where
-    pub drawing-more : {marks′ filled : List ℕ} {r k : ℕ} → i < states → marks′ ≡ set marks component i → length filled ≡ length table
-        → Reads s r k filled (below counts loads marks′ s table p n) → Drawing counts loads marks s table₀ m component states (i + 1) filled r k
+  module _ {i : ℕ} {marks′ table : List ℕ} {p n : ℕ} (w : Drawing counts loads marks s table₀ m component states i marks′ table p n) where
+    pub drawing-more : {next filled : List ℕ} {r k : ℕ} → i < states → next ≡ set marks component (i + 1) → length filled ≡ length table
+        → Reads s r k filled (below counts loads marks′ s table p n) → Drawing counts loads marks s table₀ m component states (i + 1) next filled r k
     drawing-more {filled = filled} {r = r} {k = k} h e long there =
         let deeper : ℕ → Read (List ℕ) = λ levels. andThen (asRead s p n table) (treeDrawn counts loads levels (set marks component i)) in
-        let own : Reads s r k filled (deeper (suc (unasked (set marks component i)))) = rw e at there in
+        let own : Reads s r k filled (deeper (suc (unasked (set marks component i)))) = rw (w .marked) at there in
         record {
+          marked = e;
           node = w .node;
           turns = repeat-turned (w .turns) h (subst (λ (levels : ℕ). Reads s r k filled (deeper levels)) (one-asked i (w .node) h) own);
           whole = record { long = long ∙ w .whole .long; some = w .whole .some; most = w .whole .most };

@@ -8,9 +8,9 @@ use rules::COMPONENT_PLACES;
 use rules::first;
 use rules::leaf_fault;
 use rules::node_fault;
-ghost use Prim.Native.Nat.{_≤_, _<_};
+ghost use Prim.Native.Nat.{_≤_};
 ghost use mathlib.Core.Path.{_≡_};
-ghost use lib.ListN.{length, getD, set, drop};
+ghost use lib.ListN.{length, getD, drop};
 ghost use Rattle.paths.specs.Blocks.{Block};
 ghost use Rattle.reading.specs.Reader.{Reads, andThen, asRead};
 ghost use Rattle.rules.specs.Limits.{mostComponents, mostLoads};
@@ -35,16 +35,6 @@ fn asked(marks: [u8; COMPONENT_PLACES], c: u8) -> bool
         return marks[i] != BLANK;
     }
     true
-}
-
-// The marks of the branch on which component c has state s.
-fn with_mark(marks: [u8; COMPONENT_PLACES], c: u8, s: u8) -> [u8; COMPONENT_PLACES]
-    requires { ⌜ c < mostComponents ⌝ }
-    ensures { λ r. ⌜ r ≡ set marks c s ⌝ }
-{
-    let mut more = marks;
-    more[c as usize] = s;
-    more
 }
 
 // The state count of a component; of one that is not there 0.
@@ -87,7 +77,8 @@ fn draw_leaf(
     }
 }
 
-// The tree at a place, below a branch with these marks. What was refused before stays refused.
+// The tree at a place, below a branch with these marks. What was refused before stays refused. The mark of each state is written ahead of the call
+// for the state before it: a copy of marks that is taken right behind the write of one waits for it.
 pub fn draw_tree(
     counts: &[u8],
     loads: u8,
@@ -126,16 +117,15 @@ pub fn draw_tree(
         refusal: 0,
         next: b.next,
     };
+    let c = b.value as usize;
+    let mut own = marks;
+    own[c] = 0;
     let mut s: u8 = 0;
     while s < states {
-        place = draw_tree(
-            counts,
-            loads,
-            bytes,
-            place,
-            with_mark(marks, b.value, s),
-            table,
-        );
+        let mut next = marks;
+        next[c] = s + 1;
+        place = draw_tree(counts, loads, bytes, place, own, table);
+        own = next;
         s = s + 1;
     }
     place

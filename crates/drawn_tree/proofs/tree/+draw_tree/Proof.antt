@@ -1,7 +1,7 @@
 -- `drawn_tree::tree::draw_tree` meets its contract. The components left to ask fall at each call; the subtrees of the states below s are drawn
 -- (`Drawing`).
 use Prim.Native.Nat.{ℕ, _-_, _<_}
-use mathlib.Core.Path.{_≡_, sym, _∙_}
+use mathlib.Core.Path.{_≡_, refl, sym, _∙_}
 use native.Mathlib.Omega.{arith}
 use lib.ListN.{length}
 use denote.Ref.{now}
@@ -21,7 +21,6 @@ use Rattle.drawn_tree.proofs.tree.+draw_tree.Lts-draw_tree as lts
 use Rattle.drawn_tree.proofs.tree.asked.Reads as asked
 use Rattle.drawn_tree.proofs.tree.count_of.Reads as count-of
 use Rattle.drawn_tree.proofs.tree.draw_leaf.Reads as draw-leaf
-use Rattle.drawn_tree.proofs.tree.with_mark.Reads as with-mark
 use Rattle.reading.proofs.byte_or.Reads as byte-or
 use Rattle.rules.proofs.node_fault.Reads as node-fault
 use Rattle.drawn_tree.proofs.tree.+draw_tree.{statement}
@@ -50,18 +49,16 @@ claims t = (
   node-fault.Learnt,
   count-of.Asked,
   count-of.Learnt,
-  with-mark.Asked,
-  with-mark.Learnt,
   under-t t,
   draw-tree.Post,
 )
 
 abbrev Inv-loop : lts.InvT-loop
-Inv-loop counts loads bytes marks table₀ b fault states place₀ s₀ table place s =
-    Drawing counts loads marks bytes table₀ (b .next) (b .value) states s table (place .refusal) (place .next)
+Inv-loop counts loads bytes marks table₀ fault states place₀ c own₀ s₀ table place own s =
+    Drawing counts loads marks bytes table₀ (place₀ .next) c states s own table (place .refusal) (place .next)
 
 abbrev μ-loop : lts.MeasureT-loop
-μ-loop counts loads bytes marks table₀ b fault states place₀ s₀ table place s = states - s
+μ-loop counts loads bytes marks table₀ fault states place₀ c own₀ s₀ table place own s = states - s
 
 module _ (t : ℕ) where
   -- a step or a need of the call with t components left to ask
@@ -123,35 +120,36 @@ module _ (t : ℕ) where
       drawn-refused _ _ _ _ _ _ _ (byte .before .if1 .left) (byte .byte-or .ensures) (kept .if2 .left) (asking .before .if3 .left) (fault-is (c .before))
       (c .if4 .taken)
 
+  -- and its component has a mark
+  marked : (c : here lts.After-count-of) → first (asks (node c .before)) .byte-or .result .value < 12
+  marked c = omega (arith, node-is c .free .inside, start (first (asks (node c .before)) .before) .pre .1 .1 .0)
+
   loop-holds : here lts.Need-loop-holds
-  loop-holds c = drawing-start (node-is c) (start (first (asks (node c .before)) .before) .pre .1 .0)
+  loop-holds c = drawing-start (node-is (c .before)) (start (first (asks (node (c .before) .before)) .before) .pre .1 .0) refl
 
   -- a turn of the loop, from behind its call
   abbrev turn : here lts.After-slice-known3 → here lts.In-loop
-  turn c = c .before .before .before .before .before
+  turn c = c .before .before .before .before
 
   abbrev begun : here lts.In-loop → here lts.Start
-  begun c = start (first (asks (node (c .before .before) .before)) .before)
-
-  with-mark-requires : here lts.Need-with-mark-requires
-  with-mark-requires c κs = omega (arith, c .before .loop .inv .node .free .inside, begun c .pre .1 .1 .0)
+  begun c = start (first (asks (node (c .before .before .before) .before)) .before)
 
   draw-tree-requires : here lts.Need-draw-tree-requires
   draw-tree-requires c κs =
-      let own = c .before .before in
+      let own = c .before in
       let drawing = own .before .loop .inv in
       let pre = begun own .pre in
-      let fewer = fewer-left (drawing .node) (c .before .with-mark .ensures) (omega (arith, own .loop-test .taken)) in
+      let fewer = fewer-left (drawing .node) (drawing .marked) (omega (arith, own .loop-test .taken)) in
       (omega (arith, fewer, pre .0), (drawing .whole, pre .1 .1))
 
   loop-again : here lts.Need-loop-again
   loop-again c =
       let call = c .before .before in
-      drawing-more (turn c .before .loop .inv) (turn c .loop-test .taken) (call .before .before .with-mark .ensures) (search needs) (call .draw-tree .ensures)
+      drawing-more (turn c .before .loop .inv) (turn c .loop-test .taken) refl (search needs) (call .draw-tree .ensures)
 
   returns-5 : here lts.Need-returns-5
   returns-5 c =
-      let counted = c .before .before in
+      let counted = c .before .before .before in
       let asking = node counted .before in
       let kept = asks asking in
       let byte = first kept in
@@ -163,5 +161,6 @@ pub +draw-tree-spec : {M : Type 1} → statement M
     close μ
     λ t. lts.spec (claims t) (at t) draw-tree.Post Inv-loop μ-loop (λ c. stopped _ as-read (c .if1 .taken)) (λ c κs. search needs) (returns-2 t)
     (draw-leaf-requires t) (λ c. search needs) (returns-3 t) (λ c κs. search needs) (λ c κs. search needs) (returns-4 t) (λ c κs. search needs)
-    (loop-holds t) (with-mark-requires t) (draw-tree-requires t) (λ c. omega (arith, turn t c .loop-test .taken, turn t c .before .loop .inv .node .few))
+    (λ c. omega (arith, marked t (c .before))) (λ c. marked t (c .before)) (loop-holds t)
+    (λ c. omega (arith, c .loop-test .taken, c .before .loop .inv .node .few)) (λ c. marked t (c .before .before .before)) (draw-tree-requires t) (λ c. omega (arith, turn t c .loop-test .taken, turn t c .before .loop .inv .node .few))
     (λ c. omega (arith, turn t c .loop-test .taken)) (loop-again t) (λ c. c .before .loop .inv .long) (returns-5 t)
