@@ -118,8 +118,10 @@ lost-iff t x =
 pub drawn-lost-iff : DrawnLostIff
 unfolding modelOf
 drawn-lost-iff t tree x kept joint =
-    let one = one-leaf-each (stateCounts t) (t .loads) tree x kept joint in
-    record { reaches = one .reaches; only = one .only; lacks = λ j h. no-load-beyond (stateCounts t) (t .loads) tree x j h }
+    record {
+      leaf = one-leaf-each (stateCounts t) (t .loads) tree x kept joint;
+      lacks = no-load-beyond (stateCounts t) (t .loads) tree x;
+    }
 
 -- ---- the classes on a list
 

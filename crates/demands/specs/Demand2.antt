@@ -33,7 +33,7 @@ use Rattle.soundness.specs.Sound.{Sound}
 use Rattle.fault_tree.specs.Truth.{gateTrue, gateTruths}
 use Rattle.fault_tree.specs.Classes.{classOf}
 use Rattle.drawn_tree.specs.Drawn.{drawnTree}
-use Rattle.drawn_tree.specs.Leaves.{Reaches}
+use Rattle.drawn_tree.specs.Leaves.{OneLeaf}
 use Rattle.meaning.specs.Meaning.{Meaning, byGates, byTree, meaningFault, modelOf}
 use Rattle.evaluation.specs.Bounds.{pathLowers, pathUppers, classLowers, classUppers}
 use Rattle.evaluation.specs.Figures.{modelFigures}
@@ -69,8 +69,7 @@ LostIff = (t : Study) (x : List ℕ) → TellsLosses t x (classOf t x)
 -- Under a drawn tree, a class tells what joint state x loses where x reaches one leaf and only one, which bears that class; bit j stands exactly when load
 -- j is lost, whatever the study's gates say, and the bit of a load that the study lacks is clear.
 pub record TellsLeaf (t : Study) (tree x : List ℕ) (class : ℕ) : Type 0 where
-  pub reaches : Reaches (drawnTree (stateCounts t) (t .loads) tree) x class
-  pub only : (other : ℕ) → Reaches (drawnTree (stateCounts t) (t .loads) tree) x other → other ≡ class
+  pub leaf : OneLeaf (drawnTree (stateCounts t) (t .loads) tree) x class
   pub lacks : (j : ℕ) → t .loads ≤ j → bit class j ≡ false
 
 -- what a joint state loses is told by a class

@@ -19,7 +19,7 @@ pub record FirstBreach (counts : List ℕ) (loads : ℕ) : Type 0 where
       → drawnFault counts loads (front ++ rest) ≡ n
   -- a strict front part of a tree ends inside it
   pub too-short : (front rest : List ℕ) → drawnFault counts loads (front ++ rest) ≡ 0 → (rest ≡ [] → ⊥) → drawnFault counts loads front ≡ badEnd
-  -- bytes behind a tree are one breach with it
+  -- bytes behind a tree are refused by the same row
   pub behind : (front rest : List ℕ) → drawnFault counts loads front ≡ 0 → (rest ≡ [] → ⊥) → drawnFault counts loads (front ++ rest) ≡ badEnd
 
 abbrev pub DrawnReads : Type 0
