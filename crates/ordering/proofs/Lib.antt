@@ -1,6 +1,8 @@
+pub mod Distinct
 pub mod Moving
 pub mod Pairs
 pub mod Rises
 pub mod Sorted
 pub mod Steps
+pub mod Thinned
 pub mod Unique

@@ -1,0 +1,56 @@
+// Rows without repeats: of inputs that stand side by side and are the same, the last counts. In a row in order those are all repeats.
+ghost use Prim.Native.Nat.{suc, _<_};
+ghost use mathlib.Core.Path.{_≡_};
+ghost use lib.ListN.{length, getD, drop};
+ghost use Rattle.ordering.specs.Distinct.{standsNext, thinned, Fronted};
+ghost use Rattle.ordering.specs.Inputs.{noInput, paired};
+
+// Whether the input at a place is the same as the one behind it.
+fn stands_next(number: &[u8], mask: &[u8], at: usize) -> bool
+    requires rows { ⌜ length (now number) ≡ length (now mask) ⌝ }
+    requires inside { ⌜ at < length (now number) ⌝ }
+    ensures { λ r.
+        ⌜ r
+        ≡ standsNext (getD (paired (now (number .entry)) (now (mask .entry))) at noInput) (drop (suc at) (paired (now (number .entry)) (now (mask .entry)))) ⌝ }
+{
+    if number.len() <= at + 1 {
+        return false;
+    }
+    number[at] == number[at + 1] && mask[at] == mask[at + 1]
+}
+
+// How many inputs of a row count.
+pub fn thinned_count(number: &[u8], mask: &[u8]) -> usize
+    requires { ⌜ length (now number) ≡ length (now mask) ⌝ }
+    ensures { λ r. ⌜ r ≡ length (thinned (paired (now (number .entry)) (now (mask .entry)))) ⌝ }
+{
+    let mut n: usize = 0;
+    let mut at: usize = 0;
+    while at < number.len() {
+        if !stands_next(number, mask, at) {
+            n = n + 1;
+        }
+        at = at + 1;
+    }
+    n
+}
+
+// Puts those that count at the front of the row, in their order, and says how many they are. What stands behind them is as it was.
+pub fn thin(number: &mut [u8], mask: &mut [u8]) -> usize
+    requires { ⌜ length (now number) ≡ length (now mask) ⌝ }
+    ensures { λ r.
+        ⌜ Fronted (now (number .entry)) (now (mask .entry)) (thinned (paired (now (number .entry)) (now (mask .entry)))) (now (number .exit))
+        (now (mask .exit)) r ⌝ }
+{
+    let mut kept: usize = 0;
+    let mut at: usize = 0;
+    while at < number.len() {
+        if !stands_next(number, mask, at) {
+            number[kept] = number[at];
+            mask[kept] = mask[at];
+            kept = kept + 1;
+        }
+        at = at + 1;
+    }
+    kept
+}
