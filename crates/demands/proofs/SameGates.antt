@@ -13,7 +13,7 @@ use Rattle.lists.specs.Counting.{truth, countTrue}
 use Rattle.ordering.specs.Inputs.{Input, noInput}
 use Rattle.rules.specs.Limits.{mostTests, mostGateInputs}
 use Rattle.study.specs.declared.Gate.{Gate}
-use Rattle.gate_order.specs.Order.{unmasked, testsOf, gateInputsOf}
+use Rattle.gate_order.specs.Inputs.{unmasked, testsOf, gateInputsOf}
 use Rattle.gate_order.proofs.InOrder.{Fits}
 use Rattle.gate_order.proofs.Kept.{testAt, test-at, gate-input-at}
 use Rattle.gate_order.proofs.Summed.{tests-summed, gate-inputs-summed}

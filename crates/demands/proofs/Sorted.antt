@@ -17,7 +17,8 @@ use Rattle.study.specs.declared.Gate.{Gate}
 use Rattle.study.specs.declared.Study.{Study}
 use Rattle.study.specs.Joint.{stateCounts}
 use Rattle.study.specs.Places.{Shaped, noGate, gateAt}
-use Rattle.gate_order.specs.Order.{testsOf, gateInputsOf, InOrder, inOrder, ordered}
+use Rattle.gate_order.specs.Inputs.{testsOf, gateInputsOf}
+use Rattle.gate_order.specs.Order.{InOrder, inOrder, ordered}
 use Rattle.gate_order.proofs.InOrder.{Fits, unmasked-none, tests-long, tests-alike, gate-inputs-alike}
 use Rattle.gate_order.proofs.Kept.{test-at}
 use Rattle.answers.specs.declared.outcome.Outcome.the-variants.{Done}

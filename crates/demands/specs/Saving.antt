@@ -9,7 +9,8 @@ use Rattle.rules.specs.Limits.{longestStudy, mostGates}
 use Rattle.study.specs.declared.Gate.{Gate}
 use Rattle.study.specs.declared.Study.{Study}
 use Rattle.study.specs.Places.{Shaped, gateAt}
-use Rattle.gate_order.specs.Order.{testsOf, gateInputsOf, InOrder}
+use Rattle.gate_order.specs.Inputs.{testsOf, gateInputsOf}
+use Rattle.gate_order.specs.Order.{InOrder}
 use Rattle.study_bytes.specs.Written.{studyBytes}
 use Rattle.answers.specs.declared.counts.CountAnswer.the-variants.{Count}
 use Rattle.answers.specs.declared.outcome.Outcome.the-variants.{Done}

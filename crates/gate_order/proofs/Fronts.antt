@@ -12,7 +12,7 @@ use Rattle.ordering.specs.Inputs.{Input, paired, numbers, masks, Hold, sorted}
 use Rattle.ordering.proofs.Pairs.{paired-take, paired-long, paired-unmasked}
 use Rattle.ordering.proofs.Sorted.{sorted-long}
 use Rattle.rules.specs.Limits.{mostGateInputs}
-use Rattle.gate_order.specs.Order.{unmasked, noMasks}
+use Rattle.gate_order.specs.Inputs.{unmasked, noMasks}
 
 take-within : {A : Type 0} (n : ℕ) (l : List A) → take (min n (length l)) l ≡ take n l
 take-within {A} n l = go (decLe n (length l))

@@ -14,7 +14,8 @@ use Rattle.ordering.proofs.Sorted.{sorted-alike, sorted-long, sorted-every, sor
 use Rattle.rules.specs.Limits.{mostTests, mostGateInputs}
 use Rattle.study.specs.declared.Gate.{Gate}
 use Rattle.study.specs.Places.{ShapedGate}
-use Rattle.gate_order.specs.Order.{unmasked, testsOf, gateInputsOf, InOrder, inOrder}
+use Rattle.gate_order.specs.Inputs.{unmasked, testsOf, gateInputsOf}
+use Rattle.gate_order.specs.Order.{InOrder, inOrder}
 use Rattle.gate_order.proofs.Rows.{tests-written, inputs-written, components-own, masks-own, inputs-own}
 
 -- a gate that has its places, and no more inputs than those

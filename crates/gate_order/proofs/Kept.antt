@@ -12,7 +12,8 @@ use Rattle.ordering.specs.Inputs.{Input, noInput, paired, numbers, masks, sorte
 use Rattle.ordering.proofs.Pairs.{getD-paired}
 use Rattle.ordering.proofs.Sorted.{sorted-long, sorted-every}
 use Rattle.study.specs.declared.Gate.{Gate}
-use Rattle.gate_order.specs.Order.{unmasked, testsOf, gateInputsOf, inOrder}
+use Rattle.gate_order.specs.Inputs.{unmasked, testsOf, gateInputsOf}
+use Rattle.gate_order.specs.Order.{inOrder}
 use Rattle.gate_order.proofs.InOrder.{Fits, tests-long, gate-inputs-long, tests-sorted, gate-inputs-sorted, in-order-fits}
 
 -- test j of a gate

@@ -10,7 +10,7 @@ use Rattle.lists.specs.Rows.{put}
 use Rattle.lists.proofs.Elements.{Every}
 use Rattle.ordering.specs.Inputs.{Input, noInput, paired, numbers, masks}
 use Rattle.ordering.proofs.Pairs.{parted-paired, paired-numbers, paired-masks, paired-take}
-use Rattle.gate_order.specs.Order.{unmasked}
+use Rattle.gate_order.specs.Inputs.{unmasked}
 
 -- rows of which the fronts have one length
 paired-append : (x y r s : List ℕ) → length x ≡ length y → paired (x ++ r) (y ++ s) ≡ paired x y ++ paired r s

@@ -11,7 +11,7 @@ use Rattle.lists.proofs.Adding.{add-next}
 use Rattle.lists.proofs.SumBelow.{sum-alike}
 use Rattle.ordering.specs.Inputs.{Input, noInput}
 use Rattle.study.specs.declared.Gate.{Gate}
-use Rattle.gate_order.specs.Order.{unmasked, testsOf, gateInputsOf}
+use Rattle.gate_order.specs.Inputs.{unmasked, testsOf, gateInputsOf}
 use Rattle.gate_order.proofs.InOrder.{Fits, tests-long, gate-inputs-long}
 use Rattle.gate_order.proofs.Kept.{testAt, test-at, gate-input-at}
 

@@ -1,29 +1,13 @@
 -- The order of a gate's inputs: tests ascend by component, then by mask, and gate inputs ascend. Unused places stay behind them.
 use Prim.Native.Nat.{ℕ}
-use mathlib.Core.List.{List, map}
-use lib.ListN.{take, replicate}
+use mathlib.Core.List.{map}
 use Rattle.lists.specs.Rows.{put}
-use Rattle.ordering.specs.Inputs.{Input, paired, numbers, masks, Ascending, sorted, ascends}
+use Rattle.ordering.specs.Inputs.{paired, numbers, masks, Ascending, sorted, ascends}
 use Rattle.rules.specs.Breach.{first}
-use Rattle.rules.specs.Limits.{mostGateInputs}
 use Rattle.rules.specs.Table.{unsoundFault}
 use Rattle.study.specs.declared.Gate.{Gate}
 use Rattle.study.specs.declared.Study.{Study}
-
--- the tests of a gate, as they stand
-abbrev pub testsOf : Gate → List Input
-testsOf g = take (g .tests) (paired (g .component) (g .mask))
-
--- its gate inputs, as they stand
-abbrev pub unmasked : ℕ → Input
-unmasked n = record { number = n; mask = 0 }
-
-abbrev pub gateInputsOf : Gate → List Input
-gateInputsOf g = take (g .gates) (map unmasked (g .input))
-
--- the masks of gate inputs, as a row beside them
-unfoldable pub noMasks : List ℕ
-noMasks = replicate mostGateInputs 0
+use Rattle.gate_order.specs.Inputs.{testsOf, gateInputsOf}
 
 -- the inputs of a gate stand in order
 pub record InOrder (g : Gate) : Type 0 where

@@ -9,7 +9,7 @@ ghost use lib.ListN.{length, take};
 ghost use Rattle.lists.specs.Rows.{put};
 ghost use Rattle.rules.specs.Limits.{mostGateInputs};
 ghost use Rattle.ordering.specs.Inputs.{numbers, sorted, ascends as Inputs·ascends};
-ghost use Rattle.gate_order.specs.Order.{unmasked, noMasks};
+ghost use Rattle.gate_order.specs.Inputs.{unmasked, noMasks};
 
 // A row of masks for all places.
 fn no_masks() -> [u8; INPUT_PLACES]
