@@ -1,16 +1,19 @@
 -- The front part of the places that the code lends: as many as the count says, and no more than there are. It is the row of inputs that the count means.
 use Prim.Native.Nat.{ℕ, min, _+_, _≤_}
 use mathlib.Core.Path.{_≡_, sym, ap, _∙_}
-use mathlib.Core.List.{List, _++_, map}
+use mathlib.Core.List.{List, _++_, map, append-assoc}
 use native.Mathlib.Nat.{min-eq-left, min-eq-right, zero-add}
 use native.Mathlib.Decide.{decLe}
 use native.Mathlib.Omega.{arith}
-use lib.ListN.{length, take, drop, replicate, length-map}
-use lib.Seq.{take-all, length-take-le}
+use lib.ListN.{length, take, drop, replicate, length-map, take-append-drop}
+use lib.Seq.{take-all, length-take-le, drop-append-le}
 use Rattle.lists.specs.Rows.{put}
+use Rattle.lists.proofs.Puts.{put-whole}
+use Rattle.ordering.specs.Distinct.{thinned, Fronted}
 use Rattle.ordering.specs.Inputs.{Input, paired, numbers, masks, Hold, sorted}
 use Rattle.ordering.proofs.Pairs.{paired-take, paired-long, paired-unmasked}
 use Rattle.ordering.proofs.Sorted.{sorted-long}
+use Rattle.ordering.proofs.Thinned.{thinned-most}
 use Rattle.rules.specs.Limits.{mostGateInputs}
 use Rattle.gate_order.specs.Inputs.{unmasked, noMasks}
 
@@ -37,30 +40,48 @@ module _ (count size k : ℕ) (within : k ≡ min count size) where
   pub tests-front : (c m : List ℕ) → length c ≡ size → length m ≡ size → paired (take k c) (take k m) ≡ take count (paired c m)
   tests-front c m long long′ = paired-take k c m ∙ take-front (paired c m) (paired-long c m (long ∙ sym long′) ∙ long)
 
-  -- a front part anew
-  front-put : (l x : List ℕ) → length x ≡ k → x ++ drop k l ≡ put l 0 x
+  -- what is put at the front of a front part is put at the front of the whole
+  part-put : (l x y : List ℕ) → length l ≡ size → length y ≤ k → x ≡ put (take k l) 0 y → x ++ drop k l ≡ put l 0 y
   unfolding put
-  front-put l x long = ap (λ (n : ℕ). x ++ drop n l) (sym long ∙ sym (zero-add (length x)))
+  part-put l x y long few put-there =
+      let inside : length y ≤ length (take k l) = omega (arith, few, front-long l long) in
+      let behind : drop (length y) (take k l) ++ drop k l ≡ drop (length y) l =
+      sym (drop-append-le (length y) (take k l) (drop k l) inside) ∙ ap (drop (length y)) (take-append-drop k l) in
+      rw (put-there, zero-add) (append-assoc y (drop (length y) (take k l)) (drop k l) ∙ ap (λ (r : List ℕ). y ++ r) behind)
 
-  -- the front parts of two rows sorted, where they are a row of inputs side by side
-  module _ (c m x y : List ℕ) (row : List Input) (long : length c ≡ size) (long′ : length m ≡ size) (same : paired (take k c) (take k m) ≡ row)
-      (sorts : Hold x y (sorted (paired (take k c) (take k m)))) where
-    row-long : length (sorted row) ≡ k
-    row-long =
-        sorted-long row
-        ∙ ap length (sym same)
-        ∙ paired-long (take k c) (take k m) (fronts-long c m long long′)
-        ∙ sym (front-long c long)
+  -- two rows whose front parts are a row of inputs side by side
+  module _ (c m x y : List ℕ) (row : List Input) (long : length c ≡ size) (long′ : length m ≡ size) (same : paired (take k c) (take k m) ≡ row) where
+    row-long : length row ≡ k
+    row-long = ap length (sym same) ∙ paired-long (take k c) (take k m) (fronts-long c m long long′) ∙ sym (front-long c long)
 
-    pub numbers-front : x ++ drop k c ≡ put c 0 (numbers (sorted row))
-    numbers-front =
-        let due : x ≡ numbers (sorted row) = sorts .in-numbers ∙ ap (λ (r : List Input). numbers (sorted r)) same in
-        ap (λ (l : List ℕ). l ++ drop k c) due ∙ front-put c (numbers (sorted row)) (length-map (sorted row) (λ (a : Input). a .number) ∙ row-long)
+    part-fronted : (front : List Input) (n : ℕ) → length front ≤ k → Fronted (take k c) (take k m) front x y n → Fronted c m front (x ++ drop k c) (y ++ drop k m) n
+    part-fronted front n few part =
+        record {
+          in-numbers = part-put c x (numbers front) long (omega (arith, few, length-map front (λ (a : Input). a .number))) (part .in-numbers);
+          in-masks = part-put m y (masks front) long′ (omega (arith, few, length-map front (λ (a : Input). a .mask))) (part .in-masks);
+          many = part .many;
+        }
 
-    pub masks-front : y ++ drop k m ≡ put m 0 (masks (sorted row))
-    masks-front =
-        let due : y ≡ masks (sorted row) = sorts .in-masks ∙ ap (λ (r : List Input). masks (sorted r)) same in
-        ap (λ (l : List ℕ). l ++ drop k m) due ∙ front-put m (masks (sorted row)) (length-map (sorted row) (λ (a : Input). a .mask) ∙ row-long)
+    -- sorted
+    pub sorted-front : Hold x y (sorted (paired (take k c) (take k m))) → Fronted c m (sorted row) (x ++ drop k c) (y ++ drop k m) k
+    sorted-front sorts =
+        let all : length (sorted row) ≡ k = sorted-long row ∙ row-long in
+        let held : Hold x y (sorted row) = rw same at sorts in
+        part-fronted (sorted row) k (omega (arith, all))
+        (record {
+          in-numbers =
+              held .in-numbers
+              ∙ sym (put-whole (take k c) (numbers (sorted row)) (length-map (sorted row) (λ (a : Input). a .number) ∙ all ∙ front-long c long));
+          in-masks =
+              held .in-masks
+              ∙ sym (put-whole (take k m) (masks (sorted row)) (length-map (sorted row) (λ (a : Input). a .mask) ∙ all ∙ front-long m long′));
+          many = sym all;
+        })
+
+    -- without those that stand right behind again
+    pub thinned-front : (n : ℕ) → Fronted (take k c) (take k m) (thinned (paired (take k c) (take k m))) x y n
+        → Fronted c m (thinned row) (x ++ drop k c) (y ++ drop k m) n
+    thinned-front n thins = part-fronted (thinned row) n (omega (arith, thinned-most row, row-long)) (rw same at thins)
 
 -- gate inputs, beside masks of 0
 pub inputs-front : (count k : ℕ) → k ≡ min count mostGateInputs → (l : List ℕ) → length l ≡ mostGateInputs

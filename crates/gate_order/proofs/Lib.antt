@@ -1,4 +1,5 @@
 pub mod Checked
+pub mod Counted
 pub mod Fronts
 pub mod InOrder
 pub mod Kept

@@ -1,8 +1,10 @@
--- The inputs of a gate as rows: its tests, and its gate inputs.
-use Prim.Native.Nat.{ℕ}
+-- The inputs of a gate as rows: its tests, and its gate inputs. How many they are, each counted once however often it stands there.
+use Prim.Native.Nat.{ℕ, _+_}
 use mathlib.Core.List.{List, map}
-use lib.ListN.{take, replicate}
-use Rattle.ordering.specs.Inputs.{Input, paired}
+use lib.ListN.{length, take, replicate}
+use Rattle.lists.specs.Rows.{put}
+use Rattle.ordering.specs.Distinct.{distinct, thinned}
+use Rattle.ordering.specs.Inputs.{Input, paired, numbers, masks}
 use Rattle.rules.specs.Limits.{mostGateInputs}
 use Rattle.study.specs.declared.Gate.{Gate}
 
@@ -20,3 +22,28 @@ gateInputsOf g = take (g .gates) (map unmasked (g .input))
 -- the masks of gate inputs, as a row beside them
 unfoldable pub noMasks : List ℕ
 noMasks = replicate mostGateInputs 0
+
+-- how many inputs a gate has, tests and gates together, by which its threshold is judged
+unfoldable pub inputCount : Gate → ℕ
+unfolding paired distinct
+inputCount g = length (distinct (testsOf g)) + length (distinct (gateInputsOf g))
+
+-- ---- how they are worked out, of a gate with its inputs in order
+
+-- how many do not stand right behind again
+unfoldable pub thinnedCount : Gate → ℕ
+unfolding paired thinned
+thinnedCount g = length (thinned (testsOf g)) + length (thinned (gateInputsOf g))
+
+-- a gate with those alone; the places behind them are as they were
+unfoldable pub thinnedGate : Gate → Gate
+unfolding put paired thinned
+thinnedGate g =
+    record {
+      threshold = g .threshold;
+      tests = length (thinned (testsOf g));
+      component = put (g .component) 0 (numbers (thinned (testsOf g)));
+      mask = put (g .mask) 0 (masks (thinned (testsOf g)));
+      gates = length (thinned (gateInputsOf g));
+      input = put (g .input) 0 (numbers (thinned (gateInputsOf g)));
+    }

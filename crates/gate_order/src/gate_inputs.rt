@@ -2,12 +2,15 @@
 use crate::within;
 use ordering::ascends;
 use ordering::sort;
+use ordering::thin;
+use ordering::thinned_count;
 use rules::INPUT_PLACES;
 ghost use mathlib.Core.Path.{_≡_};
 ghost use mathlib.Core.List.{map};
 ghost use lib.ListN.{length, take};
 ghost use Rattle.lists.specs.Rows.{put};
 ghost use Rattle.rules.specs.Limits.{mostGateInputs};
+ghost use Rattle.ordering.specs.Distinct.{thinned};
 ghost use Rattle.ordering.specs.Inputs.{numbers, sorted, ascends as Inputs·ascends};
 ghost use Rattle.gate_order.specs.Inputs.{unmasked, noMasks};
 
@@ -35,4 +38,24 @@ pub fn gate_inputs_ascend(count: u8, input: [u8; INPUT_PLACES]) -> bool
     let n = within(count, INPUT_PLACES);
     let masks = no_masks();
     ascends(&input[..n], &masks[..n])
+}
+
+// How many of the first so many gate inputs do not stand right behind again.
+pub fn gate_inputs_count(count: u8, input: [u8; INPUT_PLACES]) -> usize
+    ensures { λ r. ⌜ r ≡ length (thinned (take count (map unmasked input))) ⌝ }
+{
+    let n = within(count, INPUT_PLACES);
+    let masks = no_masks();
+    thinned_count(&input[..n], &masks[..n])
+}
+
+// Puts those at the front of the places, and says how many they are.
+pub fn thin_gate_inputs(count: u8, input: &mut [u8]) -> usize
+    requires { ⌜ length (now input) ≡ mostGateInputs ⌝ }
+    ensures places { λ r. ⌜ now (input .exit) ≡ put (now (input .entry)) 0 (numbers (thinned (take count (map unmasked (now (input .entry)))))) ⌝ }
+    ensures many { λ r. ⌜ r ≡ length (thinned (take count (map unmasked (now (input .entry))))) ⌝ }
+{
+    let n = within(count, INPUT_PLACES);
+    let mut masks = no_masks();
+    thin(&mut input[..n], &mut masks[..n])
 }

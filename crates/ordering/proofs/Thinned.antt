@@ -138,7 +138,7 @@ pub record Thinning (ns₀ ms₀ ns ms : List ℕ) (kept at : ℕ) : Type 0 wher
   pub numbers-due : Due ns₀ 0 (numbers (thinned (paired ns₀ ms₀))) ns kept (numbers (thinned (drop at (paired ns ms))))
   pub masks-due : Due ms₀ 0 (masks (thinned (paired ns₀ ms₀))) ms kept (masks (thinned (drop at (paired ns ms))))
 
-thinned-most : (row : List Input) → length (thinned row) ≤ length row
+pub thinned-most : (row : List Input) → length (thinned row) ≤ length row
 unfolding thinned
 thinned-most [] = omega arith
 thinned-most (a ∷ row) = go (standsNext a row) (thinned-most row)

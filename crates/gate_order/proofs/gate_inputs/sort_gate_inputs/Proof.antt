@@ -6,7 +6,7 @@ use lib.ListN.{length, take}
 use borrow.Author.Needs.{needs}
 use Rattle.ordering.specs.Inputs.{paired}
 use Rattle.rules.specs.Limits.{mostGateInputs}
-use Rattle.gate_order.proofs.Fronts.{front-long, fronts-long, inputs-front, numbers-front}
+use Rattle.gate_order.proofs.Fronts.{front-long, fronts-long, inputs-front, sorted-front}
 use Rattle.gate_order.proofs.gate_inputs.sort_gate_inputs.Statement.{statement}
 use Rattle.gate_order.proofs.gate_inputs.sort_gate_inputs.Tie as tie
 
@@ -40,7 +40,7 @@ returns c =
     let same =
     ap (λ (l : List _). paired (take (counted .within .result) input) (take (counted .within .result) l)) (unmasked .no-masks .ensures)
     ∙ inputs-front _ _ within input long in
-    numbers-front _ mostGateInputs _ within input masks _ _ _ long long′ same (sorts .sort .ensures)
+    sorted-front _ mostGateInputs _ within input masks _ _ _ long long′ same (sorts .sort .ensures) .in-numbers
 
 pub sort-gate-inputs-spec : {M : Type 1} → statement M
 sort-gate-inputs-spec =

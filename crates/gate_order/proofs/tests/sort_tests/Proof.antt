@@ -1,7 +1,7 @@
 -- `gate_order::tests::sort_tests` meets its contract: the front parts of the places that are lent are the tests (`Fronts`), and come back sorted.
 use borrow.Author.Needs.{needs}
 use Rattle.rules.specs.Limits.{mostTests}
-use Rattle.gate_order.proofs.Fronts.{front-long, fronts-long, tests-front, numbers-front, masks-front}
+use Rattle.gate_order.proofs.Fronts.{front-long, fronts-long, tests-front, sorted-front}
 use Rattle.gate_order.proofs.tests.sort_tests.Statement.{statement}
 use Rattle.gate_order.proofs.tests.sort_tests.Tie as tie
 
@@ -26,10 +26,9 @@ returns c =
     let within = counted .within .ensures in
     let long = start counted .pre .0 in
     let long′ = start counted .pre .1 in
-    let same = tests-front _ mostTests _ within _ _ long long′ in (
-      numbers-front _ mostTests _ within _ _ _ _ _ long long′ same (sorts .sort .ensures),
-      masks-front _ mostTests _ within _ _ _ _ _ long long′ same (sorts .sort .ensures),
-    )
+    let same = tests-front _ mostTests _ within _ _ long long′ in
+    let front = sorted-front _ mostTests _ within _ _ _ _ _ long long′ same (sorts .sort .ensures) in
+    (front .in-numbers, front .in-masks)
 
 pub sort-tests-spec : {M : Type 1} → statement M
 sort-tests-spec =

@@ -1,0 +1,58 @@
+-- `gate_order::gate_inputs::thin_gate_inputs` meets its contract: the front parts of the places that are lent are the gate inputs, with no masks (`Fronts`),
+-- and come back thinned.
+use mathlib.Core.Path.{_≡_, ap, _∙_}
+use mathlib.Core.List.{List}
+use lib.ListN.{length, take}
+use borrow.Author.Needs.{needs}
+use Rattle.ordering.specs.Inputs.{paired}
+use Rattle.rules.specs.Limits.{mostGateInputs}
+use Rattle.gate_order.proofs.Fronts.{front-long, fronts-long, inputs-front, thinned-front}
+use Rattle.gate_order.proofs.gate_inputs.thin_gate_inputs.Statement.{statement}
+use Rattle.gate_order.proofs.gate_inputs.thin_gate_inputs.Tie as tie
+
+abbrev start : tie.After-within → tie.Start
+start c = c .before .before
+
+slice-aggregate-thin : tie.Need-slice-aggregate-thin
+slice-aggregate-thin c = let counted = c .before .before in front-long _ mostGateInputs _ (counted .within .ensures) _ (start counted .pre)
+
+slice-aggregate-thin-2 : tie.Need-slice-aggregate-thin-2
+slice-aggregate-thin-2 c =
+    let unmasked = c .before .before in
+    front-long _ mostGateInputs _ (unmasked .before .within .ensures) (unmasked .no-masks .result) (search needs)
+
+thin-requires : tie.Need-thin-requires
+thin-requires c κs =
+    let unmasked = c .before .before in
+    let counted = unmasked .before in
+    fronts-long _ mostGateInputs _ (counted .within .ensures) _ (unmasked .no-masks .result) (start counted .pre) (search needs)
+
+returns : tie.Need-returns
+returns c =
+    let thins = c .before .before .before in
+    let unmasked = thins .before .before .before in
+    let counted = unmasked .before in
+    let input = start counted .args .input .now in
+    let masks = unmasked .no-masks .result in
+    let within = counted .within .ensures in
+    let long = start counted .pre in
+    let long′ : length masks ≡ mostGateInputs = search needs in
+    let same =
+    ap (λ (l : List _). paired (take (counted .within .result) input) (take (counted .within .result) l)) (unmasked .no-masks .ensures)
+    ∙ inputs-front _ _ within input long in
+    let front = thinned-front _ mostGateInputs _ within input masks _ _ _ long long′ same _ (thins .thin .ensures) in
+    (front .in-numbers, front .many)
+
+pub thin-gate-inputs-spec : {M : Type 1} → statement M
+thin-gate-inputs-spec =
+    tie.close
+    (tie.spec
+    (λ c κs. search needs)
+    (λ c κs. search needs)
+    (λ c. search needs)
+    slice-aggregate-thin
+    (λ c. search needs)
+    slice-aggregate-thin-2
+    thin-requires
+    (λ c. search needs)
+    returns)
