@@ -2,29 +2,20 @@
 use Prim.Native.Nat.{ℕ, min, _+_, _≤_}
 use mathlib.Core.Path.{_≡_, sym, ap, _∙_}
 use mathlib.Core.List.{List, _++_, map, append-assoc}
-use native.Mathlib.Nat.{min-eq-left, min-eq-right, zero-add}
-use native.Mathlib.Decide.{decLe}
+use native.Mathlib.Nat.{zero-add}
 use native.Mathlib.Omega.{arith}
 use lib.ListN.{length, take, drop, replicate, length-map, take-append-drop}
-use lib.Seq.{take-all, length-take-le, drop-append-le}
+use lib.Seq.{length-take-le, drop-append-le}
 use Rattle.lists.specs.Rows.{put}
 use Rattle.lists.proofs.Puts.{put-whole}
-use Rattle.ordering.specs.Distinct.{thinned, Fronted}
+use Rattle.ordering.specs.Distinct.{distinct, Fronted}
 use Rattle.ordering.specs.Inputs.{Input, paired, numbers, masks, Hold, sorted}
 use Rattle.ordering.proofs.Pairs.{paired-take, paired-long, paired-unmasked}
+use Rattle.ordering.proofs.Sets.{distinct-most}
 use Rattle.ordering.proofs.Sorted.{sorted-long}
-use Rattle.ordering.proofs.Thinned.{thinned-most}
 use Rattle.rules.specs.Limits.{mostGateInputs}
 use Rattle.gate_order.specs.Inputs.{unmasked, noMasks}
-
-take-within : {A : Type 0} (n : ℕ) (l : List A) → take (min n (length l)) l ≡ take n l
-take-within {A} n l = go (decLe n (length l))
-  where
-    go : Dec (n ≤ length l) → take (min n (length l)) l ≡ take n l
-    go (yes few) = ap (λ (k : ℕ). take k l) (min-eq-left few)
-    go (no more) =
-        let fewer : length l ≤ n = omega arith in
-        ap (λ (k : ℕ). take k l) (min-eq-right fewer) ∙ take-all (length l) l (omega arith) ∙ sym (take-all n l (omega arith))
+use Rattle.gate_order.proofs.Rows.{take-within}
 
 module _ (count size k : ℕ) (within : k ≡ min count size) where
   -- such a part has so many elements
@@ -78,10 +69,10 @@ module _ (count size k : ℕ) (within : k ≡ min count size) where
           many = sym all;
         })
 
-    -- without those that stand right behind again
-    pub thinned-front : (n : ℕ) → Fronted (take k c) (take k m) (thinned (paired (take k c) (take k m))) x y n
-        → Fronted c m (thinned row) (x ++ drop k c) (y ++ drop k m) n
-    thinned-front n thins = part-fronted (thinned row) n (omega (arith, thinned-most row, row-long)) (rw same at thins)
+    -- the distinct ones
+    pub distinct-front : (n : ℕ) → Fronted (take k c) (take k m) (distinct (paired (take k c) (take k m))) x y n
+        → Fronted c m (distinct row) (x ++ drop k c) (y ++ drop k m) n
+    distinct-front n keeps = part-fronted (distinct row) n (omega (arith, distinct-most row, row-long)) (rw same at keeps)
 
 -- gate inputs, beside masks of 0
 pub inputs-front : (count k : ℕ) → k ≡ min count mostGateInputs → (l : List ℕ) → length l ≡ mostGateInputs

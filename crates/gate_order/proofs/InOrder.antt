@@ -1,22 +1,22 @@
--- What putting the inputs of a gate in order comes to: they stand sorted, so they ascend and are the same inputs; a gate in order stays as it is.
-use Prim.Native.Nat.{ℕ, zero, suc, _+_, _≤_}
-use mathlib.Core.Path.{_≡_, refl, sym, ap, subst, _∙_}
+-- What putting the inputs of a gate in order comes to: they stand sorted, so they ascend and are the same inputs, as many of them distinct; a gate in order
+-- stays as it is.
+use Prim.Native.Nat.{ℕ, zero, suc, min, _+_, _≤_}
+use mathlib.Core.Path.{_≡_, refl, sym, ap, ap₂, subst, _∙_}
 use mathlib.Core.List.{List, [], _∷_, map}
 use native.Mathlib.Omega.{arith}
-use lib.ListN.{length, take, length-map}
-use lib.Seq.{length-take-le}
+use lib.ListN.{length, take, length-map, length-take}
 use Rattle.lists.specs.Rows.{put}
 use Rattle.lists.proofs.Elements.{Every}
-use Rattle.lists.proofs.Puts.{put-size}
 use Rattle.ordering.specs.Inputs.{Input, noInput, paired, numbers, masks, Ascending, Alike, sorted}
 use Rattle.ordering.proofs.Pairs.{paired-long}
-use Rattle.ordering.proofs.Sorted.{sorted-alike, sorted-long, sorted-every, sorted-ascends, sorted-still}
+use Rattle.ordering.proofs.Sets.{distinct-alike}
+use Rattle.ordering.proofs.Sorted.{sorted-alike, alike-long, sorted-long, sorted-every, sorted-ascends, sorted-still}
 use Rattle.rules.specs.Limits.{mostTests, mostGateInputs}
 use Rattle.study.specs.declared.Gate.{Gate}
 use Rattle.study.specs.Places.{ShapedGate}
-use Rattle.gate_order.specs.Inputs.{unmasked, testsOf, gateInputsOf}
+use Rattle.gate_order.specs.Inputs.{unmasked, testsOf, gateInputsOf, inputCount}
 use Rattle.gate_order.specs.Order.{InOrder, inOrder}
-use Rattle.gate_order.proofs.Rows.{tests-written, inputs-written, components-own, masks-own, inputs-own}
+use Rattle.gate_order.proofs.Rows.{written-long, tests-written, inputs-written, components-own, masks-own, inputs-own}
 
 -- a gate that has its places, and no more inputs than those
 pub record Fits (g : Gate) : Type 0 where
@@ -31,27 +31,27 @@ unmasked-none [] (suc n) k h = absurd (omega arith)
 unmasked-none (a ∷ l) (suc n) zero h = refl
 unmasked-none (a ∷ l) (suc n) (suc k) h = unmasked-none l n k (native.Mathlib.Nat.le-of-suc-le-suc h)
 
-module _ (g : Gate) (fits : Fits g) where
+module _ (g : Gate) (shaped : ShapedGate g) where
   one-length : length (g .component) ≡ length (g .mask)
-  one-length = fits .shaped .component ∙ sym (fits .shaped .mask)
+  one-length = shaped .component ∙ sym (shaped .mask)
 
-  pub tests-long : length (testsOf g) ≡ g .tests
-  tests-long =
-      length-take-le (g .tests) (paired (g .component) (g .mask)) (rw (paired-long (g .component) (g .mask) one-length, fits .shaped .component) (fits .tests))
+  -- as many as the count says, and no more than there are places
+  tests-within : length (testsOf g) ≡ min (g .tests) (length (g .component))
+  tests-within = length-take (g .tests) (paired (g .component) (g .mask)) ∙ ap (min (g .tests)) (paired-long (g .component) (g .mask) one-length)
 
-  pub gate-inputs-long : length (gateInputsOf g) ≡ g .gates
-  gate-inputs-long = length-take-le (g .gates) (map unmasked (g .input)) (rw (length-map (g .input) unmasked, fits .shaped .input) (fits .gates))
+  gate-inputs-within : length (gateInputsOf g) ≡ min (g .gates) (length (g .input))
+  gate-inputs-within = length-take (g .gates) (map unmasked (g .input)) ∙ ap (min (g .gates)) (length-map (g .input) unmasked)
 
   -- ---- they stand sorted
 
   pub tests-sorted : testsOf (inOrder g) ≡ sorted (testsOf g)
   unfolding inOrder
-  tests-sorted = tests-written (g .component) (g .mask) (g .tests) (sorted (testsOf g)) (sorted-long (testsOf g) ∙ tests-long)
+  tests-sorted = tests-written (g .component) (g .mask) (g .tests) (sorted (testsOf g)) one-length (sorted-long (testsOf g) ∙ tests-within)
 
   pub gate-inputs-sorted : gateInputsOf (inOrder g) ≡ sorted (gateInputsOf g)
   unfolding inOrder
   gate-inputs-sorted =
-      inputs-written (g .input) (g .gates) (sorted (gateInputsOf g)) (sorted-long (gateInputsOf g) ∙ gate-inputs-long)
+      inputs-written (g .input) (g .gates) (sorted (gateInputsOf g)) (sorted-long (gateInputsOf g) ∙ gate-inputs-within)
       (sorted-every (λ (a : Input). a .mask ≡ 0) (gateInputsOf g) (unmasked-none (g .input) (g .gates)))
 
   pub tests-alike : Alike (testsOf (inOrder g)) (testsOf g)
@@ -67,40 +67,49 @@ module _ (g : Gate) (fits : Fits g) where
         gate-inputs = subst Ascending (sym gate-inputs-sorted) (sorted-ascends (gateInputsOf g));
       }
 
+  -- the distinct ones are as many
+  pub count-in-order : inputCount (inOrder g) ≡ inputCount g
+  unfolding inputCount
+  count-in-order =
+      ap₂ (λ (m n : ℕ). m + n)
+      (alike-long _ _ (distinct-alike (testsOf (inOrder g)) (testsOf g) tests-alike))
+      (alike-long _ _ (distinct-alike (gateInputsOf (inOrder g)) (gateInputsOf g) gate-inputs-alike))
+
   -- ---- the places stay
 
-  numbers-long : (row : List Input) → length (numbers row) ≡ length row
-  numbers-long row = length-map row (λ (a : Input). a .number)
+  tests-few : length (sorted (testsOf g)) ≤ length (g .component)
+  tests-few = omega (arith, sorted-long (testsOf g), tests-within)
 
-  masks-long : (row : List Input) → length (masks row) ≡ length row
-  masks-long row = length-map row (λ (a : Input). a .mask)
-
-  -- what is put at the front of the places
-  tests-few : 0 + length (sorted (testsOf g)) ≤ mostTests
-  tests-few = omega (arith, sorted-long (testsOf g), tests-long, fits .tests)
-
-  gate-inputs-few : 0 + length (sorted (gateInputsOf g)) ≤ mostGateInputs
-  gate-inputs-few = omega (arith, sorted-long (gateInputsOf g), gate-inputs-long, fits .gates)
+  gate-inputs-few : length (sorted (gateInputsOf g)) ≤ length (g .input)
+  gate-inputs-few = omega (arith, sorted-long (gateInputsOf g), gate-inputs-within)
 
   pub in-order-shaped : ShapedGate (inOrder g)
   unfolding inOrder
   in-order-shaped =
       record {
         component =
-            put-size (g .component) _ 0 (numbers (sorted (testsOf g))) (rw (numbers-long (sorted (testsOf g)), fits .shaped .component) tests-few) refl
-            ∙ fits .shaped .component;
+            written-long (g .component) (numbers (sorted (testsOf g))) (omega (arith, tests-few, length-map (sorted (testsOf g)) (λ (a : Input). a .number)))
+            ∙ shaped .component;
         mask =
-            put-size (g .mask) _ 0 (masks (sorted (testsOf g))) (rw (masks-long (sorted (testsOf g)), fits .shaped .mask) tests-few) refl
-            ∙ fits .shaped .mask;
+            written-long (g .mask) (masks (sorted (testsOf g)))
+            (omega (arith, tests-few, one-length, length-map (sorted (testsOf g)) (λ (a : Input). a .mask)))
+            ∙ shaped .mask;
         input =
-            put-size (g .input) _ 0 (numbers (sorted (gateInputsOf g)))
-            (rw (numbers-long (sorted (gateInputsOf g)), fits .shaped .input) gate-inputs-few) refl
-            ∙ fits .shaped .input;
+            written-long (g .input) (numbers (sorted (gateInputsOf g)))
+            (omega (arith, gate-inputs-few, length-map (sorted (gateInputsOf g)) (λ (a : Input). a .number)))
+            ∙ shaped .input;
       }
+
+module _ (g : Gate) (fits : Fits g) where
+  pub tests-long : length (testsOf g) ≡ g .tests
+  tests-long = omega (arith, tests-within g (fits .shaped), fits .tests, fits .shaped .component)
+
+  pub gate-inputs-long : length (gateInputsOf g) ≡ g .gates
+  gate-inputs-long = omega (arith, gate-inputs-within g (fits .shaped), fits .gates, fits .shaped .input)
 
   pub in-order-fits : Fits (inOrder g)
   unfolding inOrder
-  in-order-fits = record { shaped = in-order-shaped; tests = fits .tests; gates = fits .gates }
+  in-order-fits = record { shaped = in-order-shaped g (fits .shaped); tests = fits .tests; gates = fits .gates }
 
   -- ---- a gate in order stays as it is
 
@@ -110,9 +119,9 @@ module _ (g : Gate) (fits : Fits g) where
       let room : g .tests ≤ length (g .component) = rw (fits .shaped .component) (fits .tests) in
       let tests = sorted-still (testsOf g) (order .tests) in
       let component =
-      ap (λ (row : List Input). put (g .component) 0 (numbers row)) tests ∙ components-own (g .component) (g .mask) (g .tests) one-length room in
+      ap (λ (row : List Input). put (g .component) 0 (numbers row)) tests ∙ components-own (g .component) (g .mask) (g .tests) (one-length g (fits .shaped)) room in
       let mask =
-      ap (λ (row : List Input). put (g .mask) 0 (masks row)) tests ∙ masks-own (g .component) (g .mask) (g .tests) one-length room in
+      ap (λ (row : List Input). put (g .mask) 0 (masks row)) tests ∙ masks-own (g .component) (g .mask) (g .tests) (one-length g (fits .shaped)) room in
       let input =
       ap (λ (row : List Input). put (g .input) 0 (numbers row)) (sorted-still (gateInputsOf g) (order .gate-inputs))
       ∙ inputs-own (g .input) (g .gates) (rw (fits .shaped .input) (fits .gates)) in

@@ -39,7 +39,7 @@ module _ (P : Input → Type 0) (g : Gate) (fits : Fits g) where
       λ k inside. let less : k < g .tests = omega (arith, tests-long g fits) in subst P (sym (test-at g fits k less)) (each k less) in
       let sorts = sorted-every P (testsOf g) rows in
       let inside : j < length (sorted (testsOf g)) = omega (arith, below, sorted-long (testsOf g), tests-long g fits) in
-      let here = ap (λ (row : _). getD row j noInput) (sym (tests-sorted g fits)) ∙ test-at (inOrder g) (in-order-fits g fits) j below in
+      let here = ap (λ (row : _). getD row j noInput) (sym (tests-sorted g (fits .shaped))) ∙ test-at (inOrder g) (in-order-fits g fits) j below in
       subst P here (sorts j inside)
 
   pub gate-inputs-every : ((j : ℕ) → j < g .gates → P (unmasked (getD (g .input) j 0))) → (j : ℕ) → j < g .gates → P (unmasked (getD (inOrder g .input) j 0))
@@ -49,7 +49,7 @@ module _ (P : Input → Type 0) (g : Gate) (fits : Fits g) where
       λ k inside. let less : k < g .gates = omega (arith, gate-inputs-long g fits) in subst P (sym (gate-input-at g fits k less)) (each k less) in
       let sorts = sorted-every P (gateInputsOf g) rows in
       let inside : j < length (sorted (gateInputsOf g)) = omega (arith, below, sorted-long (gateInputsOf g), gate-inputs-long g fits) in
-      let here = ap (λ (row : _). getD row j noInput) (sym (gate-inputs-sorted g fits)) ∙ gate-input-at (inOrder g) (in-order-fits g fits) j below in
+      let here = ap (λ (row : _). getD row j noInput) (sym (gate-inputs-sorted g (fits .shaped))) ∙ gate-input-at (inOrder g) (in-order-fits g fits) j below in
       subst P here (sorts j inside)
 
 module _ (g : Gate) (fits : Fits g) (j : ℕ) where

@@ -1,5 +1,4 @@
 pub mod Checked
-pub mod Counted
 pub mod Fronts
 pub mod InOrder
 pub mod Kept

@@ -2,14 +2,16 @@
 use Prim.Native.Nat.{ℕ, zero, suc, min, _+_, _≤_}
 use mathlib.Core.Path.{_≡_, refl, sym, ap, _∙_}
 use mathlib.Core.List.{List, [], _∷_, _++_, map}
-use native.Mathlib.Nat.{zero-add}
+use native.Mathlib.Nat.{min-eq-left, min-eq-right, zero-add}
+use native.Mathlib.Decide.{decLe}
 use native.Mathlib.Omega.{arith}
 use lib.ListN.{length, take, drop, length-map, length-take, take-append-drop}
-use lib.Seq.{take-at, length-take-le}
+use lib.Seq.{take-all, take-at, length-take-le}
 use Rattle.lists.specs.Rows.{put}
 use Rattle.lists.proofs.Elements.{Every}
+use Rattle.lists.proofs.Puts.{put-size}
 use Rattle.ordering.specs.Inputs.{Input, noInput, paired, numbers, masks}
-use Rattle.ordering.proofs.Pairs.{parted-paired, paired-numbers, paired-masks, paired-take}
+use Rattle.ordering.proofs.Pairs.{parted-paired, paired-numbers, paired-masks, paired-take, paired-long}
 use Rattle.gate_order.specs.Inputs.{unmasked}
 
 -- rows of which the fronts have one length
@@ -30,13 +32,41 @@ long row = length-map row (λ (a : Input). a .number) ∙ sym (length-map row (�
 paired-parted : (row : List Input) → length (paired (numbers row) (masks row)) ≡ length row
 paired-parted row = ap length (parted-paired row)
 
+-- no more is taken than there is
+pub take-within : {A : Type 0} (n : ℕ) (l : List A) → take (min n (length l)) l ≡ take n l
+take-within {A} n l = go (decLe n (length l))
+  where
+    go : Dec (n ≤ length l) → take (min n (length l)) l ≡ take n l
+    go (yes few) = ap (λ (k : ℕ). take k l) (min-eq-left few)
+    go (no more) =
+        let fewer : length l ≤ n = omega arith in
+        ap (λ (k : ℕ). take k l) (min-eq-right fewer) ∙ take-all (length l) l (omega arith) ∙ sym (take-all n l (omega arith))
+
+-- so a row in front of as many places as are taken is what is taken
+front-taken : (n size : ℕ) (l row : List Input) → length l ≡ size → length row ≡ min n size → take (length row) l ≡ row → take n l ≡ row
+front-taken n size l row long e first = sym (take-within n l) ∙ ap (λ (k : ℕ). take k l) (ap (min n) long ∙ sym e) ∙ first
+
+-- the places stay as many
+pub written-long : (l x : List ℕ) → length x ≤ length l → length (put l 0 x) ≡ length l
+written-long l x few = put-size l (put l 0 x) 0 x (omega (arith, few)) refl
+
 -- tests written over the front
-pub tests-written : (c m : List ℕ) (n : ℕ) (row : List Input) → length row ≡ n → take n (paired (put c 0 (numbers row)) (put m 0 (masks row))) ≡ row
+tests-first : (c m : List ℕ) (row : List Input) → take (length row) (paired (put c 0 (numbers row)) (put m 0 (masks row))) ≡ row
 unfolding put
-tests-written c m n row e =
-    ap (take n) (paired-append (numbers row) (masks row) _ _ (long row))
-    ∙ take-at (paired (numbers row) (masks row)) _ n (paired-parted row ∙ e)
+tests-first c m row =
+    ap (take (length row)) (paired-append (numbers row) (masks row) _ _ (long row))
+    ∙ take-at (paired (numbers row) (masks row)) _ (length row) (paired-parted row)
     ∙ parted-paired row
+
+pub tests-written : (c m : List ℕ) (n : ℕ) (row : List Input) → length c ≡ length m → length row ≡ min n (length c)
+    → take n (paired (put c 0 (numbers row)) (put m 0 (masks row))) ≡ row
+tests-written c m n row same e =
+    let numbers-long = length-map row (λ (a : Input). a .number) in
+    let masks-long = length-map row (λ (a : Input). a .mask) in
+    let c-long = written-long c (numbers row) (omega (arith, numbers-long, e)) in
+    let m-long = written-long m (masks row) (omega (arith, masks-long, e, same)) in
+    front-taken n (length c) (paired (put c 0 (numbers row)) (put m 0 (masks row))) row
+    (paired-long (put c 0 (numbers row)) (put m 0 (masks row)) (c-long ∙ same ∙ sym m-long) ∙ c-long) e (tests-first c m row)
 
 -- gate inputs have no mask
 numbers-unmasked : (row : List Input) → Every (λ (a : Input). a .mask ≡ 0) noInput row → map unmasked (numbers row) ≡ row
@@ -48,13 +78,19 @@ numbers-unmasked (a ∷ row) none =
     λ i. first i ∷ rest i
 
 -- gate inputs written over the front
-pub inputs-written : (l : List ℕ) (n : ℕ) (row : List Input) → length row ≡ n → Every (λ (a : Input). a .mask ≡ 0) noInput row
-    → take n (map unmasked (put l 0 (numbers row))) ≡ row
+inputs-first : (l : List ℕ) (row : List Input) → Every (λ (a : Input). a .mask ≡ 0) noInput row → take (length row) (map unmasked (put l 0 (numbers row))) ≡ row
 unfolding put
-inputs-written l n row e none =
-    ap (take n) (map-append (numbers row) _)
-    ∙ take-at (map unmasked (numbers row)) _ n (ap length (numbers-unmasked row none) ∙ e)
+inputs-first l row none =
+    ap (take (length row)) (map-append (numbers row) _)
+    ∙ take-at (map unmasked (numbers row)) _ (length row) (ap length (numbers-unmasked row none))
     ∙ numbers-unmasked row none
+
+pub inputs-written : (l : List ℕ) (n : ℕ) (row : List Input) → length row ≡ min n (length l) → Every (λ (a : Input). a .mask ≡ 0) noInput row
+    → take n (map unmasked (put l 0 (numbers row))) ≡ row
+inputs-written l n row e none =
+    let numbers-long = length-map row (λ (a : Input). a .number) in
+    front-taken n (length l) (map unmasked (put l 0 (numbers row))) row
+    (length-map (put l 0 (numbers row)) unmasked ∙ written-long l (numbers row) (omega (arith, numbers-long, e))) e (inputs-first l row none)
 
 -- ---- what stands at the front already
 

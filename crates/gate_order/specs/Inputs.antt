@@ -3,7 +3,7 @@ use Prim.Native.Nat.{ℕ, _+_}
 use mathlib.Core.List.{List, map}
 use lib.ListN.{length, take, replicate}
 use Rattle.lists.specs.Rows.{put}
-use Rattle.ordering.specs.Distinct.{distinct, thinned}
+use Rattle.ordering.specs.Distinct.{distinct}
 use Rattle.ordering.specs.Inputs.{Input, paired, numbers, masks}
 use Rattle.rules.specs.Limits.{mostGateInputs}
 use Rattle.study.specs.declared.Gate.{Gate}
@@ -28,22 +28,15 @@ unfoldable pub inputCount : Gate → ℕ
 unfolding paired distinct
 inputCount g = length (distinct (testsOf g)) + length (distinct (gateInputsOf g))
 
--- ---- how they are worked out, of a gate with its inputs in order
-
--- how many do not stand right behind again
-unfoldable pub thinnedCount : Gate → ℕ
-unfolding paired thinned
-thinnedCount g = length (thinned (testsOf g)) + length (thinned (gateInputsOf g))
-
--- a gate with those alone; the places behind them are as they were
-unfoldable pub thinnedGate : Gate → Gate
-unfolding put paired thinned
-thinnedGate g =
+-- a gate with its distinct inputs alone; the places behind them are as they were
+unfoldable pub distinctGate : Gate → Gate
+unfolding put paired distinct
+distinctGate g =
     record {
       threshold = g .threshold;
-      tests = length (thinned (testsOf g));
-      component = put (g .component) 0 (numbers (thinned (testsOf g)));
-      mask = put (g .mask) 0 (masks (thinned (testsOf g)));
-      gates = length (thinned (gateInputsOf g));
-      input = put (g .input) 0 (numbers (thinned (gateInputsOf g)));
+      tests = length (distinct (testsOf g));
+      component = put (g .component) 0 (numbers (distinct (testsOf g)));
+      mask = put (g .mask) 0 (masks (distinct (testsOf g)));
+      gates = length (distinct (gateInputsOf g));
+      input = put (g .input) 0 (numbers (distinct (gateInputsOf g)));
     }

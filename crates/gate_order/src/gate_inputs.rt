@@ -1,17 +1,18 @@
 // The gate inputs of a gate: numbers of gates, beside masks of 0.
 use crate::within;
 use ordering::ascends;
+use ordering::distinct_count;
+use ordering::keep_distinct;
 use ordering::sort;
-use ordering::thin;
-use ordering::thinned_count;
 use rules::INPUT_PLACES;
+ghost use Prim.Native.Nat.{_≤_};
 ghost use mathlib.Core.Path.{_≡_};
 ghost use mathlib.Core.List.{map};
 ghost use lib.ListN.{length, take};
 ghost use Rattle.lists.specs.Rows.{put};
 ghost use Rattle.rules.specs.Limits.{mostGateInputs};
-ghost use Rattle.ordering.specs.Distinct.{thinned};
-ghost use Rattle.ordering.specs.Inputs.{numbers, sorted, ascends as Inputs·ascends};
+ghost use Rattle.ordering.specs.Distinct.{distinct};
+ghost use Rattle.ordering.specs.Inputs.{Ascending, numbers, sorted, ascends as Inputs·ascends};
 ghost use Rattle.gate_order.specs.Inputs.{unmasked, noMasks};
 
 // A row of masks for all places.
@@ -40,22 +41,27 @@ pub fn gate_inputs_ascend(count: u8, input: [u8; INPUT_PLACES]) -> bool
     ascends(&input[..n], &masks[..n])
 }
 
-// How many of the first so many gate inputs do not stand right behind again.
-pub fn gate_inputs_count(count: u8, input: [u8; INPUT_PLACES]) -> usize
-    ensures { λ r. ⌜ r ≡ length (thinned (take count (map unmasked input))) ⌝ }
+// How many of the first so many gate inputs are distinct, where they are in order.
+pub fn distinct_gate_inputs(count: u8, input: [u8; INPUT_PLACES]) -> usize
+    ensures few { λ r. ⌜ r ≤ mostGateInputs ⌝ }
+    ensures many { λ r. ⌜ (Ascending (take count (map unmasked input)) → r ≡ length (distinct (take count (map unmasked input)))) ⌝ }
 {
     let n = within(count, INPUT_PLACES);
     let masks = no_masks();
-    thinned_count(&input[..n], &masks[..n])
+    distinct_count(&input[..n], &masks[..n])
 }
 
 // Puts those at the front of the places, and says how many they are.
-pub fn thin_gate_inputs(count: u8, input: &mut [u8]) -> usize
+pub fn keep_distinct_gate_inputs(count: u8, input: &mut [u8]) -> usize
     requires { ⌜ length (now input) ≡ mostGateInputs ⌝ }
-    ensures places { λ r. ⌜ now (input .exit) ≡ put (now (input .entry)) 0 (numbers (thinned (take count (map unmasked (now (input .entry)))))) ⌝ }
-    ensures many { λ r. ⌜ r ≡ length (thinned (take count (map unmasked (now (input .entry))))) ⌝ }
+    ensures few { λ r. ⌜ r ≤ mostGateInputs ⌝ }
+    ensures kept { λ r.
+        ⌜ (Ascending (take count (map unmasked (now (input .entry))))
+        → now (input .exit) ≡ put (now (input .entry)) 0 (numbers (distinct (take count (map unmasked (now (input .entry))))))) ⌝ }
+    ensures many { λ r.
+        ⌜ (Ascending (take count (map unmasked (now (input .entry)))) → r ≡ length (distinct (take count (map unmasked (now (input .entry)))))) ⌝ }
 {
     let n = within(count, INPUT_PLACES);
     let mut masks = no_masks();
-    thin(&mut input[..n], &mut masks[..n])
+    keep_distinct(&mut input[..n], &mut masks[..n])
 }

@@ -1,22 +1,22 @@
-// Puts the inputs of gates in order, tells whether they are, and finds those that count. Not for callers from outside.
+// Puts the inputs of gates in order, tells whether they are, and finds the distinct ones. Not for callers from outside.
 mod gate_inputs;
 mod tests;
 
+use gate_inputs::distinct_gate_inputs;
 use gate_inputs::gate_inputs_ascend;
-use gate_inputs::gate_inputs_count;
+use gate_inputs::keep_distinct_gate_inputs;
 pub use gate_inputs::sort_gate_inputs;
-use gate_inputs::thin_gate_inputs;
 use rules::first;
 use rules::unsound_fault;
 use study::Gate;
+use tests::distinct_tests;
+use tests::keep_distinct_tests;
 pub use tests::sort_tests;
 use tests::tests_ascend;
-use tests::tests_count;
-use tests::thin_tests;
 ghost use Prim.Native.Nat.{min};
 ghost use mathlib.Core.Path.{_≡_};
-ghost use Rattle.gate_order.specs.Inputs.{thinnedCount, thinnedGate};
-ghost use Rattle.gate_order.specs.Order.{orderFault};
+ghost use Rattle.gate_order.specs.Inputs.{inputCount, distinctGate};
+ghost use Rattle.gate_order.specs.Order.{InOrder, orderFault};
 
 // As many places as a count says, and no more than there are.
 fn within(count: u8, places: usize) -> usize
@@ -42,25 +42,25 @@ pub fn order_fault(g: Gate) -> u8
     )
 }
 
-// How many inputs of a gate do not stand right behind again, tests and gates together. In order, these are its distinct inputs.
+// How many distinct inputs a gate has, tests and gates together, where they are in order.
 pub fn input_count(g: Gate) -> u32
-    ensures { λ r. ⌜ r ≡ thinnedCount g ⌝ }
+    ensures { λ r. ⌜ (InOrder g → r ≡ inputCount g) ⌝ }
 {
     let component = g.component;
     let mask = g.mask;
     let input = g.input;
-    tests_count(g.tests, component, mask) as u32 + gate_inputs_count(g.gates, input) as u32
+    distinct_tests(g.tests, component, mask) as u32 + distinct_gate_inputs(g.gates, input) as u32
 }
 
-// A gate with those alone.
+// The gate with those alone.
 pub fn without_repeats(g: Gate) -> Gate
-    ensures { λ r. ⌜ r ≡ thinnedGate g ⌝ }
+    ensures { λ r. ⌜ (InOrder g → r ≡ distinctGate g) ⌝ }
 {
     let mut component = g.component;
     let mut mask = g.mask;
     let mut input = g.input;
-    let tests = thin_tests(g.tests, &mut component, &mut mask) as u8;
-    let gates = thin_gate_inputs(g.gates, &mut input) as u8;
+    let tests = keep_distinct_tests(g.tests, &mut component, &mut mask) as u8;
+    let gates = keep_distinct_gate_inputs(g.gates, &mut input) as u8;
     Gate {
         threshold: g.threshold,
         tests,

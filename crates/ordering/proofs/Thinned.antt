@@ -14,9 +14,9 @@ use Rattle.lists.specs.Rows.{put}
 use Rattle.lists.proofs.Elements.{Every}
 use Rattle.lists.proofs.Puts.{Due, due-start, due-set, due-done, due-end}
 use Rattle.ordering.specs.Distinct.{sameInput, standsIn, distinct, standsNext, thinned, Fronted}
-use Rattle.ordering.specs.Inputs.{Input, noInput, ByteMask, rank, paired, numbers, masks, Ascending}
+use Rattle.ordering.specs.Inputs.{Input, noInput, maskValues, ByteMask, rank, paired, numbers, masks, Ascending}
 use Rattle.ordering.specs.Laws.{EnoughToLookNext}
-use Rattle.ordering.proofs.Distinct.{same-told, same-self}
+use Rattle.ordering.proofs.Sets.{same-told, same-self}
 use Rattle.ordering.proofs.Pairs.{paired-long, getD-paired}
 use Rattle.ordering.proofs.Rises.{Rises, rises}
 use Rattle.ordering.proofs.Unique.{same-input}
@@ -59,6 +59,11 @@ risen-enough (a ∷ row) up bytes =
 
 pub enough-to-look-next : EnoughToLookNext
 enough-to-look-next row bytes up = risen-enough row (rises row up) bytes
+
+-- rows of bytes, side by side
+pub thinned-distinct : (ns ms : List ℕ) → length ns ≡ length ms → ((k : ℕ) → getD ms k 0 < maskValues) → Ascending (paired ns ms)
+    → thinned (paired ns ms) ≡ distinct (paired ns ms)
+thinned-distinct ns ms rows bytes up = enough-to-look-next (paired ns ms) (λ k inside. rw (getD-paired ns ms k rows) (bytes k)) up
 
 -- ---- the first input of what is left
 

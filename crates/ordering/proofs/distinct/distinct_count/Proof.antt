@@ -1,16 +1,17 @@
--- `ordering::thinning::thinned_count` meets its contract. Those that count from a place on are still to be counted (`Counting`), and the places left fall.
+-- `ordering::distinct::distinct_count` meets its contract. Those that count from a place on are still to be counted (`Counting`), and the places left fall.
 use Prim.Native.Nat.{_-_, _<_}
-use mathlib.Core.Path.{_≡_, sym, _∙_}
+use mathlib.Core.Path.{_≡_, sym, ap, _∙_}
 use mathlib.Core.Logic.{⊎-elim}
+use mathlib.Core.List.{List}
 use native.Mathlib.Omega.{arith}
 use lib.ListN.{length}
 use borrow.Author.Needs.{needs}
 use borrow.Author.Tests.{not-true, not-false}
-use Rattle.ordering.specs.Inputs.{paired}
+use Rattle.ordering.specs.Inputs.{Input, paired}
 use Rattle.ordering.proofs.Pairs.{paired-long}
-use Rattle.ordering.proofs.Thinned.{Counting, counting-start, counting-again, counting-more, counting-done}
-use Rattle.ordering.proofs.thinning.thinned_count.Statement.{statement}
-use Rattle.ordering.proofs.thinning.thinned_count.Tie as tie
+use Rattle.ordering.proofs.Thinned.{Counting, counting-start, counting-again, counting-more, counting-done, thinned-most, thinned-distinct}
+use Rattle.ordering.proofs.distinct.distinct_count.Statement.{statement}
+use Rattle.ordering.proofs.distinct.distinct_count.Tie as tie
 
 abbrev Inv-loop : tie.InvT-loop
 Inv-loop number mask n₀ at₀ n at = Counting (paired number mask) n at
@@ -46,10 +47,20 @@ loop-again c =
     (c .if1 .came)
 
 returns : tie.Need-returns Inv-loop μ-loop
-returns c = counting-done (c .before .loop .inv) (omega (arith, c .loop-test .left, row-long (c .before)))
+returns c =
+    let own = c .before in
+    let number = start own .args .number .now in
+    let mask = start own .args .mask .now in
+    let all = counting-done (own .loop .inv) (omega (arith, c .loop-test .left, row-long own)) in (
+      omega (arith, all, thinned-most (paired number mask), row-long own),
+      λ up.
+          all
+          ∙ ap (λ (row : List Input). length row)
+          (thinned-distinct number mask (start own .pre) (λ k. omega (arith, own .before .shared-slice-known2 .given k)) up),
+    )
 
-pub thinned-count-spec : {M : Type 1} → statement M
-thinned-count-spec =
+pub distinct-count-spec : {M : Type 1} → statement M
+distinct-count-spec =
     tie.close
     (tie.spec
     Inv-loop

@@ -1,9 +1,9 @@
-// Rows without repeats: of inputs that stand side by side and are the same, the last counts. In a row in order those are all repeats.
-ghost use Prim.Native.Nat.{suc, _<_};
+// The distinct inputs of a row in order, where repeats stand side by side: of those the last counts.
+ghost use Prim.Native.Nat.{suc, _<_, _≤_};
 ghost use mathlib.Core.Path.{_≡_};
 ghost use lib.ListN.{length, getD, drop};
-ghost use Rattle.ordering.specs.Distinct.{standsNext, thinned, Fronted};
-ghost use Rattle.ordering.specs.Inputs.{noInput, paired};
+ghost use Rattle.ordering.specs.Distinct.{distinct, standsNext, Fronted};
+ghost use Rattle.ordering.specs.Inputs.{noInput, paired, Ascending};
 
 // Whether the input at a place is the same as the one behind it.
 fn stands_next(number: &[u8], mask: &[u8], at: usize) -> bool
@@ -19,10 +19,12 @@ fn stands_next(number: &[u8], mask: &[u8], at: usize) -> bool
     number[at] == number[at + 1] && mask[at] == mask[at + 1]
 }
 
-// How many inputs of a row count.
-pub fn thinned_count(number: &[u8], mask: &[u8]) -> usize
+// How many distinct inputs a row in order has.
+pub fn distinct_count(number: &[u8], mask: &[u8]) -> usize
     requires { ⌜ length (now number) ≡ length (now mask) ⌝ }
-    ensures { λ r. ⌜ r ≡ length (thinned (paired (now (number .entry)) (now (mask .entry)))) ⌝ }
+    ensures few { λ r. ⌜ r ≤ length (now (number .entry)) ⌝ }
+    ensures many { λ r.
+        ⌜ (Ascending (paired (now (number .entry)) (now (mask .entry))) → r ≡ length (distinct (paired (now (number .entry)) (now (mask .entry))))) ⌝ }
 {
     let mut n: usize = 0;
     let mut at: usize = 0;
@@ -35,12 +37,13 @@ pub fn thinned_count(number: &[u8], mask: &[u8]) -> usize
     n
 }
 
-// Puts those that count at the front of the row, in their order, and says how many they are. What stands behind them is as it was.
-pub fn thin(number: &mut [u8], mask: &mut [u8]) -> usize
+// Puts them at the front of the row, and says how many they are. What stands behind them is as it was.
+pub fn keep_distinct(number: &mut [u8], mask: &mut [u8]) -> usize
     requires { ⌜ length (now number) ≡ length (now mask) ⌝ }
-    ensures { λ r.
-        ⌜ Fronted (now (number .entry)) (now (mask .entry)) (thinned (paired (now (number .entry)) (now (mask .entry)))) (now (number .exit))
-        (now (mask .exit)) r ⌝ }
+    ensures few { λ r. ⌜ r ≤ length (now (number .entry)) ⌝ }
+    ensures kept { λ r.
+        ⌜ (Ascending (paired (now (number .entry)) (now (mask .entry))) → Fronted (now (number .entry)) (now (mask .entry))
+        (distinct (paired (now (number .entry)) (now (mask .entry)))) (now (number .exit)) (now (mask .exit)) r) ⌝ }
 {
     let mut kept: usize = 0;
     let mut at: usize = 0;

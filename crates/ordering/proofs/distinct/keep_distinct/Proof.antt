@@ -1,14 +1,18 @@
--- `ordering::thinning::thin` meets its contract. Those that count from a place on are still to be put at the front (`Thinning`), and the places left fall.
+-- `ordering::distinct::keep_distinct` meets its contract. Those that count from a place on are still to be put at the front (`Thinning`), and the places left fall.
 use Prim.Native.Nat.{_-_, _<_}
-use mathlib.Core.Path.{sym, _∙_}
+use mathlib.Core.Path.{sym, subst, _∙_}
 use mathlib.Core.Logic.{⊎-elim}
+use mathlib.Core.List.{List}
 use native.Mathlib.Omega.{arith}
 use lib.ListN.{length}
 use borrow.Author.Needs.{needs}
 use borrow.Author.Tests.{not-true, not-false}
-use Rattle.ordering.proofs.Thinned.{Thinning, thinning-start, thinning-again, thinning-more, thinning-done}
-use Rattle.ordering.proofs.thinning.thin.Statement.{statement}
-use Rattle.ordering.proofs.thinning.thin.Tie as tie
+use Rattle.ordering.specs.Distinct.{Fronted}
+use Rattle.ordering.specs.Inputs.{Input, paired}
+use Rattle.ordering.proofs.Pairs.{paired-long}
+use Rattle.ordering.proofs.Thinned.{Thinning, thinning-start, thinning-again, thinning-more, thinning-done, thinned-most, thinned-distinct}
+use Rattle.ordering.proofs.distinct.keep_distinct.Statement.{statement}
+use Rattle.ordering.proofs.distinct.keep_distinct.Tie as tie
 
 abbrev Inv-loop : tie.InvT-loop
 Inv-loop number₀ mask₀ kept₀ at₀ number mask kept at = Thinning number₀ mask₀ number mask kept at
@@ -50,8 +54,22 @@ loop-less c =
     let own = turn (c .before) in
     omega (arith, own .loop-test .taken, loop-again c .numbers-due .size, own .before .loop .inv .numbers-due .size)
 
-pub thin-spec : {M : Type 1} → statement M
-thin-spec =
+returns : tie.Need-returns Inv-loop μ-loop
+returns c =
+    let last = c .before .loop in
+    let begun = c .before .before in
+    let start = begun .before .before in
+    let number = start .args .number .now in
+    let mask = start .args .mask .now in
+    let thins = thinning-done (last .inv) (c .loop-test .left) in (
+      omega (arith, thins .many, thinned-most (paired number mask), paired-long number mask (start .pre)),
+      λ up.
+          subst (λ (row : List Input). Fronted number mask row (last .number) (last .mask) (last .kept))
+          (thinned-distinct number mask (start .pre) (λ k. omega (arith, begun .slice-known2 .given k)) up) thins,
+    )
+
+pub keep-distinct-spec : {M : Type 1} → statement M
+keep-distinct-spec =
     tie.close
     (tie.spec
     Inv-loop
@@ -68,4 +86,4 @@ thin-spec =
     loop-again
     (λ c. c .before .loop .inv .numbers-due .size)
     (λ c. c .before .loop .inv .masks-due .size)
-    (λ c. thinning-done (c .before .loop .inv) (c .loop-test .left)))
+    returns)
