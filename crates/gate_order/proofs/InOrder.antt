@@ -68,7 +68,7 @@ module _ (g : Gate) (shaped : ShapedGate g) where
       }
 
   -- the distinct ones are as many
-  pub count-in-order : inputCount (inOrder g) ≡ inputCount g
+  count-in-order : inputCount (inOrder g) ≡ inputCount g
   unfolding inputCount
   count-in-order =
       ap₂ (λ (m n : ℕ). m + n)
@@ -99,6 +99,10 @@ module _ (g : Gate) (shaped : ShapedGate g) where
             (omega (arith, gate-inputs-few, length-map (sorted (gateInputsOf g)) (λ (a : Input). a .number)))
             ∙ shaped .input;
       }
+
+-- what counts them in order counts them
+pub counted-in-order : {g h : Gate} {n : ℕ} → h ≡ inOrder g → (InOrder h → n ≡ inputCount h) → ShapedGate g → n ≡ inputCount g
+counted-in-order {g} same counts shaped = counts (subst InOrder (sym same) (in-order-ordered g shaped)) ∙ ap inputCount same ∙ count-in-order g shaped
 
 module _ (g : Gate) (fits : Fits g) where
   pub tests-long : length (testsOf g) ≡ g .tests

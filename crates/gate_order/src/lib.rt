@@ -5,18 +5,18 @@ mod tests;
 use gate_inputs::distinct_gate_inputs;
 use gate_inputs::gate_inputs_ascend;
 use gate_inputs::keep_distinct_gate_inputs;
-pub use gate_inputs::sort_gate_inputs;
+use gate_inputs::sort_gate_inputs;
 use rules::first;
 use rules::unsound_fault;
 use study::Gate;
 use tests::distinct_tests;
 use tests::keep_distinct_tests;
-pub use tests::sort_tests;
+use tests::sort_tests;
 use tests::tests_ascend;
 ghost use Prim.Native.Nat.{min};
 ghost use mathlib.Core.Path.{_≡_};
 ghost use Rattle.gate_order.specs.Inputs.{inputCount, distinctGate};
-ghost use Rattle.gate_order.specs.Order.{InOrder, orderFault};
+ghost use Rattle.gate_order.specs.Order.{InOrder, inOrder, orderFault};
 
 // As many places as a count says, and no more than there are.
 fn within(count: u8, places: usize) -> usize
@@ -27,6 +27,25 @@ fn within(count: u8, places: usize) -> usize
         return n;
     }
     places
+}
+
+// A gate with its inputs in order.
+pub fn in_order(g: Gate) -> Gate
+    ensures { λ r. ⌜ r ≡ inOrder g ⌝ }
+{
+    let mut component = g.component;
+    let mut mask = g.mask;
+    let mut input = g.input;
+    sort_tests(g.tests, &mut component, &mut mask);
+    sort_gate_inputs(g.gates, &mut input);
+    Gate {
+        threshold: g.threshold,
+        tests: g.tests,
+        component,
+        mask,
+        gates: g.gates,
+        input,
+    }
 }
 
 // 16 where the inputs of a gate are out of order.

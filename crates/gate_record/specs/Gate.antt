@@ -10,7 +10,7 @@ use Rattle.reading.specs.Reader.{Reader, byte, judge, return, repeat, _>>=_, _>
 use Rattle.reading.specs.Fields.{fieldsByMap}
 use Rattle.study.specs.declared.Gate.{Gate}
 use Rattle.study.specs.Absent.{absentGate}
-use Rattle.study.specs.Inputs.{inputCount}
+use Rattle.gate_order.specs.Inputs.{inputCount}
 use Rattle.gate_order.specs.Order.{inOrder}
 
 abbrev pub withThreshold : ℕ → Gate → Gate
@@ -112,8 +112,9 @@ inputs gate g = do
 unfoldable pub gateField : List ℕ → ℕ → ℕ → Gate → Reader Gate
 gateField counts gate k g = cond (eqb k 0) (threshold g) (cond (eqb k 1) (tests counts g) (inputs gate g))
 
--- the record of the gate with this number; the threshold is judged after the last field
+-- the record of the gate with this number; the threshold is judged after the last field, by the number of distinct inputs
 unfoldable pub gate : List ℕ → ℕ → Reader Gate
+unfolding inputCount
 gate counts number = do
   g ← fieldsByMap gateMaps (gateField counts number) absentGate
   judge (thresholdFault (inputCount g) (g .threshold))

@@ -2,8 +2,8 @@
 mod inputs;
 mod tests;
 
-use gate_order::sort_gate_inputs;
-use gate_order::sort_tests;
+use gate_order::in_order;
+use gate_order::input_count;
 use inputs::read_inputs;
 use reading::ByteRead;
 use reading::byte_at;
@@ -131,19 +131,16 @@ pub fn read_gate(bytes: &[u8], at: usize, counts: &[u8], number: usize) -> GateR
         &mut mask,
         &mut input,
     );
-    let inputs = f.tests as u32 + f.gates as u32;
-    sort_tests(f.tests, &mut component, &mut mask);
-    sort_gate_inputs(f.gates, &mut input);
-    let gate = Gate {
+    let gate = in_order(Gate {
         threshold: f.threshold,
         tests: f.tests,
         component,
         mask,
         gates: f.gates,
         input,
-    };
+    });
     GateRead {
-        refusal: first(f.refusal, threshold_fault(inputs, f.threshold)),
+        refusal: first(f.refusal, threshold_fault(input_count(gate), f.threshold)),
         next: f.next,
         gate,
     }

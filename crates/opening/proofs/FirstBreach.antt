@@ -23,7 +23,7 @@ use Rattle.study.specs.declared.Load.{Load}
 use Rattle.answers.specs.declared.outcome.Outcome.the-variants.{Done, Refused}
 use Rattle.study.specs.declared.Study.{Study}
 use Rattle.study.specs.Absent.{absentComponent, absentGate, absentLoad}
-use Rattle.study.specs.Inputs.{inputCount}
+use Rattle.gate_order.specs.Inputs.{inputCount}
 use Rattle.study.specs.Joint.{states}
 use Rattle.study.specs.Zero.{noComponents, noGates, noLoads}
 use Rattle.opening.specs.Laws.{FirstBreach}

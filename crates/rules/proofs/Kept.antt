@@ -36,6 +36,15 @@ pub first-next : (a b : ℕ) → a ≡ 0 → first a b ≡ b
 unfolding first
 first-next a b none = rw none
 
+-- what comes second matters only where the first is kept
+pub first-behind : (a b c : ℕ) → (a ≡ 0 → b ≡ c) → first a b ≡ first a c
+unfolding first
+first-behind a b c same = go (eqb a 0) refl
+  where
+    go : (t : Bool) → eqb a 0 ≡ t → cond (eqb a 0) b a ≡ cond (eqb a 0) c a
+    go true kept = rw kept (same (eqb-true a 0 kept))
+    go false broken = rw broken refl
+
 -- nothing is judged after the last
 pub first-last : (a : ℕ) → first a 0 ≡ a
 unfolding first
@@ -151,14 +160,6 @@ in-use-none count place used unused below behind = go (ltb place count) refl
     go : (b : Bool) → ltb place count ≡ b → cond b used unused ≡ 0
     go true e = below (ltb-true place count e)
     go false e = behind (ltb-false place count e)
-
--- a rule of every place, in use or not
-pub in-use-first : (count place used unused rule : ℕ) → inUse count place (first used rule) (first unused rule) ≡ first (inUse count place used unused) rule
-in-use-first count place used unused rule = go (ltb place count)
-  where
-    go : (b : Bool) → cond b (first used rule) (first unused rule) ≡ first (cond b used unused) rule
-    go true = refl
-    go false = refl
 
 -- ---- a list that is judged in two parts
 

@@ -1,16 +1,16 @@
 -- The check for 16 decides soundness: no breach is found exactly when every rule of `Sound` is kept. What carries it: the first breach of a
 -- list is none exactly when each is none, and so it is for the places of a kind (`PlacesKept`).
 use Prim.Native.Nat.{ℕ, _<_, _≤_}
-use mathlib.Core.Path.{_≡_, refl, sym, subst}
+use mathlib.Core.Path.{_≡_, refl, sym, ap, subst, _∙_}
 use mathlib.Core.Bool.{true}
-use mathlib.Core.List.{List}
+use mathlib.Core.List.{List, [], _∷_}
 use native.Mathlib.Omega.{arith}
 use lib.ListN.{length, getD}
 use borrow.Author.Tests.{eqb-true, eq-eqb}
-use Rattle.rules.specs.Breach.{refuse}
+use Rattle.rules.specs.Breach.{refuse, first, firstBreach}
 use Rattle.rules.specs.Limits.{mostComponents, mostGates, mostLoads, mostTests, mostGateInputs}
-use Rattle.rules.specs.Table.{statesFault, noComponentFault, maskFault, aheadFault, unsoundFault}
-use Rattle.rules.proofs.Kept.{first-kept, first-none, list-kept, list-none, none-none, both-kept}
+use Rattle.rules.specs.Table.{statesFault, inputCountFault, noComponentFault, maskFault, aheadFault, thresholdFault, unsoundFault}
+use Rattle.rules.proofs.Kept.{first-kept, first-none, first-behind, list-kept, list-none, none-none, both-kept}
 use Rattle.rules.proofs.Firsts.{places-kept, places-none}
 use Rattle.rules.proofs.Rows.{count-kept, input-count-kept, sound-kept, unused-fields, unused-none}
 use Rattle.study.specs.declared.Component.{Component}
@@ -21,12 +21,13 @@ use Rattle.study.specs.Edits.{withProbabilities}
 use Rattle.study.specs.Joint.{stateCounts}
 use Rattle.study.specs.Places.{componentAt, gateAt, loadAt}
 use Rattle.study.specs.Zero.{zeroComponent, zeroLoad}
+use Rattle.gate_order.specs.Inputs.{inputCount}
 use Rattle.gate_order.specs.Order.{InOrder}
 use Rattle.gate_order.proofs.Checked.{order-kept, order-none, none-ordered}
 use Rattle.soundness.specs.Sound.{SoundComponent, ZeroBehind, SoundGate, UnusedGate, SoundLoad, Sound}
 use Rattle.soundness.specs.Check.{probabilitiesFault, componentFault, unusedComponentFault, componentPlaceFault, componentsFault}
 use Rattle.soundness.specs.Check.{testPlaceFault, testsFault, inputPlaceFault, gateInputsFault, inputPlacesFault}
-use Rattle.soundness.specs.Check.{voteFault, gateFault, unusedGateFault, gatePlaceFault, gatesFault}
+use Rattle.soundness.specs.Check.{gateFault, unusedGateFault, gatePlaceFault, gatesFault}
 use Rattle.soundness.specs.Check.{loadFault, unusedLoadFault, loadPlaceFault, loadsFault, frontFault, restFault, sound}
 
 -- ---- components
@@ -111,19 +112,40 @@ module _ (counts : List ℕ) (i : ℕ) (g : Gate) where
       (record { in-use = s .input; behind = λ j from less. unused-none _ 0 0 0 (s .behind .input j from less) refl refl refl }))
       (list-none _ _ (order-none g (s .order)) none-none))
 
+  -- where these are kept, the inputs stand in order, so that what counts the distinct ones there judges the threshold
+  inputs-ordered : inputPlacesFault counts i g ≡ 0 → InOrder g
+  unfolding inputPlacesFault
+  inputs-ordered e = order-kept g (both-kept _ _ (list-kept _ _ e .right) .right)
+
+  pub gate-judged : (places inputs : ℕ) → places ≡ inputPlacesFault counts i g → (InOrder g → inputs ≡ inputCount g)
+      → firstBreach (
+      inputCountFault mostTests (g .tests)
+      ∷ inputCountFault mostGateInputs (g .gates)
+      ∷ places
+      ∷ thresholdFault inputs (g .threshold)
+      ∷ []
+      )
+      ≡ gateFault counts i g
+  unfolding firstBreach gateFault
+  gate-judged places inputs e counted =
+      let judge : places ≡ 0 → firstBreach (thresholdFault inputs (g .threshold) ∷ []) ≡ firstBreach (thresholdFault (inputCount g) (g .threshold) ∷ []) =
+      λ kept. ap (λ (n : ℕ). firstBreach (thresholdFault n (g .threshold) ∷ [])) (counted (inputs-ordered (sym e ∙ kept))) in
+      ap (λ (rest : ℕ). first (inputCountFault mostTests (g .tests)) (first (inputCountFault mostGateInputs (g .gates)) rest))
+      (first-behind places _ _ judge ∙ ap (λ (p : ℕ). first p (firstBreach (thresholdFault (inputCount g) (g .threshold) ∷ []))) e)
+
   -- a gate in use keeps its rules, and its inputs stand in order
   record Ordered : Type 0 where
     rules : SoundGate counts i g
     order : InOrder g
 
   gate-kept : gateFault counts i g ≡ 0 → Ordered
-  unfolding gateFault voteFault
+  unfolding gateFault
   gate-kept e =
-      let both = first-kept _ _ e in
-      let tests = list-kept _ _ (both .left) in
-      let gates = both-kept _ _ (tests .right) in
+      let tests = list-kept _ _ e in
+      let gates = list-kept _ _ (tests .right) in
+      let rest = both-kept _ _ (gates .right) in
       let tests-most = input-count-kept mostTests (g .tests) (tests .left) in
-      let inputs = inputs-kept tests-most (input-count-kept mostGateInputs (g .gates) (gates .left)) (both .right) in
+      let inputs = inputs-kept tests-most (input-count-kept mostGateInputs (g .gates) (gates .left)) (rest .left) in
       record {
         rules =
             record {
@@ -132,17 +154,17 @@ module _ (counts : List ℕ) (i : ℕ) (g : Gate) where
               component = inputs .component;
               mask = inputs .mask;
               input = inputs .input;
-              threshold = gates .right;
+              threshold = rest .right;
               behind = inputs .behind;
             };
         order = inputs .order;
       }
 
   gate-none : SoundGate counts i g → InOrder g → gateFault counts i g ≡ 0
-  unfolding gateFault voteFault
+  unfolding gateFault
   gate-none s order =
-      first-none _ _ (list-none _ _ (s .tests) (list-none _ _ (s .gates) (list-none _ _ (s .threshold) none-none)))
-      (inputs-none (record { component = s .component; mask = s .mask; input = s .input; behind = s .behind; order = order }))
+      let inputs = inputs-none (record { component = s .component; mask = s .mask; input = s .input; behind = s .behind; order = order }) in
+      list-none _ _ (s .tests) (list-none _ _ (s .gates) (list-none _ _ inputs (list-none _ _ (s .threshold) none-none)))
 
   no-gate-kept : unusedGateFault counts i g ≡ 0 → UnusedGate g
   unfolding unusedGateFault

@@ -14,7 +14,7 @@ use Rattle.study.specs.declared.Component.{Component}
 use Rattle.study.specs.declared.Gate.{Gate}
 use Rattle.study.specs.declared.Load.{Load}
 use Rattle.study.specs.declared.Study.{Study}
-use Rattle.study.specs.Inputs.{inputCount}
+use Rattle.gate_order.specs.Inputs.{inputCount}
 use Rattle.study.specs.Joint.{stateCounts}
 use Rattle.study.specs.Places.{noGate}
 use Rattle.study.specs.Zero.{zeroComponent, zeroLoad}
@@ -67,16 +67,18 @@ inputPlacesFault counts i g =
     testsFault counts (g .tests) (g .component) (g .mask) ∷ gateInputsFault i (g .gates) (g .input) ∷ orderFault g ∷ []
     )
 
--- how a gate votes: its counts of inputs and its threshold
-unfoldable pub voteFault : Gate → ℕ
-voteFault g =
-    firstBreach (
-    inputCountFault mostTests (g .tests) ∷ inputCountFault mostGateInputs (g .gates) ∷ thresholdFault (inputCount g) (g .threshold) ∷ []
-    )
-
--- gate place i that is in use, one that no record uses, and place i of a study with n gates; the places of inputs are judged in both
+-- gate place i that is in use, one that no record uses, and place i of a study with n gates; the places of inputs are judged in both. The threshold comes last,
+-- since the distinct inputs are counted in order
 unfoldable pub gateFault : List ℕ → ℕ → Gate → ℕ
-gateFault counts i g = first (voteFault g) (inputPlacesFault counts i g)
+unfolding inputCount
+gateFault counts i g =
+    firstBreach (
+    inputCountFault mostTests (g .tests)
+    ∷ inputCountFault mostGateInputs (g .gates)
+    ∷ inputPlacesFault counts i g
+    ∷ thresholdFault (inputCount g) (g .threshold)
+    ∷ []
+    )
 
 unfoldable pub unusedGateFault : List ℕ → ℕ → Gate → ℕ
 unusedGateFault counts i g = first (unusedFault (g .threshold) (g .tests) (g .gates) 0) (inputPlacesFault counts i g)

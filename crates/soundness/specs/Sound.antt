@@ -12,7 +12,7 @@ use Rattle.study.specs.declared.Component.{Component}
 use Rattle.study.specs.declared.Gate.{Gate}
 use Rattle.study.specs.declared.Load.{Load}
 use Rattle.study.specs.declared.Study.{Study}
-use Rattle.study.specs.Inputs.{inputCount}
+use Rattle.gate_order.specs.Inputs.{inputCount}
 use Rattle.study.specs.Joint.{stateCounts}
 use Rattle.study.specs.Places.{componentAt, gateAt, loadAt}
 use Rattle.study.specs.Zero.{zeroComponent, zeroLoad}

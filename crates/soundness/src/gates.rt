@@ -1,18 +1,19 @@
 // The gate places of a study.
 use crate::inputs::gate_inputs_fault;
 use crate::inputs::tests_fault;
+use gate_order::input_count;
 use gate_order::order_fault;
 use rules::GATE_PLACES;
 use rules::MOST_GATE_INPUTS;
 use rules::MOST_TESTS;
 use rules::first;
+use rules::first_of_four;
 use rules::first_of_three;
 use rules::in_use;
 use rules::input_count_fault;
 use rules::threshold_fault;
 use rules::unused_fault;
 use study::Gate;
-use study::input_count;
 ghost use mathlib.Core.Path.{_≡_};
 ghost use Rattle.soundness.specs.Check.{inputPlacesFault, gatePlaceFault, gatesFault};
 
@@ -35,13 +36,15 @@ fn input_places_fault(counts: &[u8], i: usize, g: Gate) -> u8
 fn gate_place_fault(counts: &[u8], n: u8, i: usize, g: Gate) -> u8
     ensures { λ r. ⌜ r ≡ gatePlaceFault (now (counts .entry)) n i g ⌝ }
 {
-    let used = first_of_three(
+    let places = input_places_fault(counts, i, g);
+    let used = first_of_four(
         input_count_fault(MOST_TESTS, g.tests),
         input_count_fault(MOST_GATE_INPUTS, g.gates),
+        places,
         threshold_fault(input_count(g), g.threshold),
     );
     let unused = unused_fault(g.threshold as u32, g.tests as u32, g.gates as u32, 0);
-    first(in_use(n, i, used, unused), input_places_fault(counts, i, g))
+    in_use(n, i, used, first(unused, places))
 }
 
 // The first breach among the gate places.

@@ -1,6 +1,5 @@
 pub mod Absent
 pub mod Edits
-pub mod Inputs
 pub mod Joint
 pub mod Places
 pub mod Zero

@@ -11,7 +11,6 @@ ghost use Rattle.rules.specs.Limits.{mostComponents, mostStates};
 ghost use Rattle.lists.specs.Product.{product};
 ghost use Rattle.study.specs.Zero.{noComponents, zeroGate, noGates, noLoads, zeroStudy};
 ghost use Rattle.study.specs.Edits.{withProbabilities, withCustomers, withMinutes, withComponent, withLoad};
-ghost use Rattle.study.specs.Inputs.{inputCount};
 ghost use Rattle.study.specs.Joint.{states};
 ghost use Rattle.study.specs.Places.{componentAt, loadAt};
 ghost use Rattle.study.specs.Absent.{absentComponent, absentGate, absentLoad};
@@ -214,13 +213,6 @@ pub fn with_minutes(n: u32, l: Load) -> Load
         customers: l.customers,
         minutes: n,
     }
-}
-
-// How many inputs a gate has, tests and gates together.
-pub fn input_count(g: Gate) -> u32
-    ensures { λ r. ⌜ r ≡ inputCount g ⌝ }
-{
-    g.tests as u32 + g.gates as u32
 }
 
 // The record at a place of a study, and one of zeros past the last place.

@@ -1,5 +1,7 @@
--- `gate_record::read_gate` meets its contract: the map, its fields, then the threshold is judged; the inputs are sorted in their places.
-use mathlib.Core.Path.{ap, subst}
+-- `gate_record::read_gate` meets its contract: the map, its fields; the inputs are sorted in their places, and the
+-- threshold is judged by the distinct ones, which are as many before and after.
+use Prim.Native.Nat.{ℕ}
+use mathlib.Core.Path.{_≡_, ap, subst, _∙_}
 use lib.ListN.{length, drop}
 use borrow.Author.Needs.{needs}
 use Rattle.reading.specs.Fields.{fields}
@@ -7,7 +9,11 @@ use Rattle.reading.specs.Reader.{Read, Reads}
 use Rattle.reading.proofs.After.{after, stopped, going, finished, judged-last}
 use Rattle.reading.proofs.Calls.{asks-nothing}
 use Rattle.study.specs.Absent.{absentGate}
+use Rattle.study.specs.Places.{ShapedGate}
+use Rattle.gate_order.specs.Inputs.{inputCount}
 use Rattle.gate_order.specs.Order.{inOrder}
+use Rattle.gate_order.proofs.InOrder.{counted-in-order}
+use Rattle.rules.specs.Table.{thresholdFault}
 use Rattle.study.specs.declared.Gate.{Gate}
 use Rattle.gate_record.specs.Gate.{nothingGiven, gateField, gate, gateInOrder}
 use Rattle.gate_record.proofs.read_gate.Statement.{statement}
@@ -21,16 +27,7 @@ returns c =
     stopped _ (stopped {n′ = 0} {v′ = absentGate} _ fields refused) refused
 
 -- the steps between the calls
-abbrev inputs-sorted : tie.After-first → tie.After-sort-gate-inputs
-inputs-sorted c = c .before .before .before
-
-abbrev tests-sorted : tie.After-sort-gate-inputs → tie.After-sort-tests
-tests-sorted c = c .before .before .before .before
-
-abbrev counted : tie.After-sort-tests → tie.After-struct-known2
-counted c = c .before .before .before .before
-
-abbrev fields-read : tie.After-struct-known2 → tie.After-read-fields
+abbrev fields-read : tie.After-in-order → tie.After-read-fields
 fields-read c = c .before .before .before .before
 
 abbrev lent : tie.After-input2 → tie.After-component
@@ -51,31 +48,44 @@ read-fields-requires c κs =
       ),
     )
 
+-- the gate as its fields give it: three of the places that were lent to `read_fields`, its last arguments, hold the inputs
+abbrev given : tie.After-read-fields → Gate
+given c =
+    let read = c .read-fields in
+    let places = read .last .1 .1 .1 .1 .1 .1 in
+    record {
+      threshold = read .result .threshold;
+      tests = read .result .tests;
+      component = places .0;
+      mask = places .1 .0;
+      gates = read .result .gates;
+      input = places .1 .1 .0;
+    }
+
+-- its distinct inputs are counted in order, and are as many as before
+counted : (c : tie.After-input-count) → c .input-count .result ≡ inputCount (given (fields-read (c .before)))
+counted c =
+    let g = given (fields-read (c .before)) in
+    let shaped : ShapedGate g = record { component = search needs; mask = search needs; input = search needs } in
+    counted-in-order (c .before .in-order .ensures) (c .input-count .ensures) shaped
+
 returns-2 : tie.Need-returns-2
-unfolding gateInOrder gate inOrder absentGate
+unfolding gateInOrder gate absentGate
 returns-2 c =
-    let inputs = inputs-sorted c in
-    let tests = tests-sorted inputs in
-    let read = fields-read (counted tests) in
+    let judges = c .before in
+    let counts = judges .before in
+    let sorts = counts .before in
+    let read = fields-read sorts in
     let component = lent (read .before) in
     let map = map-read component in
     let entry = map .before .before .before .before in
-    let given : Gate → Read Gate =
+    let fields-of : Gate → Read Gate =
     λ a. fields (gateField (entry .args .counts .now) (entry .args .number)) (map .map-at .result .value) (nothingGiven a (a .component) (a .mask) (a .input))
     (drop (map .map-at .result .next) (entry .args .bytes .now)) in
-    let read-over = subst (Reads _ _ _ _) (ap given (map .before .absent-gate .ensures)) (read .read-fields .ensures) in
+    let read-over = subst (Reads _ _ _ _) (ap fields-of (map .before .absent-gate .ensures)) (read .read-fields .ensures) in
     let fields = going _ (map .map-at .ensures .reads) (component .before .if1 .left) read-over in
-    let whole = after _ fields (judged-last _ (c .before .threshold-fault .ensures)) (c .first .ensures) in
-    let f = read .read-fields .result in
-    finished inOrder whole
-    (λ i. record {
-      threshold = f .threshold;
-      tests = f .tests;
-      component = tests .sort-tests .ensures .0 i;
-      mask = tests .sort-tests .ensures .1 i;
-      gates = f .gates;
-      input = inputs .sort-gate-inputs .ensures i;
-    })
+    let breach = judges .threshold-fault .ensures ∙ ap (λ (n : ℕ). thresholdFault n (read .read-fields .result .threshold)) (counted counts) in
+    finished inOrder (after _ fields (judged-last _ breach) (c .first .ensures)) (sorts .in-order .ensures)
 
 pub read-gate-spec : {M : Type 1} → statement M
 read-gate-spec =
@@ -88,14 +98,8 @@ read-gate-spec =
     (λ c. search needs)
     (λ c. search needs)
     read-fields-requires
-    (λ c. search needs)
-    (λ c. search needs)
-    (λ c. search needs)
-    (λ c. search needs)
-    (λ c. search needs)
-    (λ c κs. search needs)
-    (λ c. search needs)
-    (λ c κs. search needs)
+    asks-nothing
+    asks-nothing
     asks-nothing
     asks-nothing
     returns-2)

@@ -20,7 +20,7 @@ use Rattle.reading.proofs.Held.{Gives, gives-any, gives-then, gives-judge, give
 use Rattle.gate_record.specs.Gate.{threshold, inputsByte, test, tests, input, inputs, gateField, gate, withTests, withGates, withTest, withInput}
 use Rattle.study.specs.declared.Gate.{Gate}
 use Rattle.study.specs.Absent.{absentGate}
-use Rattle.study.specs.Inputs.{inputCount}
+use Rattle.gate_order.specs.Inputs.{inputCount}
 use Rattle.study.specs.Places.{ShapedGate}
 use Rattle.study.specs.Zero.{zeroGate}
 use Rattle.soundness.specs.Sound.{SoundGate}

@@ -15,7 +15,7 @@ use Rattle.reading.proofs.Takes.{takes-repeat, takes-weaker}
 use Rattle.gate_record.specs.Gate.{threshold, inputsByte, test, tests, input, inputs, gateField, gate, withTests, withGates}
 use Rattle.study.specs.declared.Gate.{Gate}
 use Rattle.study.specs.Absent.{absentGate}
-use Rattle.study.specs.Inputs.{inputCount}
+use Rattle.gate_order.specs.Inputs.{inputCount}
 
 -- the bytes before bit k of the gate with this number
 abbrev before : ℕ → ℕ → Gate → ℕ

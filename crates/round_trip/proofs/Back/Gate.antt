@@ -13,7 +13,7 @@ use Rattle.rules.specs.Table.{inputsFault, noComponentFault, maskFault, aheadFa
 use Rattle.rules.proofs.Rows.{input-count-kept}
 use Rattle.study.specs.declared.Gate.{Gate}
 use Rattle.study.specs.Absent.{absentGate}
-use Rattle.study.specs.Inputs.{inputCount}
+use Rattle.gate_order.specs.Inputs.{inputCount}
 use Rattle.study.specs.Places.{ShapedGate}
 use Rattle.study.specs.Zero.{zeroGate}
 use Rattle.study_bytes.specs.Written.{testBytes, inputBytes, gateFields, gateBytes}

@@ -14,7 +14,7 @@ use Rattle.rules.specs.Table.{inputsFault, noComponentFault, maskFault, aheadFa
 use Rattle.text.proofs.Short.{lines-short}
 use Rattle.study.specs.declared.Gate.{Gate}
 use Rattle.study.specs.Absent.{absentGate}
-use Rattle.study.specs.Inputs.{inputCount}
+use Rattle.gate_order.specs.Inputs.{inputCount}
 use Rattle.study_bytes.specs.Written.{byteOf, recordBytes, testBytes, inputBytes, gateFields, gateBytes}
 use Rattle.reading.proofs.Ends.{Ends, ends-then, ends-return, ends-weaker, ends-byte, ends-judge, ends-cond, ends-repeat, ends-fields}
 use Rattle.reading.proofs.Held.{Any}
