@@ -68,7 +68,7 @@ module _ (g : Gate) (shaped : ShapedGate g) where
       }
 
   -- the distinct ones are as many
-  count-in-order : inputCount (inOrder g) ≡ inputCount g
+  pub count-in-order : inputCount (inOrder g) ≡ inputCount g
   unfolding inputCount
   count-in-order =
       ap₂ (λ (m n : ℕ). m + n)

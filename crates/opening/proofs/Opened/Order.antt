@@ -1,7 +1,7 @@
 -- A study that keeps every rule but the order of inputs is sound once they are put in order. What carries it: a rule of each input holds of each still
 -- (`Kept` of `gate_order`), and what stands behind the inputs stays.
 use Prim.Native.Nat.{ℕ, _<_, _≤_}
-use mathlib.Core.Path.{_≡_, sym, subst, _∙_}
+use mathlib.Core.Path.{_≡_, sym, ap, subst, _∙_}
 use mathlib.Core.List.{List}
 use native.Mathlib.Decide.{decLt}
 use native.Mathlib.Omega.{arith}
@@ -9,14 +9,14 @@ use lib.ListN.{length, getD, length-map}
 use Rattle.lists.proofs.Maps.{getD-map-inside}
 use Rattle.ordering.specs.Inputs.{Input}
 use Rattle.rules.specs.Limits.{mostGates, mostTests, mostGateInputs}
-use Rattle.rules.specs.Table.{noComponentFault, maskFault, aheadFault}
+use Rattle.rules.specs.Table.{noComponentFault, maskFault, aheadFault, thresholdFault}
 use Rattle.rules.proofs.Rows.{input-count-kept}
 use Rattle.study.specs.declared.Gate.{Gate}
 use Rattle.study.specs.declared.Study.{Study}
 use Rattle.study.specs.Joint.{stateCounts}
 use Rattle.study.specs.Places.{Shaped, ShapedGate, noGate, gateAt}
 use Rattle.gate_order.specs.Order.{InOrder, inOrder, ordered}
-use Rattle.gate_order.proofs.InOrder.{Fits, in-order-ordered, in-order-shaped}
+use Rattle.gate_order.proofs.InOrder.{Fits, count-in-order, in-order-ordered, in-order-shaped}
 use Rattle.gate_order.proofs.Kept.{tests-every, gate-inputs-every, component-behind, mask-behind, input-behind}
 use Rattle.soundness.specs.Sound.{ZeroBehind, SoundGate, UnusedGate}
 use Rattle.opening.proofs.Opened.Gate.{WholeGate}
@@ -47,7 +47,7 @@ gate-ordered counts i g fits s =
       component = λ j below. tests j below .component;
       mask = λ j below. tests j below .mask;
       input = gate-inputs-every (λ (a : Input). aheadFault i (a .number) ≡ 0) g fits (s .input);
-      threshold = s .threshold;
+      threshold = ap (λ (n : ℕ). thresholdFault n (g .threshold)) (count-in-order g (fits .shaped)) ∙ s .threshold;
       behind = behind-ordered g fits (s .behind);
     }
 
@@ -93,7 +93,7 @@ module _ (t : Study) (given : Given t) where
       subst (SoundGate (stateCounts t) i) (sym (ordered-gate i inside)) (gate-ordered (stateCounts t) i (gateAt t i) (gate-fits i inside) (given .gate i used))
 
   pub ordered-order : (i : ℕ) → i < mostGates → InOrder (gateAt (ordered t) i)
-  ordered-order i inside = subst InOrder (sym (ordered-gate i inside)) (in-order-ordered (gateAt t i) (gate-fits i inside))
+  ordered-order i inside = subst InOrder (sym (ordered-gate i inside)) (in-order-ordered (gateAt t i) (given .shaped .gate i inside))
 
   pub ordered-unused : (i : ℕ) → t .gates ≤ i → i < mostGates → UnusedGate (gateAt (ordered t) i)
   ordered-unused i from inside =
@@ -106,5 +106,5 @@ module _ (t : Study) (given : Given t) where
         components = given .shaped .components;
         gates = length-map (t .gate) inOrder ∙ given .shaped .gates;
         loads = given .shaped .loads;
-        gate = λ i inside. subst ShapedGate (sym (ordered-gate i inside)) (in-order-shaped (gateAt t i) (gate-fits i inside));
+        gate = λ i inside. subst ShapedGate (sym (ordered-gate i inside)) (in-order-shaped (gateAt t i) (given .shaped .gate i inside));
       }
