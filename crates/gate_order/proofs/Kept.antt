@@ -31,26 +31,33 @@ module _ (g : Gate) (fits : Fits g) (j : ℕ) where
       getD-take (g .gates) (map unmasked (g .input)) j noInput below
       ∙ getD-map-inside unmasked (g .input) j 0 noInput (omega (arith, fits .shaped .input, fits .gates))
 
+-- what holds of each input, place by place, holds of the row, and the other way
+module _ (P : Input → Type 0) (g : Gate) (fits : Fits g) where
+  pub tests-as-row : ((j : ℕ) → j < g .tests → P (testAt g j)) → Every P noInput (testsOf g)
+  tests-as-row each k inside = let below : k < g .tests = omega (arith, tests-long g fits) in subst P (sym (test-at g fits k below)) (each k below)
+
+  pub tests-in-row : Every P noInput (testsOf g) → (j : ℕ) → j < g .tests → P (testAt g j)
+  tests-in-row each j below = subst P (test-at g fits j below) (each j (omega (arith, tests-long g fits)))
+
+  pub gate-inputs-as-row : ((j : ℕ) → j < g .gates → P (unmasked (getD (g .input) j 0))) → Every P noInput (gateInputsOf g)
+  gate-inputs-as-row each k inside =
+      let below : k < g .gates = omega (arith, gate-inputs-long g fits) in subst P (sym (gate-input-at g fits k below)) (each k below)
+
+  pub gate-inputs-in-row : Every P noInput (gateInputsOf g) → (j : ℕ) → j < g .gates → P (unmasked (getD (g .input) j 0))
+  gate-inputs-in-row each j below = subst P (gate-input-at g fits j below) (each j (omega (arith, gate-inputs-long g fits)))
+
 module _ (P : Input → Type 0) (g : Gate) (fits : Fits g) where
   pub tests-every : ((j : ℕ) → j < g .tests → P (testAt g j)) → (j : ℕ) → j < g .tests → P (testAt (inOrder g) j)
   unfolding inOrder
-  tests-every each j below =
-      let rows : Every P noInput (testsOf g) =
-      λ k inside. let less : k < g .tests = omega (arith, tests-long g fits) in subst P (sym (test-at g fits k less)) (each k less) in
-      let sorts = sorted-every P (testsOf g) rows in
-      let inside : j < length (sorted (testsOf g)) = omega (arith, below, sorted-long (testsOf g), tests-long g fits) in
-      let here = ap (λ (row : _). getD row j noInput) (sym (tests-sorted g (fits .shaped))) ∙ test-at (inOrder g) (in-order-fits g fits) j below in
-      subst P here (sorts j inside)
+  tests-every each =
+      let sorts = sorted-every P (testsOf g) (tests-as-row P g fits each) in
+      tests-in-row P (inOrder g) (in-order-fits g fits) (subst (Every P noInput) (sym (tests-sorted g (fits .shaped))) sorts)
 
   pub gate-inputs-every : ((j : ℕ) → j < g .gates → P (unmasked (getD (g .input) j 0))) → (j : ℕ) → j < g .gates → P (unmasked (getD (inOrder g .input) j 0))
   unfolding inOrder
-  gate-inputs-every each j below =
-      let rows : Every P noInput (gateInputsOf g) =
-      λ k inside. let less : k < g .gates = omega (arith, gate-inputs-long g fits) in subst P (sym (gate-input-at g fits k less)) (each k less) in
-      let sorts = sorted-every P (gateInputsOf g) rows in
-      let inside : j < length (sorted (gateInputsOf g)) = omega (arith, below, sorted-long (gateInputsOf g), gate-inputs-long g fits) in
-      let here = ap (λ (row : _). getD row j noInput) (sym (gate-inputs-sorted g (fits .shaped))) ∙ gate-input-at (inOrder g) (in-order-fits g fits) j below in
-      subst P here (sorts j inside)
+  gate-inputs-every each =
+      let sorts = sorted-every P (gateInputsOf g) (gate-inputs-as-row P g fits each) in
+      gate-inputs-in-row P (inOrder g) (in-order-fits g fits) (subst (Every P noInput) (sym (gate-inputs-sorted g (fits .shaped))) sorts)
 
 module _ (g : Gate) (fits : Fits g) (j : ℕ) where
   pub component-behind : g .tests ≤ j → getD (inOrder g .component) j 0 ≡ getD (g .component) j 0

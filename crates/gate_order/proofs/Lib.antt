@@ -1,4 +1,5 @@
 pub mod Checked
+pub mod Distinct
 pub mod Fronts
 pub mod InOrder
 pub mod Kept

@@ -1,17 +1,18 @@
 -- Distinct inputs go by their set. What carries it: a row without an input (`without`) has one distinct input less where that input stood there, and the same
 -- where it did not; so two rows with one set lose the same inputs, one after the other.
-use Prim.Native.Nat.{ℕ, _+_, _≤_, _<_}
+use Prim.Native.Nat.{ℕ, zero, suc, _+_, _≤_}
 use mathlib.Core.Path.{_≡_, refl, sym, ap, ap₂, _∙_}
 use mathlib.Core.Bool.{Bool, true, false, not, _&&_, _||_, cond, false≢true}
 use mathlib.Core.List.{List, [], _∷_}
-use native.Mathlib.Nat.{zero-add}
+use native.Mathlib.Nat.{le-of-suc-le-suc, zero-add}
 use native.Mathlib.Omega.{arith}
 use lib.Dec.{ltb, eqb}
 use lib.ListN.{length}
 use borrow.Author.Tests.{eqb-true, eq-eqb, lt-ltb}
 use Rattle.lists.specs.Counting.{truth, those, sumOver}
+use Rattle.lists.proofs.Elements.{Every}
 use Rattle.ordering.specs.Distinct.{sameInput, standsIn, timesIn, distinct, SameSet}
-use Rattle.ordering.specs.Inputs.{Input, Alike}
+use Rattle.ordering.specs.Inputs.{Input, noInput, Alike}
 use Rattle.ordering.specs.Laws.{EachOnce, DistinctBySet}
 
 -- ---- the same input
@@ -174,3 +175,14 @@ distinct-most (a ∷ row) = go (standsIn a row) (distinct-most row)
     go : (p : Bool) → length (distinct row) ≤ length row → length (cond p (distinct row) (a ∷ distinct row)) ≤ length (a ∷ row)
     go true most = omega arith
     go false most = omega arith
+
+-- what holds of each input holds of each distinct one
+pub distinct-every : (P : Input → Type 0) (row : List Input) → Every P noInput row → Every P noInput (distinct row)
+unfolding distinct
+distinct-every P [] each = each
+distinct-every P (a ∷ row) each = go (standsIn a row) (distinct-every P row (λ k h. each (suc k) (omega arith)))
+  where
+    go : (p : Bool) → Every P noInput (distinct row) → Every P noInput (cond p (distinct row) (a ∷ distinct row))
+    go true rest k h = rest k h
+    go false rest zero h = each zero (omega arith)
+    go false rest (suc k) h = rest k (le-of-suc-le-suc h)
