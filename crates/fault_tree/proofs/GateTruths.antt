@@ -1,4 +1,4 @@
--- What bounds the true inputs of a gate, and what carries the evaluation of the gates: the truths of those below i are set.
+-- What carries the evaluation of the gates: the truths of those below i are set.
 use Prim.Native.Nat.{ℕ, zero, suc, _+_, _<_, _≤_}
 use mathlib.Core.Path.{_≡_, refl, ap, _∙_}
 use mathlib.Core.Bool.{Bool, false}
@@ -6,20 +6,10 @@ use mathlib.Core.List.{List}
 use native.Mathlib.Numerals.{add-one}
 use native.Mathlib.Omega.{arith}
 use lib.ListN.{length, getD, replicate, set, length-replicate, length-set}
-use Rattle.lists.proofs.Sums.{count-most}
 use Rattle.rules.specs.Limits.{mostGates}
 use Rattle.study.specs.declared.Gate.{Gate}
 use Rattle.study.specs.Places.{noGate}
-use Rattle.fault_tree.specs.Truth.{testTrue, trueTests, trueGates, gateTrue, withTruth, gateTruths}
-
--- no more inputs are true than there are
-pub tests-most : (g : Gate) (x : List ℕ) → trueTests g x ≤ g .tests
-unfolding trueTests
-tests-most g x = count-most (testTrue g x) (g .tests)
-
-pub gates-most : (g : Gate) (holds : ℕ → Bool) → trueGates g holds ≤ g .gates
-unfolding trueGates
-gates-most g holds = count-most (λ (j : ℕ). holds (getD (g .input) j 0)) (g .gates)
+use Rattle.fault_tree.specs.Truth.{gateTrue, withTruth, gateTruths}
 
 -- they stand at the places of all gates
 pub truths-long : (gates : List Gate) (x : List ℕ) (i : ℕ) → length (gateTruths gates x i) ≡ mostGates

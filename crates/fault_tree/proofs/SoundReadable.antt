@@ -1,5 +1,5 @@
 -- A sound study and its joint states can be read: its gates name components, lower gates and states that are there.
-use Prim.Native.Nat.{ℕ, zero, suc, _<_}
+use Prim.Native.Nat.{ℕ, zero, suc, _*_, _<_}
 use mathlib.Core.Path.{_≡_, refl, sym, _∙_}
 use mathlib.Core.Bool.{Bool}
 use mathlib.Core.List.{List}
@@ -12,27 +12,53 @@ use Rattle.joint_states.proofs.Numbered.{number-up}
 use Rattle.study.specs.declared.Study.{Study}
 use Rattle.study.specs.Joint.{stateCounts}
 use Rattle.study.specs.Places.{gateAt}
+use Rattle.ordering.specs.Inputs.{Input}
+use Rattle.gate_order.specs.Inputs.{distinctGate}
+use Rattle.gate_order.proofs.Distinct.{distinct-fits, distinct-tests-every, distinct-gate-inputs-every}
+use Rattle.gate_order.proofs.InOrder.{Fits}
 use Rattle.soundness.specs.Sound.{Sound}
 use Rattle.soundness.proofs.Ranges.{components-most, gates-most, counts-long, counts-small, count-least}
 use Rattle.soundness.proofs.Ranges.{tests-most, gate-inputs-most, test-component, input-lower}
-use Rattle.fault_tree.specs.Readable.{GateReadable, allUp, TableBegins}
+use Rattle.fault_tree.specs.Readable.{RowReadable, allUp, TableBegins}
+use Rattle.fault_tree.specs.Rows.{rowPlaces, RowsOf}
+use Rattle.fault_tree.proofs.GateRows.{row-room}
 
-module _ (t : Study) (counts : List ℕ) (s : Sound t) (same : counts ≡ stateCounts t) where
-  -- gate i in joint state x, where the gates have these truths
-  pub gate-readable : (x : List ℕ) (truths : List Bool) → JointState counts x → length truths ≡ mostGates → (i : ℕ) → i < t .gates
-      → GateReadable (gateAt t i) x truths
-  gate-readable x truths j long i h =
+module _ (t : Study) (counts : List ℕ) (s : Sound t) (same : counts ≡ stateCounts t) (rows : List ℕ) (rowed : RowsOf (t .gate) (t .gates) rows) (i : ℕ)
+    (h : i < t .gates) where
+  -- gate i has its places, and no more inputs than those
+  pub gate-fits : Fits (gateAt t i)
+  gate-fits = record { shaped = rowed .shaped i h; tests = tests-most t s i h; gates = gate-inputs-most t s i h }
+
+  -- its row, in joint state x, where the gates have these truths
+  pub row-readable : (x : List ℕ) (truths : List Bool) → JointState counts x → length truths ≡ mostGates → RowReadable rows (i * rowPlaces) x truths
+  row-readable x truths j long =
+      let row = rowed .each i h in
+      let inside = row-room rowed (gates-most t s) h in
+      let few = distinct-fits (gateAt t i) gate-fits in
+      let component =
+      distinct-tests-every (λ (a : Input). a .number < length x) (gateAt t i) gate-fits (λ k less. rw (j .long, same) (test-component t s i h k less)) in
+      let input =
+      distinct-gate-inputs-every (λ (a : Input). a .number < length truths) (gateAt t i) gate-fits
+      (λ k less. omega (arith, input-lower t s i h k less, gates-most t s, long)) in
       record {
         tests =
             record {
-              count = tests-most t s i h;
-              component = λ k less. rw (j .long, same) (test-component t s i h k less);
+              inside = inside;
+              count = omega (arith, row .tests, few .tests);
+              component =
+                  λ k less.
+                  let below : k < distinctGate (gateAt t i) .tests = omega (arith, less, row .tests) in
+                  omega (arith, row .component k (omega (arith, below, few .tests)), component k below);
               state = λ k less. omega (arith, j .below k (omega (arith, j .long)), counts-small t s counts same k (omega (arith, j .long)));
             };
         inputs =
             record {
-              count = gate-inputs-most t s i h;
-              input = λ k less. omega (arith, input-lower t s i h k less, gates-most t s);
+              inside = inside;
+              count = omega (arith, row .gates, few .gates);
+              input =
+                  λ k less.
+                  let below : k < distinctGate (gateAt t i) .gates = omega (arith, less, row .gates) in
+                  omega (arith, row .input k (omega (arith, below, few .gates)), input k below);
             };
       }
 

@@ -5,25 +5,34 @@ use mathlib.Core.List.{List}
 use lib.Dec.{leb}
 use lib.ListN.{getD, replicate, set}
 use Rattle.lists.specs.Bits.{bit}
-use Rattle.lists.specs.Counting.{countTrue}
+use Rattle.lists.specs.Counting.{truth, sumOver}
+use Rattle.ordering.specs.Distinct.{distinct}
+use Rattle.ordering.specs.Inputs.{Input}
 use Rattle.rules.specs.Limits.{mostGates}
 use Rattle.study.specs.declared.Gate.{Gate}
 use Rattle.study.specs.Places.{noGate}
+use Rattle.gate_order.specs.Inputs.{testsOf, gateInputsOf}
 
--- test j of a gate is true in joint state x: bit s of its mask stands, s being the component's state
-abbrev pub testTrue : Gate → List ℕ → ℕ → Bool
-testTrue g x j = bit (getD (g .mask) j 0) (getD x (getD (g .component) j 0) 0)
+-- a test is true in joint state x: bit s of its mask stands, s being the component's state
+abbrev pub testTrue : List ℕ → Input → Bool
+testTrue x a = bit (a .mask) (getD x (a .number) 0)
 
+-- how many inputs of a row are true, each counted once however often it stands there
+unfoldable pub trueOnce : (Input → Bool) → List Input → ℕ
+unfolding distinct sumOver
+trueOnce isTrue row = sumOver (λ (a : Input). truth (isTrue a)) (distinct row)
+
+-- the tests that are true
 unfoldable pub trueTests : Gate → List ℕ → ℕ
-unfolding countTrue
-trueTests g x = countTrue (testTrue g x) (g .tests)
+unfolding trueOnce
+trueTests g x = trueOnce (testTrue x) (testsOf g)
 
 -- the gate inputs that are true, where `holds` says which gates are
 unfoldable pub trueGates : Gate → (ℕ → Bool) → ℕ
-unfolding countTrue
-trueGates g holds = countTrue (λ (j : ℕ). holds (getD (g .input) j 0)) (g .gates)
+unfolding trueOnce
+trueGates g holds = trueOnce (λ (a : Input). holds (a .number)) (gateInputsOf g)
 
--- a gate is true when at least its threshold of inputs, tests and gates together, are; one that stands twice counts twice
+-- a gate is true when at least its threshold of distinct inputs, tests and gates together, are
 unfoldable pub gateTrue : Gate → List ℕ → (ℕ → Bool) → Bool
 unfolding trueTests trueGates
 gateTrue g x holds = leb (g .threshold) (trueTests g x + trueGates g holds)

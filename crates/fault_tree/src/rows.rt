@@ -1,17 +1,27 @@
-// The inputs of all gates as rows of bytes, one behind the other, so that what reads them for each joint state copies no gate.
+// All gates as rows of bytes, one behind the other, each with its distinct inputs alone: they are found once, and what reads the rows for each joint state copies
+// no gate.
+use gate_order::without_repeats;
 use rules::GATE_PLACES;
 use rules::INPUT_PLACES;
 use rules::TEST_PLACES;
 use study::Gate;
 use text::copy;
-ghost use Prim.Native.Nat.{_+_, _≤_};
+ghost use Prim.Native.Nat.{ℕ, _+_, _<_, _≤_};
 ghost use mathlib.Core.Path.{_≡_};
-ghost use lib.ListN.{length};
+ghost use lib.ListN.{length, getD};
 ghost use Rattle.rules.specs.Limits.{mostGates};
+ghost use Rattle.study.specs.Places.{noGate};
+ghost use Rattle.gate_order.specs.Order.{InOrder};
 ghost use Rattle.fault_tree.specs.Rows.{rowPlaces, rowsPlaces, RowPut, RowsOf};
 
-// Where a row has the masks of a gate's tests, behind their components, and where it has the gate inputs.
-pub const MASKS: usize = TEST_PLACES;
+// Where a row has the counts of a gate's tests and of its gate inputs, behind its threshold; then the components of its tests, their masks, and its gate inputs.
+pub const TESTS: usize = 1;
+
+pub const GATES: usize = 2;
+
+pub const COMPONENTS: usize = 3;
+
+pub const MASKS: usize = COMPONENTS + TEST_PLACES;
 
 pub const INPUTS: usize = MASKS + TEST_PLACES;
 
@@ -35,21 +45,24 @@ fn put_row(rows: &mut [u8], at: usize, g: Gate)
     let component = g.component;
     let mask = g.mask;
     let input = g.input;
-    let masks = copy(rows, at, &component);
+    let counts = [g.threshold, g.tests, g.gates];
+    let components = copy(rows, at, &counts);
+    let masks = copy(rows, components, &component);
     let inputs = copy(rows, masks, &mask);
     copy(rows, inputs, &input);
 }
 
-// Writes the rows of the first n gates.
+// Writes the rows of the first n gates, whose inputs are in order.
 pub fn put_rows(rows: &mut [u8], gate: [Gate; GATE_PLACES], n: usize)
-    requires { ⌜ n ≤ mostGates ⌝ }
-    requires { ⌜ rowsPlaces ≡ length (now rows) ⌝ }
+    requires few { ⌜ n ≤ mostGates ⌝ }
+    requires order { ⌜ ((i : ℕ) → i < n → InOrder (getD gate i noGate)) ⌝ }
+    requires room { ⌜ rowsPlaces ≡ length (now rows) ⌝ }
     ensures { λ r. ⌜ RowsOf gate n (now (rows .exit)) ⌝ }
 {
     let mut i: usize = 0;
     while i < n {
         let g = gate[i];
-        put_row(rows, i * ROW_PLACES, g);
+        put_row(rows, i * ROW_PLACES, without_repeats(g));
         i = i + 1;
     }
 }

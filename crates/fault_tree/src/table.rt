@@ -45,8 +45,7 @@ fn fill_table(t: Study, counts: &[u8], x: &mut [u8], table: &mut [Class])
         let mut truths = no_truths();
         let mut i: usize = 0;
         while i < gates {
-            let g = gate[i];
-            let holds = gate_true(g, &rows, i * ROW_PLACES, x, &truths);
+            let holds = gate_true(&rows, i * ROW_PLACES, x, &truths);
             truths[i] = holds;
             i = i + 1;
         }

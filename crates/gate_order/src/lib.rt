@@ -15,6 +15,7 @@ use tests::sort_tests;
 use tests::tests_ascend;
 ghost use Prim.Native.Nat.{min};
 ghost use mathlib.Core.Path.{_≡_};
+ghost use Rattle.study.specs.Places.{ShapedGate};
 ghost use Rattle.gate_order.specs.Inputs.{inputCount, distinctGate};
 ghost use Rattle.gate_order.specs.Order.{InOrder, inOrder, orderFault};
 
@@ -71,9 +72,10 @@ pub fn input_count(g: Gate) -> u32
     distinct_tests(g.tests, component, mask) as u32 + distinct_gate_inputs(g.gates, input) as u32
 }
 
-// The gate with those alone.
+// The gate with those alone. It has its places, as every gate that is given by value.
 pub fn without_repeats(g: Gate) -> Gate
-    ensures { λ r. ⌜ (InOrder g → r ≡ distinctGate g) ⌝ }
+    ensures places { λ r. ⌜ ShapedGate g ⌝ }
+    ensures inputs { λ r. ⌜ (InOrder g → r ≡ distinctGate g) ⌝ }
 {
     let mut component = g.component;
     let mut mask = g.mask;

@@ -15,18 +15,21 @@ tested c = c .before .before .before .before
 
 returns : tie.Need-returns
 unfolding distinctGate
-returns c order =
-    let tests = tested (c .before) .keep-distinct-tests .ensures .1 (order .tests) in
-    let inputs = c .before .keep-distinct-gate-inputs .ensures .1 in
-    λ i.
-    record {
-      threshold = given (tested (c .before)) .threshold;
-      tests = tests .many i;
-      component = tests .in-numbers i;
-      mask = tests .in-masks i;
-      gates = inputs .1 (order .gate-inputs) i;
-      input = inputs .0 (order .gate-inputs) i;
-    }
+returns c =
+    let tests = tested (c .before) .keep-distinct-tests .ensures .1 in
+    let inputs = c .before .keep-distinct-gate-inputs .ensures .1 in (
+      record { component = search needs; mask = search needs; input = search needs },
+      λ order.
+          λ i.
+          record {
+            threshold = given (tested (c .before)) .threshold;
+            tests = tests (order .tests) .many i;
+            component = tests (order .tests) .in-numbers i;
+            mask = tests (order .tests) .in-masks i;
+            gates = inputs .1 (order .gate-inputs) i;
+            input = inputs .0 (order .gate-inputs) i;
+          },
+    )
 
 pub without-repeats-spec : {M : Type 1} → statement M
 without-repeats-spec =

@@ -1,7 +1,9 @@
--- `fault_tree::rows::put_rows` meets its contract. The rows of the gates below i stand (`Rowed`); the gates left fall.
+-- `fault_tree::rows::put_rows` meets its contract. The rows of the gates below i stand (`Rowed`), each without its repeats, since its inputs are in order; the gates
+-- left fall.
 use Prim.Native.Nat.{_-_, _<_}
 use mathlib.Core.Path.{_∙_}
 use native.Mathlib.Omega.{arith}
+use borrow.Author.Needs.{needs}
 use Rattle.rules.specs.Limits.{mostGates}
 use Rattle.fault_tree.proofs.GateRows.{Rowed, rowed-start, rowed-room, rowed-more, rowed-done}
 use Rattle.fault_tree.proofs.rows.put_rows.Statement.{statement}
@@ -16,33 +18,29 @@ abbrev μ-loop : tie.MeasureT-loop
 inside : (c : tie.In-loop Inv-loop μ-loop) → c .before .loop .i < mostGates
 inside c = omega (arith, c .loop-test .taken, c .before .loop .inv .few)
 
-loop-holds : tie.Need-loop-holds Inv-loop μ-loop
-loop-holds c = rowed-start (c .before .pre .0) (c .before .pre .1)
+-- the turn that a gate belongs to, and the call
+abbrev turn : tie.After-without-repeats Inv-loop μ-loop → tie.In-loop Inv-loop μ-loop
+turn c = c .before .before .before
 
-mul-g : tie.Need-mul-g Inv-loop μ-loop
-mul-g c = record { fits = omega (arith, inside c) }
-
-array-copy-out-g : tie.Need-array-copy-out-g Inv-loop μ-loop
-array-copy-out-g c = inside c
-
-mul-put-row : tie.Need-mul-put-row Inv-loop μ-loop
-mul-put-row c = record { fits = omega (arith, inside (c .before .before)) }
+abbrev start : tie.In-loop Inv-loop μ-loop → tie.Start Inv-loop μ-loop
+start c = c .before .before .before
 
 put-row-requires : tie.Need-put-row-requires Inv-loop μ-loop
-put-row-requires c κs = rowed-room (c .before .before .before .loop .inv) (c .before .before .loop-test .taken)
+put-row-requires c κs = rowed-room (turn c .before .loop .inv) (turn c .loop-test .taken)
 
 loop-less : tie.Need-loop-less Inv-loop μ-loop
-loop-less c = omega (arith, c .before .before .before .before .before .loop-test .taken)
+loop-less c = omega (arith, turn (c .before .before .before) .loop-test .taken)
 
 loop-again : tie.Need-loop-again Inv-loop μ-loop
 loop-again c =
-    let turn = c .before .before .before .before .before in
-    rowed-more (turn .before .loop .inv) (turn .loop-test .taken) (c .before .before .put-row .ensures)
+    let put = c .before .before in
+    let own = turn (put .before) in
+    let taken = own .loop-test .taken in
+    let once = put .before .without-repeats .ensures in
+    rowed-more (own .before .loop .inv) taken (once .0) (once .1 (start own .pre .1 .0 _ taken)) (put .put-row .ensures)
 
 same-length : tie.Need-same-length Inv-loop μ-loop
-same-length c =
-    let begin = c .before .before .before in
-    c .before .loop .inv .rows-of .places ∙ begin .pre .1
+same-length c = c .before .loop .inv .rows-of .places ∙ c .before .before .before .pre .1 .1
 
 returns : tie.Need-returns Inv-loop μ-loop
 returns c = rowed-done (c .before .loop .inv) (c .loop-test .left)
@@ -53,10 +51,11 @@ put-rows-spec =
     (tie.spec
     Inv-loop
     μ-loop
-    loop-holds
-    mul-g
-    array-copy-out-g
-    mul-put-row
+    (λ c. rowed-start (c .before .pre .0) (c .before .pre .1 .1))
+    (λ c. record { fits = omega (arith, inside c) })
+    inside
+    (λ c. record { fits = omega (arith, inside (c .before .before)) })
+    (λ c κs. search needs)
     put-row-requires
     (λ c. omega arith)
     loop-less

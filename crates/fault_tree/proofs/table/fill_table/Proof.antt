@@ -8,24 +8,24 @@ use Rattle.lists.specs.Product.{product}
 use Rattle.rules.specs.Limits.{mostGates}
 use Rattle.soundness.proofs.Ranges.{loads-most, gates-most, joint-most, counts-inside, counts-small}
 use Rattle.fault_tree.specs.Classes.{classOf}
-use Rattle.fault_tree.proofs.GateRows.{row-in}
-use Rattle.fault_tree.proofs.SoundReadable.{gate-readable}
+use Rattle.fault_tree.proofs.GateRows.{row-true}
+use Rattle.fault_tree.proofs.SoundReadable.{gate-fits, row-readable}
 use Rattle.fault_tree.proofs.Tables.{Tabled, tabled-start, tabled-more, tabled-inside, tabled-long, tabled-done}
 use Rattle.fault_tree.proofs.GateTruths.{Evaluated, evaluated-start, evaluated-more, evaluated-long, evaluated-done}
 use Rattle.fault_tree.proofs.table.fill_table.Statement.{statement}
 use Rattle.fault_tree.proofs.table.fill_table.Tie as tie
 
 abbrev Inv-loop2 : tie.InvT-loop2
-Inv-loop2 t counts x table gate load gates rows joint k truths₀ i₀ truths i = Evaluated gate x gates i truths
+Inv-loop2 t counts x table load gates rows joint k truths₀ i₀ truths i = Evaluated (t .gate) x gates i truths
 
 abbrev μ-loop2 : tie.MeasureT-loop2
-μ-loop2 t counts x table gate load gates rows joint k truths₀ i₀ truths i = gates - i
+μ-loop2 t counts x table load gates rows joint k truths₀ i₀ truths i = gates - i
 
 abbrev Inv-loop : tie.InvT-loop
-Inv-loop t counts x₀ table₀ gate load gates rows joint k₀ x table k = Tabled t counts table₀ joint k x table
+Inv-loop t counts x₀ table₀ load gates rows joint k₀ x table k = Tabled t counts table₀ joint k x table
 
 abbrev μ-loop : tie.MeasureT-loop
-μ-loop t counts x₀ table₀ gate load gates rows joint k₀ x table k = joint - k
+μ-loop t counts x₀ table₀ load gates rows joint k₀ x table k = joint - k
 
 -- ---- the steps of the code, and what comes before them
 
@@ -49,13 +49,19 @@ ended c = c .before .before .before
 abbrev last : tie.After-class-by Inv-loop2 μ-loop2 Inv-loop μ-loop → tie.After-loop2 Inv-loop2 μ-loop2 Inv-loop μ-loop
 last c = c .before .before
 
+-- from the truth of a gate to the turn
+abbrev told : tie.After-gate-true Inv-loop2 μ-loop2 Inv-loop μ-loop → tie.In-loop2 Inv-loop2 μ-loop2 Inv-loop μ-loop
+told c = c .before .before .before .before
+
 gate-inside : (c : tie.In-loop2 Inv-loop2 μ-loop2 Inv-loop μ-loop) → c .before .loop2 .i < mostGates
 gate-inside c = omega (arith, gates-most _ (turn c .before .loop .inv .sound), c .loop2-test .taken)
 
 -- ---- the needs
 
 put-rows-requires : tie.Need-put-rows-requires Inv-loop2 μ-loop2 Inv-loop μ-loop
-put-rows-requires c κs = (gates-most _ (start (c .before .before) .pre .0 .sound), c .before .no-rows .ensures)
+put-rows-requires c κs =
+    let s = start (c .before .before) .pre .0 .sound in
+    (gates-most _ s, (s .order, c .before .no-rows .ensures))
 
 joint-states-requires : tie.Need-joint-states-requires Inv-loop2 μ-loop2 Inv-loop μ-loop
 joint-states-requires c κs =
@@ -78,40 +84,36 @@ no-truths-requires c κs = tt
 loop2-holds : tie.Need-loop2-holds Inv-loop2 μ-loop2 Inv-loop μ-loop
 loop2-holds c = evaluated-start (c .no-truths .ensures)
 
-mul-g : tie.Need-mul-g Inv-loop2 μ-loop2 Inv-loop μ-loop
-mul-g c = omega arith
-
-array-copy-out-g : tie.Need-array-copy-out-g Inv-loop2 μ-loop2 Inv-loop μ-loop
-array-copy-out-g c = gate-inside c
-
 mul-gate-true : tie.Need-mul-gate-true Inv-loop2 μ-loop2 Inv-loop μ-loop
-mul-gate-true c = record { fits = omega (arith, gate-inside (c .before .before)) }
+mul-gate-true c = record { fits = omega (arith, gate-inside (c .before)) }
 
 slice-aggregate-gate-true-2 : tie.Need-slice-aggregate-gate-true-2 Inv-loop2 μ-loop2 Inv-loop μ-loop
-slice-aggregate-gate-true-2 c = sym (evaluated-long (c .before .before .before .before .before .loop2 .inv))
+slice-aggregate-gate-true-2 c = sym (evaluated-long (c .before .before .before .before .loop2 .inv))
 
 gate-true-requires : tie.Need-gate-true-requires Inv-loop2 μ-loop2 Inv-loop μ-loop
 gate-true-requires c κs =
-    let at = c .before .before .before .before in
+    let at = c .before .before .before in
     let tabled = turn at .before .loop .inv in
-    let taken = at .loop2-test .taken in (
-      row-in (rowed (turn at .before) .put-rows .ensures) (gates-most _ (tabled .sound)) taken,
-      gate-readable _ _ (tabled .sound) (tabled .same) _ _ (tabled .joint) (evaluated-long (at .before .loop2 .inv)) _ taken,
-    )
+    row-readable _ _ (tabled .sound) (tabled .same) _ (rowed (turn at .before) .put-rows .ensures) _ (at .loop2-test .taken) _ _ (tabled .joint)
+    (evaluated-long (at .before .loop2 .inv))
 
 array-write-truths : tie.Need-array-write-truths Inv-loop2 μ-loop2 Inv-loop μ-loop
-array-write-truths c = gate-inside (c .before .before .before .before .before)
+array-write-truths c = gate-inside (told c)
 
 add-i : tie.Need-add-i Inv-loop2 μ-loop2 Inv-loop μ-loop
 add-i c = omega arith
 
 loop2-less : tie.Need-loop2-less Inv-loop2 μ-loop2 Inv-loop μ-loop
-loop2-less c = omega (arith, c .before .before .before .before .before .loop2-test .taken)
+loop2-less c = omega (arith, told c .loop2-test .taken)
 
 loop2-again : tie.Need-loop2-again Inv-loop2 μ-loop2 Inv-loop μ-loop
 loop2-again c =
-    let at = c .before .before .before .before .before in
-    evaluated-more (at .before .loop2 .inv) (at .loop2-test .taken) (c .gate-true .ensures)
+    let at = told c in
+    let tabled = turn at .before .loop .inv in
+    let rows = rowed (turn at .before) .put-rows .ensures in
+    let taken = at .loop2-test .taken in
+    let fits = gate-fits _ _ (tabled .sound) (tabled .same) _ rows _ taken in
+    evaluated-more (at .before .loop2 .inv) taken (c .gate-true .ensures ∙ row-true fits (rows .each _ taken) _ _)
 
 slice-aggregate-class-by : tie.Need-slice-aggregate-class-by Inv-loop2 μ-loop2 Inv-loop μ-loop
 slice-aggregate-class-by c = sym (evaluated-long (c .before .before .loop2 .inv))
@@ -172,8 +174,6 @@ fill-table-spec =
     loop-holds
     no-truths-requires
     loop2-holds
-    mul-g
-    array-copy-out-g
     (λ c. search needs)
     mul-gate-true
     slice-aggregate-gate-true-2

@@ -1,15 +1,13 @@
 -- `fault_tree::truth::true_gates` meets its contract. The gate inputs below j are counted (`Counted`) as the row has them; the inputs left fall.
 use Prim.Native.Nat.{ℕ, _+_, _-_}
-use mathlib.Core.Path.{refl, _∙_}
+use mathlib.Core.Path.{refl}
 use mathlib.Core.Bool.{false}
 use native.Mathlib.Omega.{arith}
 use lib.ListN.{getD}
 use denote.Ref.{now}
-use borrow.Author.Needs.{needs}
 use Rattle.lists.proofs.Sums.{Counted, counted-start, counted-more, counted-most, counted-done}
 use Rattle.fault_tree.specs.Readable.{InputsReadable}
-use Rattle.fault_tree.specs.Rows.{inputsFrom, RowIn}
-use Rattle.fault_tree.proofs.GateRows.{row-gates}
+use Rattle.fault_tree.specs.Rows.{gatesAt, inputsFrom, rowGates}
 use Rattle.fault_tree.proofs.truth.true_gates.Statement.{statement}
 use Rattle.fault_tree.proofs.truth.true_gates.Tie as tie
 
@@ -20,42 +18,33 @@ abbrev μ-loop : tie.MeasureT-loop
 μ-loop rows at truths gates inputs n₀ j₀ n j = gates - j
 
 -- where the code begins, seen from a turn, and what it knows there
-abbrev start : tie.In-loop Inv-loop μ-loop → tie.Start Inv-loop μ-loop
-start c = c .before .before .before
+abbrev begun : tie.In-loop Inv-loop μ-loop → tie.Start Inv-loop μ-loop
+begun c = c .before .before .before
 
-row : (c : tie.In-loop Inv-loop μ-loop) → RowIn (start c .args .g) (now (start c .args .rows)) (start c .args .at)
-row c = start c .pre .0
-
-readable : (c : tie.In-loop Inv-loop μ-loop) → InputsReadable (start c .args .g) (now (start c .args .truths))
-readable c = start c .pre .1
+readable : (c : tie.In-loop Inv-loop μ-loop) → InputsReadable (now (begun c .args .rows)) (begun c .args .at) (now (begun c .args .truths))
+readable c = begun c .pre
 
 -- the turn, seen from the reading in it
-abbrev turn : tie.After-shared-slice-known2 Inv-loop μ-loop → tie.In-loop Inv-loop μ-loop
+abbrev turn : tie.After-shared-slice-known3 Inv-loop μ-loop → tie.In-loop Inv-loop μ-loop
 turn c = c .before .before
 
-add-inputs : tie.Need-add-inputs Inv-loop μ-loop
-add-inputs c = record { fits = omega (arith, c .before .pre .0 .inside) }
+cast-gates : tie.Need-cast-gates Inv-loop μ-loop
+cast-gates c = record { fits = omega (arith, c .shared-slice-known .given (c .before .args .at + gatesAt)) }
 
-loop-holds : tie.Need-loop-holds Inv-loop μ-loop
-loop-holds c = counted-start
-
+-- a gate input of the row stands inside it
 add-i : tie.Need-add-i Inv-loop μ-loop
-add-i c = record { fits = omega (arith, row c .inside, readable c .count, c .loop-test .taken) }
+add-i c = record { fits = omega (arith, readable c .inside, readable c .count, c .loop-test .taken) }
 
 shared-slice-read-i : tie.Need-shared-slice-read-i Inv-loop μ-loop
-shared-slice-read-i c = omega (arith, row (c .before) .inside, readable (c .before) .count, c .before .loop-test .taken)
+shared-slice-read-i c = let own = c .before in omega (arith, readable own .inside, readable own .count, own .loop-test .taken)
 
 cast-i : tie.Need-cast-i Inv-loop μ-loop
 cast-i c =
-    let begin = start (c .before) in
-    record { fits = omega (arith, c .shared-slice-known .given (begin .args .at + inputsFrom + c .before .before .loop .j)) }
+    let own = c .before in
+    record { fits = omega (arith, c .shared-slice-known2 .given (begun own .args .at + inputsFrom + own .before .loop .j)) }
 
 shared-slice-read-n : tie.Need-shared-slice-read-n Inv-loop μ-loop
-shared-slice-read-n c =
-    let own = turn c in
-    let j = own .before .loop .j in
-    let input = row own .row .input j (omega (arith, own .loop-test .taken, readable own .count)) in
-    omega (arith, input, readable own .input j (own .loop-test .taken))
+shared-slice-read-n c = let own = turn c in readable own .input (own .before .loop .j) (own .loop-test .taken)
 
 loop-again : tie.Need-loop-again Inv-loop μ-loop
 loop-again c = counted-more (turn c .before .loop .inv) (turn c .loop-test .taken) refl
@@ -67,10 +56,8 @@ loop-less : tie.Need-loop-less Inv-loop μ-loop
 loop-less c = omega (arith, turn c .loop-test .taken)
 
 returns : tie.Need-returns Inv-loop μ-loop
-returns c =
-    let begin = c .before .before .before in
-    counted-done (c .before .loop .inv) (c .loop-test .left)
-    ∙ row-gates (begin .pre .0 .row) (λ (k : ℕ). getD (now (begin .args .truths)) k false) (begin .pre .1 .count)
+unfolding rowGates
+returns c = counted-done (c .before .loop .inv) (c .loop-test .left)
 
 pub true-gates-spec : {M : Type 1} → statement M
 true-gates-spec =
@@ -78,9 +65,11 @@ true-gates-spec =
     (tie.spec
     Inv-loop
     μ-loop
-    (λ c. search needs)
-    add-inputs
-    loop-holds
+    (λ c. record { fits = omega (arith, c .pre .inside) })
+    (λ c. omega (arith, c .before .pre .inside))
+    cast-gates
+    (λ c. record { fits = omega (arith, c .before .pre .inside) })
+    (λ c. counted-start)
     add-i
     shared-slice-read-i
     cast-i
