@@ -1,5 +1,10 @@
 //! The truth of gates in a joint state, and the class that it comes to.
-use super::study::Study;
+use super::study::{once, Study, Test};
+
+fn test_is_true(test: &Test, joint: &[u8]) -> bool {
+    let state = joint[usize::from(test.component)];
+    test.mask & (1 << state) != 0
+}
 
 /// Whether a gate is true in a joint state. A gate found before is not asked again: lower gates have many above them.
 fn is_true(study: &Study, gate: u8, joint: &[u8], found: &mut [Option<bool>]) -> bool {
@@ -7,19 +12,11 @@ fn is_true(study: &Study, gate: u8, joint: &[u8], found: &mut [Option<bool>]) ->
         return truth;
     }
     let this = &study.gates[usize::from(gate)];
-    let mut inputs = 0;
-    for test in &this.tests {
-        let state = joint[usize::from(test.component)];
-        if test.mask & (1 << state) != 0 {
-            inputs += 1;
-        }
-    }
-    for &input in &this.gates {
-        if is_true(study, input, joint, found) {
-            inputs += 1;
-        }
-    }
-    let truth = inputs >= usize::from(this.threshold);
+    let true_tests = once(&this.tests).filter(|test| test_is_true(test, joint));
+    let tests = true_tests.count();
+    let true_gates = once(&this.gates).filter(|&&input| is_true(study, input, joint, found));
+    let gates = true_gates.count();
+    let truth = tests + gates >= usize::from(this.threshold);
     found[usize::from(gate)] = Some(truth);
     truth
 }

@@ -109,10 +109,8 @@ fn read_gate(place: &[u8], own: usize, components: &[Component]) -> Option<Gate>
     rule(all_zero(&inputs[count..]))?;
     let gates = inputs[..count].to_vec();
     rule(gates.iter().all(|&input| usize::from(input) < own))?;
-    let threshold = place[0];
-    rule(threshold != 0 && usize::from(threshold) <= tests.len() + gates.len())?;
     Some(Gate {
-        threshold,
+        threshold: place[0],
         tests,
         gates,
     })
@@ -134,8 +132,9 @@ fn read_load(place: &[u8], gates: usize) -> Option<Load> {
     })
 }
 
-/// The study of an image, unless a rule is broken or a place that no record uses holds something; the inputs of its gates may stand in any order.
-pub fn read_in_any_order(image: &[u8]) -> Option<Study> {
+/// The study that an image holds, unless a rule is broken or a place that no record uses holds something; its gates may have any threshold, and their
+/// inputs in any order.
+pub fn held(image: &[u8]) -> Option<Study> {
     let image = image.get(..IMAGE_BYTES)?;
     let counts = [image[0], image[1], image[2]].map(usize::from);
     rule((1..=MOST_COMPONENTS).contains(&counts[0]))?;
@@ -161,6 +160,13 @@ pub fn read_in_any_order(image: &[u8]) -> Option<Study> {
         gates,
         loads,
     })
+}
+
+/// The study that an image holds, unless a rule is broken that is not the one of order.
+pub fn read_in_any_order(image: &[u8]) -> Option<Study> {
+    let study = held(image)?;
+    rule(study.gates.iter().all(Gate::threshold_fits))?;
+    Some(study)
 }
 
 /// The study of a sound image.

@@ -77,7 +77,7 @@ fn test(unread: &mut Unread, components: &[Component]) -> Result<Test, u8> {
     Ok(Test { component, mask })
 }
 
-/// Reads the gate with this number.
+/// Reads the gate with this number; its threshold is not judged yet.
 fn gate(unread: &mut Unread, components: &[Component], own: usize) -> Result<Gate, u8> {
     let map = unread.map::<3>()?;
     let mut gate = Gate {
@@ -100,11 +100,6 @@ fn gate(unread: &mut Unread, components: &[Component], own: usize) -> Result<Gat
             gate.gates.push(input);
         }
     }
-    let inputs = gate.tests.len() + gate.gates.len();
-    unless(
-        (1..=inputs).contains(&usize::from(gate.threshold)),
-        THRESHOLD,
-    )?;
     Ok(gate)
 }
 
@@ -129,34 +124,43 @@ fn load(unread: &mut Unread, gates: usize) -> Result<Load, u8> {
     Ok(load)
 }
 
-/// The study as the bytes give it, or the number of the first breach.
-pub fn given(bytes: &[u8]) -> Result<Study, u8> {
+/// Reads all bytes into an empty study, record by record, up to the first breach.
+fn read(bytes: &[u8], study: &mut Study) -> Result<(), u8> {
     let mut unread = Unread(bytes);
     let component_count = unread.count(MOST_COMPONENTS)?;
     let gate_count = unread.count(MOST_GATES)?;
     let load_count = unread.count(MOST_LOADS)?;
-    let mut study = Study {
-        components: Vec::new(),
-        gates: Vec::new(),
-        loads: Vec::new(),
-    };
     for _ in 0..component_count {
         let next = component(&mut unread, &study.components)?;
         study.components.push(next);
     }
     for own in 0..gate_count {
-        study.gates.push(gate(&mut unread, &study.components, own)?);
+        let next = gate(&mut unread, &study.components, own)?;
+        let fits = next.threshold_fits();
+        study.gates.push(next);
+        unless(fits, THRESHOLD)?;
     }
     for _ in 0..load_count {
         study.loads.push(load(&mut unread, gate_count)?);
     }
-    unless(unread.0.is_empty(), LEFT_OVER)?;
-    Ok(study)
+    unless(unread.0.is_empty(), LEFT_OVER)
+}
+
+/// What was read of a study, as the bytes give it, and the first breach; where that is a threshold, the last gate has it.
+pub fn read_so_far(bytes: &[u8]) -> (Study, Result<(), u8>) {
+    let mut study = Study {
+        components: Vec::new(),
+        gates: Vec::new(),
+        loads: Vec::new(),
+    };
+    let judged = read(bytes, &mut study);
+    (study, judged)
 }
 
 /// The study that the bytes open to, or the number of the first breach.
 pub fn open(bytes: &[u8]) -> Result<Study, u8> {
-    let mut study = given(bytes)?;
+    let (mut study, judged) = read_so_far(bytes);
+    judged?;
     for gate in &mut study.gates {
         gate.tests.sort();
         gate.gates.sort();

@@ -63,7 +63,28 @@ impl Component {
     }
 }
 
+/// The inputs of a kind, each where it stands first: a repeat, wherever it stands, is no input of its own.
+pub fn once<T: PartialEq>(inputs: &[T]) -> impl Iterator<Item = &T> {
+    let places = inputs.iter().enumerate();
+    places.filter_map(|(j, input)| (!inputs[..j].contains(input)).then_some(input))
+}
+
 impl Gate {
+    /// How many inputs stand in its record.
+    pub fn standing_inputs(&self) -> usize {
+        self.tests.len() + self.gates.len()
+    }
+
+    /// How many inputs it counts. Another mask of a component makes another test, and another number another gate, whatever is true of both.
+    pub fn distinct_inputs(&self) -> usize {
+        once(&self.tests).count() + once(&self.gates).count()
+    }
+
+    /// Whether its threshold is from 1 to the number of inputs that it counts.
+    pub fn threshold_fits(&self) -> bool {
+        (1..=self.distinct_inputs()).contains(&usize::from(self.threshold))
+    }
+
     /// Whether its tests ascend, and its gate inputs; an input that is there twice stands beside itself.
     pub fn is_in_order(&self) -> bool {
         self.tests.is_sorted() && self.gates.is_sorted()

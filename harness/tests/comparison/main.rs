@@ -5,6 +5,7 @@ mod lent;
 mod orders;
 mod pair;
 mod questions;
+mod repeats;
 mod shown;
 mod tally;
 
@@ -155,7 +156,9 @@ fn assert_enough(tally: &Tally) {
     often(tally.mixed, "short and other loads");
     often(tally.given.least(), "inputs given out of order");
     often(tally.falling, "inputs given in falling order");
-    often(tally.repeated, "inputs given twice");
+    often(tally.repeated.least(), "repeated inputs");
+    often(tally.overvoted, "refusal 12 for repeats alone");
+    often(tally.overvoted_images, "refusal 16 for repeats alone");
     often(tally.disordered.least(), "images out of order alone");
     for (answers, call) in [
         (&tally.written, "writing"),

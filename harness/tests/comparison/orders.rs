@@ -52,13 +52,3 @@ pub fn has_falling(study: &Study) -> bool {
     let mut gates = study.gates.iter();
     gates.any(|gate| fall(&gate.tests) || fall(&gate.gates))
 }
-
-fn repeats<T: PartialEq>(inputs: &[T]) -> bool {
-    (1..inputs.len()).any(|j| inputs[..j].contains(&inputs[j]))
-}
-
-/// Whether some gate has an input twice.
-pub fn has_repeats(study: &Study) -> bool {
-    let mut gates = study.gates.iter();
-    gates.any(|gate| repeats(&gate.tests) || repeats(&gate.gates))
-}

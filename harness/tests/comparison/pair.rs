@@ -108,9 +108,8 @@ impl<'a> Pair<'a> {
             opened = (both.answer, both.lent.held().to_vec());
         }
         let (answer, image) = opened;
-        if let Ok(study) = opening::given(bytes) {
-            self.tally.count_sound(&study);
-        }
+        let (given, judged) = opening::read_so_far(bytes);
+        self.tally.count_given(&given, judged);
         if answer.is_err() && random.once_in(2) {
             return vec![0; STUDY_BYTES];
         }

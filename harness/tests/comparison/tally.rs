@@ -1,7 +1,9 @@
 //! What was compared, counted.
-use crate::orders::{has_falling, has_repeats, Disorder};
+use crate::orders::{has_falling, Disorder};
 use crate::questions::Drawn;
+use crate::repeats::{is_overvoted, is_overvoted_alone, Repeats};
 use harness::reference::image;
+use harness::reference::refusals::THRESHOLD;
 use harness::reference::study::Study;
 use std::fmt;
 
@@ -39,10 +41,13 @@ pub struct Tally {
     pub unstated: usize,
     /// Figures with losses of short loads beside those of others.
     pub mixed: usize,
-    /// Sound studies whose bytes give inputs out of order, in falling order, and twice.
+    /// Sound studies whose bytes give inputs out of order, in falling order, and more than once.
     pub given: Disorder,
     pub falling: usize,
-    pub repeated: usize,
+    pub repeated: Repeats,
+    /// Bytes that are refused by 12 for no more than repeats, and images that are refused by 16 for no more.
+    pub overvoted: usize,
+    pub overvoted_images: usize,
     /// Studies written out.
     pub written: Answers,
     /// Images that break no rule but that of order.
@@ -56,12 +61,23 @@ pub struct Tally {
 }
 
 impl Tally {
-    /// Takes note of a sound study as its bytes give it.
-    pub fn count_sound(&mut self, study: &Study) {
+    /// Takes note of a study as its bytes give it, up to the first breach.
+    pub fn count_given(&mut self, study: &Study, judged: Result<(), u8>) {
+        match judged {
+            Ok(()) => self.count_sound(study),
+            Err(THRESHOLD) => {
+                let refused = study.gates.last();
+                self.overvoted += usize::from(refused.is_some_and(is_overvoted));
+            }
+            Err(_) => {}
+        }
+    }
+
+    fn count_sound(&mut self, study: &Study) {
         self.sound += 1;
         self.given.count(study);
         self.falling += usize::from(has_falling(study));
-        self.repeated += usize::from(has_repeats(study));
+        self.repeated.count(study);
     }
 
     /// Takes note of an image that is to be written.
@@ -69,6 +85,8 @@ impl Tally {
         if let Some(study) = image::read_in_any_order(image) {
             self.disordered.count(&study);
         }
+        let overvoted = image::held(image).is_some_and(|study| is_overvoted_alone(&study));
+        self.overvoted_images += usize::from(overvoted);
     }
 
     /// Takes note of what kind of figures were answered, as many as are stated, in their places.
@@ -93,8 +111,13 @@ impl fmt::Display for Tally {
         )?;
         writeln!(
             line,
-            "sound studies with inputs out of order by {}; in falling order: {}, twice: {}",
-            self.given, self.falling, self.repeated
+            "sound studies with inputs out of order by {}; in falling order: {}",
+            self.given, self.falling
+        )?;
+        writeln!(
+            line,
+            "sound studies with repeats of a {}; refused for repeats alone, by 12: {}, as images by 16: {}",
+            self.repeated, self.overvoted, self.overvoted_images
         )?;
         writeln!(
             line,
