@@ -1,5 +1,6 @@
 //! Images of studies, altered behind the library's back. Some stay sound.
 use super::random::Random;
+use crate::reference::image::held;
 
 /// Where records of each kind start, how long one is, and how many places there are.
 const KINDS: [(usize, usize, usize); 3] = [(3, 13, 12), (159, 58, 32), (2015, 9, 8)];
@@ -115,6 +116,37 @@ fn at_limit(random: &mut Random, image: &mut [u8]) {
     }
 }
 
+/// Raises the threshold of a gate that repeats an input above the inputs that it counts, but not above those that stand.
+fn overvote(random: &mut Random, image: &mut [u8]) {
+    let study = held(image).expect("a sound image");
+    let gates = study.gates.iter().enumerate();
+    let overvotes = gates.filter_map(|(own, gate)| {
+        let (distinct, standing) = (gate.distinct_inputs(), gate.standing_inputs());
+        (distinct < standing).then_some((own, distinct + 1, standing))
+    });
+    let overvotes: Vec<_> = overvotes.collect();
+    if !overvotes.is_empty() {
+        let (own, lowest, highest) = random.pick(&overvotes);
+        image[record(GATE, own)] = random.between(lowest, highest) as u8;
+    }
+}
+
+/// Has an input of a gate stand again in place of the one behind it: the order is kept, and the threshold may be too high for what is left.
+fn repeat(random: &mut Random, image: &mut [u8]) {
+    let at = used(random, image, GATE);
+    let (count, first) = random.pick(&[(1, 2), (26, 27)]);
+    let standing = usize::from(image[at + count]);
+    if standing < 2 {
+        return;
+    }
+    let behind = at + first + random.between(1, standing - 1);
+    image[behind] = image[behind - 1];
+    let are_tests = count == 1;
+    if are_tests {
+        image[behind + 12] = image[behind + 11];
+    }
+}
+
 /// Whether the inputs of a gate at two places can be told apart.
 type Differ = fn(&[u8], usize, usize) -> bool;
 
@@ -151,7 +183,7 @@ fn disorder(random: &mut Random, image: &mut [u8]) {
 /// A sound image with one or more bytes altered.
 pub fn altered(random: &mut Random, image: &[u8]) -> Vec<u8> {
     let mut other = image.to_vec();
-    match random.below(16) {
+    match random.below(20) {
         0 => {
             let at = random.below(3);
             other[at] = near(random, other[at]);
@@ -165,6 +197,8 @@ pub fn altered(random: &mut Random, image: &[u8]) -> Vec<u8> {
         4 => widen(random, &mut other),
         5 | 6 => at_limit(random, &mut other),
         7..=10 => disorder(random, &mut other),
+        11 | 12 => overvote(random, &mut other),
+        13 | 14 => repeat(random, &mut other),
         _ => {
             let kind = random.below(3);
             let at = used(random, &other, kind) + random.below(KINDS[kind].1);

@@ -62,7 +62,9 @@ fn bad_byte(random: &mut Random, role: Role, old: u8, counts: [u8; 3]) -> u8 {
         Role::TestComponent => random.pick(&[counts[0], counts[0], 12, 13, 255]),
         Role::TestMask { states } => random.pick(&[0, old | 1 << states, old | 128, 255]),
         Role::Input { own } => random.pick(&[own, own, own.saturating_add(1), 32, 255]),
-        Role::Threshold { inputs } => random.pick(&[0, inputs.saturating_add(1), 44, 255]),
+        Role::Threshold { standing, distinct } => {
+            random.pick(&[0, distinct + 1, standing, standing + 1, 44, 255])
+        }
         Role::LossGate => random.pick(&[counts[1], counts[1], 32, 254, 255]),
         Role::Probability | Role::Customers | Role::Minutes | Role::Behind => random.byte(),
     }
@@ -112,6 +114,26 @@ fn bad_threshold(random: &mut Random, draft: &mut Draft) {
     }
 }
 
+/// A study with a gate whose threshold is met by the inputs that stand in it, but not by those that count.
+fn overvoted(random: &mut Random) -> Draft {
+    loop {
+        let mut draft = sound(random);
+        let roles = draft.roles.iter().enumerate();
+        let overvotes = roles.filter_map(|(at, role)| match *role {
+            Role::Threshold { standing, distinct } if distinct < standing => {
+                Some((at, usize::from(distinct) + 1, usize::from(standing)))
+            }
+            _ => None,
+        });
+        let overvotes: Vec<_> = overvotes.collect();
+        if !overvotes.is_empty() {
+            let (at, lowest, highest) = random.pick(&overvotes);
+            draft.bytes[at] = random.between(lowest, highest) as u8;
+            return draft;
+        }
+    }
+}
+
 /// Adds bytes behind the last load, now and then more than any program's buffer holds.
 fn extend(random: &mut Random, draft: &mut Draft) {
     let size = match random.below(20) {
@@ -123,7 +145,7 @@ fn extend(random: &mut Random, draft: &mut Draft) {
     }
 }
 
-/// Aims a breach at one row of the refusal table, 1 to 15; 16 changes any byte.
+/// Aims a breach at one row of the refusal table, 1 to 15, or, from 17 on, at 12 for repeats alone; 16 changes any byte.
 fn breach(random: &mut Random, draft: &mut Draft, row: usize) {
     use Role::*;
     match row {
@@ -146,6 +168,7 @@ fn breach(random: &mut Random, draft: &mut Draft, row: usize) {
         13 => overwrite(random, draft, |r| r == LossGate),
         14 => overwrite(random, draft, |r| matches!(r, Customers | Minutes)),
         15 => extend(random, draft),
+        17.. => *draft = overvoted(random),
         _ => {
             let at = random.below(draft.bytes.len());
             draft.bytes[at] = random.byte();
@@ -165,8 +188,8 @@ fn noise(random: &mut Random) -> Vec<u8> {
 
 /// The bytes of a study with a breach, sometimes with two.
 pub fn damaged(random: &mut Random) -> Vec<u8> {
-    let row = random.between(1, 17);
-    if row == 17 {
+    let row = random.between(1, 19);
+    if row == 19 {
         return noise(random);
     }
     let mut draft = sound(random);

@@ -13,9 +13,10 @@ pub enum Role {
     StateCount,
     Probability,
     GateMap,
-    /// The threshold of a gate with so many inputs.
+    /// The threshold of a gate in which so many inputs stand, of which so many count.
     Threshold {
-        inputs: u8,
+        standing: u8,
+        distinct: u8,
     },
     TestCount,
     TestComponent,
@@ -52,6 +53,24 @@ impl Draft {
         self.bytes.extend(value.to_le_bytes());
         self.roles
             .extend([role, Role::Behind, Role::Behind, Role::Behind]);
+    }
+
+    /// Tests, components beside masks, behind their count.
+    pub fn tests(&mut self, state_counts: &[u8], tests: &[(u8, u8)]) {
+        self.byte(Role::TestCount, tests.len() as u8);
+        for &(component, mask) in tests {
+            let states = state_counts[usize::from(component)];
+            self.byte(Role::TestComponent, component);
+            self.byte(Role::TestMask { states }, mask);
+        }
+    }
+
+    /// Inputs of the gate with this number, behind their count.
+    pub fn gate_inputs(&mut self, own: u8, inputs: &[u8]) {
+        self.byte(Role::InputCount, inputs.len() as u8);
+        for &input in inputs {
+            self.byte(Role::Input { own }, input);
+        }
     }
 
     /// The places of the bytes whose role is wanted.

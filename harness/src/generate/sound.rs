@@ -1,6 +1,7 @@
 //! Sound studies, from plain ones to the limits of the format.
 use super::draft::{Draft, Role};
 use super::random::Random;
+use crate::reference::study::once;
 
 /// Certainty, in units.
 pub const ONE: u32 = 1_000_000_000;
@@ -107,46 +108,55 @@ fn how_many(random: &mut Random, most: usize) -> usize {
     }
 }
 
-/// Leaves inputs as they were drawn, or has them ascend, or fall, or some stand again in place of others.
+/// Has some inputs stand again in place of others, side by side or apart.
+fn repeat<T: Copy>(random: &mut Random, inputs: &mut [T]) {
+    for j in 1..inputs.len() {
+        if random.once_in(2) {
+            inputs[j] = inputs[random.below(j)];
+        }
+    }
+}
+
+/// Leaves inputs as they were drawn, or has them ascend, or fall, or be repeated.
 fn arrange<T: Copy + Ord>(random: &mut Random, inputs: &mut [T]) {
     match random.below(8) {
         0 => inputs.sort(),
         1 | 2 => inputs.sort_by(|one, other| other.cmp(one)),
-        3 | 4 => {
-            for j in 1..inputs.len() {
-                if random.once_in(2) {
-                    inputs[j] = inputs[random.below(j)];
-                }
-            }
-        }
+        3..=5 => repeat(random, inputs),
         _ => {}
     }
 }
 
-fn tests(random: &mut Random, draft: &mut Draft, counts: &[u8], count: usize) {
+/// Tests of any components, or of only a few of them.
+fn tests(random: &mut Random, counts: &[u8], count: usize) -> Vec<(u8, u8)> {
+    let tested = match random.below(3) {
+        0 => counts.len().min(2),
+        _ => counts.len(),
+    };
     let mut drawn = Vec::new();
     for _ in 0..count {
-        let component = random.below(counts.len());
-        drawn.push((component, mask(random, counts[component])));
+        let component = random.below(tested);
+        drawn.push((component as u8, mask(random, counts[component])));
     }
     arrange(random, &mut drawn);
-    draft.byte(Role::TestCount, count as u8);
-    for (component, mask) in drawn {
-        let states = counts[component];
-        draft.byte(Role::TestComponent, component as u8);
-        draft.byte(Role::TestMask { states }, mask);
-    }
+    drawn
 }
 
-fn gate_inputs(random: &mut Random, draft: &mut Draft, own: u8, count: usize) {
-    let mut drawn = Vec::new();
+fn gate_inputs(random: &mut Random, own: u8, count: usize) -> Vec<u8> {
+    let mut drawn: Vec<u8> = Vec::new();
     for _ in 0..count {
         drawn.push(random.below(usize::from(own)) as u8);
     }
     arrange(random, &mut drawn);
-    draft.byte(Role::InputCount, count as u8);
-    for input in drawn {
-        draft.byte(Role::Input { own }, input);
+    drawn
+}
+
+/// A threshold: often one that any input meets, or that takes all that count.
+fn threshold(random: &mut Random, distinct: usize) -> usize {
+    match random.below(3) {
+        0 => 1,
+        1 => distinct,
+        _ => random.between(1, distinct),
     }
 }
 
@@ -156,24 +166,23 @@ fn gate(random: &mut Random, draft: &mut Draft, counts: &[u8], own: u8) {
         _ => how_many(random, 31),
     };
     let test_count = how_many(random, 12).max(usize::from(input_count == 0));
-    let all = test_count + input_count;
-    let threshold = match random.below(3) {
-        0 => 1,
-        1 => all,
-        _ => random.between(1, all),
-    };
+    let tests = tests(random, counts, test_count);
+    let inputs = gate_inputs(random, own, input_count);
+    let distinct = once(&tests).count() + once(&inputs).count();
+    let threshold = threshold(random, distinct);
     let with_threshold = given(random, threshold as u32, 1);
     let (with_tests, with_inputs) = (test_count > 0, input_count > 0);
     let map = u8::from(with_threshold) | u8::from(with_tests) << 1 | u8::from(with_inputs) << 2;
     draft.byte(Role::GateMap, map);
     if with_threshold {
-        draft.byte(Role::Threshold { inputs: all as u8 }, threshold as u8);
+        let (standing, distinct) = ((test_count + input_count) as u8, distinct as u8);
+        draft.byte(Role::Threshold { standing, distinct }, threshold as u8);
     }
     if with_tests {
-        tests(random, draft, counts, test_count);
+        draft.tests(counts, &tests);
     }
     if with_inputs {
-        gate_inputs(random, draft, own, input_count);
+        draft.gate_inputs(own, &inputs);
     }
 }
 
