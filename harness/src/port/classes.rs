@@ -1,10 +1,12 @@
 //! The class table: the class of each joint state, by its number.
+use super::ordering::without_repeats;
 use super::study::*;
 
 fn test_true(mask: u8, state: u8) -> bool {
     mask >> state & 1 == 1
 }
 
+/// Whether a gate that has no repeats is true.
 fn gate_true(gate: &Gate, joint: &[u8], truths: &[bool; GATE_PLACES]) -> bool {
     let tests = usize::from(gate.tests);
     let true_tests = gate.component[..tests]
@@ -48,12 +50,23 @@ fn next_joint_state(counts: &[u8], joint: &mut [u8]) {
     }
 }
 
-/// Fills a block that has a place for each joint state.
+/// Gates without their repeats, each in its place.
+fn each_without_repeats(gates: &[Gate]) -> [Gate; GATE_PLACES] {
+    let mut each = [Gate::default(); GATE_PLACES];
+    for (place, gate) in each.iter_mut().zip(gates) {
+        *place = without_repeats(gate);
+    }
+    each
+}
+
+/// Fills a block that has a place for each joint state. What each gate counts is found once, for all of them.
 pub fn fill_classes(study: &Study, counts: &[u8], block: &mut [u8]) {
+    let each = each_without_repeats(study.gates());
+    let gates = &each[..study.gates().len()];
     let mut places = [0; COMPONENT_PLACES];
     let joint = &mut places[..counts.len()];
     for class in block {
-        *class = class_by(&gate_truths(study.gates(), joint), study.loads());
+        *class = class_by(&gate_truths(gates, joint), study.loads());
         next_joint_state(counts, joint);
     }
 }

@@ -1,5 +1,6 @@
-//! Opens a study: bytes to places, or the number of the first breach; then the inputs of each gate in order.
+//! Opens a study: bytes to places, or the number of the first breach. The inputs of a gate are put in order once all of them are read.
 use super::ordering::put_in_order;
+use super::soundness::threshold_fits;
 use super::study::*;
 
 struct Reader<'a> {
@@ -124,7 +125,8 @@ fn read_gate(reader: &mut Reader, counts: &[u8], own: usize, gate: &mut Gate) ->
     if bit(map, 2) {
         read_inputs(reader, own, gate)?;
     }
-    if gate.threshold == 0 || gate.threshold > gate.tests + gate.gates {
+    put_in_order(gate);
+    if !threshold_fits(gate) {
         return Err(12);
     }
     Ok(())
@@ -171,6 +173,5 @@ pub fn open(bytes: &[u8]) -> Result<Study, u8> {
     if reader.at < bytes.len() {
         return Err(15);
     }
-    study.gate.iter_mut().for_each(put_in_order);
     Ok(study)
 }

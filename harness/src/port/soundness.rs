@@ -1,5 +1,5 @@
 //! The check of a study: whether it keeps every rule, and holds 0 in every place that no record uses.
-use super::ordering::is_in_order;
+use super::ordering::distinct_inputs;
 use super::study::*;
 
 fn count_sound(count: u8, most: usize) -> bool {
@@ -36,13 +36,18 @@ fn inputs_sound(gate: &Gate, own: usize) -> bool {
     })
 }
 
+/// Whether the inputs of a gate are in order, and its threshold is from 1 to the number of them, repeats not counted.
+pub fn threshold_fits(gate: &Gate) -> bool {
+    let most = distinct_inputs(gate);
+    most.is_some_and(|most| (1..=most).contains(&usize::from(gate.threshold)))
+}
+
 fn gate_sound(gate: &Gate, own: usize, counts: &[u8]) -> bool {
     usize::from(gate.tests) <= TEST_PLACES
         && usize::from(gate.gates) <= INPUT_PLACES
-        && (1..=gate.tests + gate.gates).contains(&gate.threshold)
         && tests_sound(gate, counts)
         && inputs_sound(gate, own)
-        && is_in_order(gate)
+        && threshold_fits(gate)
 }
 
 fn load_sound(load: &Load, gates: u8) -> bool {
