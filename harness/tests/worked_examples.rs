@@ -118,16 +118,93 @@ fn i_j_thresholds() {
     let front = "01 01 01  00";
     let three_of_two = format!("{front}  03 03 02 0002 0001  01 00");
     assert_eq!(report_of(&three_of_two), "REFUSED 12 threshold\n");
+    // The one test of J counts once, though it stands twice.
     let twice = format!("{front}  03 02 02 0002 0002  01 00");
-    assert_eq!(
-        lines(&twice, "P "),
-        ["0 0 1000000000 1000000000", "1 1 0 0"]
-    );
+    assert_eq!(report_of(&twice), "REFUSED 12 threshold\n");
+    let by_one = format!("{front}  02 02 0002 0002  01 00");
+    let paths = ["0 0 1000000000 1000000000", "1 1 0 0"];
+    assert_eq!(lines(&by_one, "P "), paths);
     // A bad threshold waits for the gate's last field.
     let none = format!("{front}  00  01 00");
     assert_eq!(report_of(&none), "REFUSED 12 threshold\n");
     let later = format!("{front}  03 00 01 0102");
     assert_eq!(report_of(&later), "REFUSED 9 no component\n");
+}
+
+#[test]
+fn repeats_count_once() {
+    // Components that fail at 0.1 and 0.2, under a vote of two: component 0 stands twice, side by side or apart, and does not win it alone.
+    let front = "02 01 01  02 00E1F505  02 00C2EB0B";
+    let paths = [
+        "0- 0 900000000 900000000",
+        "10 0 80000000 80000000",
+        "11 1 20000000 20000000",
+    ];
+    for tests in ["0002 0002 0102", "0002 0102 0002", "0102 0002 0002"] {
+        let vote = |threshold| format!("{front}  03 {threshold} 03 {tests}  01 00");
+        assert_eq!(lines(&vote("02"), "P "), paths, "{tests}");
+        assert_eq!(report_of(&vote("03")), "REFUSED 12 threshold\n", "{tests}");
+    }
+    // The same by gates.
+    let front = "02 03 01  02 00E1F505  02 00C2EB0B  02 01 0002  02 01 0102";
+    for inputs in ["00 00 01", "01 00 01", "00 01 00"] {
+        let vote = |threshold| format!("{front}  05 {threshold} 03 {inputs}  01 02");
+        assert_eq!(lines(&vote("02"), "P "), paths, "{inputs}");
+        assert_eq!(report_of(&vote("03")), "REFUSED 12 threshold\n", "{inputs}");
+    }
+}
+
+#[test]
+fn other_masks_and_other_gates_are_other_inputs() {
+    // Masks 2 and 6 of a component with three states are both true in state 1.
+    let masks = "01 01 01  01 03  03 02 02 0002 0006  01 00";
+    let paths = ["0 0 1000000000 1000000000", "1 1 0 0", "2 0 0 0"];
+    assert_eq!(lines(masks, "P "), paths);
+    // Two gates that ask the same, and a test beside a gate that asks the same.
+    let gates = "01 03 01  00  02 01 0002  02 01 0002  05 02 02 00 01  01 02";
+    let both = "01 02 01  00  02 01 0002  07 02 01 0002 01 00  01 01";
+    for study in [gates, both] {
+        let paths = ["0 0 1000000000 1000000000", "1 1 0 0"];
+        assert_eq!(lines(study, "P "), paths, "{study}");
+    }
+}
+
+#[test]
+fn counts_go_by_what_stands() {
+    let tests = |count: usize| {
+        let same = "0002 ".repeat(count);
+        format!("01 01 01  00  02 {count:02X} {same}  01 00")
+    };
+    assert!(report_of(&tests(12)).starts_with("PATHS 2\n"));
+    assert_eq!(report_of(&tests(13)), "REFUSED 8 inputs\n");
+    let gates = |threshold: u8, count: usize| {
+        let same = "00 ".repeat(count);
+        format!("01 02 01  00  02 01 0002  05 {threshold:02X} {count:02X} {same}  01 01")
+    };
+    assert!(report_of(&gates(1, 31)).starts_with("PATHS 2\n"));
+    assert_eq!(report_of(&gates(2, 31)), "REFUSED 12 threshold\n");
+    assert_eq!(report_of(&gates(1, 32)), "REFUSED 8 inputs\n");
+    // A threshold that is too high for repeats waits for the gate's last field too.
+    let later = "01 02 01  00  02 01 0002  07 03 02 0002 0002 01 01";
+    assert_eq!(report_of(later), "REFUSED 11 gate ahead\n");
+}
+
+#[test]
+fn repeats_in_an_altered_image() {
+    let image = image_of("02 01 01  00  00  03 02 03 0002 0102 0002  01 00");
+    // Gate 0 stands at byte 159: its threshold, and the component of its last test at byte 163.
+    for (at, value, due) in [
+        (159, 1, Ok(3)),
+        (159, 2, Ok(3)),
+        (159, 3, Err(16)),
+        (163, 0, Err(16)),
+    ] {
+        let mut altered = image.clone();
+        altered[at] = value;
+        for call in [library::list_paths, second_list] {
+            assert_eq!(call(&altered, &mut [0; 9]), due, "{at}: {value}");
+        }
+    }
 }
 
 #[test]
