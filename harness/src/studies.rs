@@ -15,6 +15,13 @@ pub struct Written {
     pub tree: Option<Vec<u8>>,
 }
 
+impl Written {
+    /// Whether it is a sound study, by its report.
+    pub fn opens(&self) -> bool {
+        !self.report.starts_with("REFUSED")
+    }
+}
+
 /// The bytes of a commented hexadecimal text.
 pub fn from_hexadecimal(text: &str) -> Vec<u8> {
     let lines = text

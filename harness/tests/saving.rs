@@ -3,7 +3,7 @@ use harness::generate::{twins, Random};
 use harness::library::{self, LONGEST_STUDY, REPORT_BYTES, STUDY_BYTES};
 use harness::reference::calls as reference;
 use harness::reference::image::read_in_any_order;
-use harness::studies::{self, from_hexadecimal, to_hexadecimal, CASE_A};
+use harness::studies::{self, from_hexadecimal, to_hexadecimal, Written, CASE_A};
 
 fn image_of(bytes: &[u8]) -> Vec<u8> {
     let mut image = vec![0; STUDY_BYTES];
@@ -128,7 +128,7 @@ fn another_order_is_unsound() {
 #[test]
 fn studies_open_to_what_was_saved() {
     let mut longest = 0;
-    for study in studies::all() {
+    for study in studies::all().into_iter().filter(Written::opens) {
         let image = image_of(&study.bytes);
         let bytes = written(&image);
         assert_eq!(image_of(&bytes), image, "{}", study.name);
