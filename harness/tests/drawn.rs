@@ -258,5 +258,5 @@ fn twelve_components_of_two_states() {
 
 #[test]
 fn six_components_of_four_states() {
-    assert_deepest(include_str!("../../studies/heaviest.hex"), 1365, 3490);
+    assert_deepest(include_str!("../../studies/heaviest.hex"), 1365, 3910);
 }
