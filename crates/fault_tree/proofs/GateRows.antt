@@ -15,7 +15,7 @@ use Rattle.lists.specs.Counting.{truth, countTrue, sumOver}
 use Rattle.lists.proofs.Puts.{put-size, getD-put-before, getD-put-at}
 use Rattle.lists.proofs.Sums.{count-alike}
 use Rattle.ordering.specs.Inputs.{Input}
-use Rattle.rules.specs.Limits.{mostGates, mostTests, mostGateInputs}
+use Rattle.rules.specs.Limits.{mostGates}
 use Rattle.study.specs.declared.Gate.{Gate}
 use Rattle.study.specs.Places.{noGate, ShapedGate}
 use Rattle.gate_order.specs.Inputs.{distinctGate}

@@ -62,7 +62,8 @@ pub fn put_rows(rows: &mut [u8], gate: [Gate; GATE_PLACES], n: usize)
     let mut i: usize = 0;
     while i < n {
         let g = gate[i];
-        put_row(rows, i * ROW_PLACES, without_repeats(g));
+        let once = without_repeats(g);
+        put_row(rows, i * ROW_PLACES, once);
         i = i + 1;
     }
 }

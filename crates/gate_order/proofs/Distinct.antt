@@ -1,7 +1,6 @@
 -- A gate without its repeats holds its distinct inputs, so that what holds of each input of the gate holds of each there.
-use Prim.Native.Nat.{ℕ, min, _<_, _≤_}
+use Prim.Native.Nat.{ℕ, _<_, _≤_}
 use mathlib.Core.Path.{_≡_, sym, subst, _∙_}
-use mathlib.Core.List.{map}
 use native.Mathlib.Nat.{min-eq-left}
 use native.Mathlib.Omega.{arith}
 use lib.ListN.{length, getD, length-map}
@@ -67,5 +66,5 @@ module _ (P : Input → Type 0) (g : Gate) (fits : Fits g) where
   pub distinct-gate-inputs-every : ((j : ℕ) → j < g .gates → P (unmasked (getD (g .input) j 0))) → (j : ℕ) → j < distinctGate g .gates
       → P (unmasked (getD (distinctGate g .input) j 0))
   distinct-gate-inputs-every each =
-      let kept = distinct-every P (gateInputsOf g) (gate-inputs-as-row P g fits each) in
+      let kept = distinct-every P (gateInputsOf g) (gate-inputs-as-row P g each) in
       gate-inputs-in-row P (distinctGate g) (distinct-fits g fits) (subst (Every P noInput) (sym (gate-inputs-distinct g fits)) kept)

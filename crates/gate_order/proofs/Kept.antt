@@ -1,9 +1,9 @@
 -- What putting the inputs of a gate in order keeps: whatever holds of each input, and what stands behind them.
-use Prim.Native.Nat.{ℕ, _<_, _≤_}
-use mathlib.Core.Path.{_≡_, sym, ap, subst, _∙_}
+use Prim.Native.Nat.{ℕ, min, _<_, _≤_}
+use mathlib.Core.Path.{_≡_, sym, subst, _∙_}
 use mathlib.Core.List.{map}
 use native.Mathlib.Omega.{arith}
-use lib.ListN.{length, getD, length-map}
+use lib.ListN.{length, getD, length-map, length-take}
 use lib.Seq.{getD-take}
 use Rattle.lists.proofs.Elements.{Every}
 use Rattle.lists.proofs.Fronts.{put-behind}
@@ -32,16 +32,20 @@ module _ (g : Gate) (fits : Fits g) (j : ℕ) where
       ∙ getD-map-inside unmasked (g .input) j 0 noInput (omega (arith, fits .shaped .input, fits .gates))
 
 -- what holds of each input, place by place, holds of the row, and the other way
+pub gate-inputs-as-row : (P : Input → Type 0) (g : Gate) → ((j : ℕ) → j < g .gates → P (unmasked (getD (g .input) j 0))) → Every P noInput (gateInputsOf g)
+gate-inputs-as-row P g each k inside =
+    let row = map unmasked (g .input) in
+    let within : k < min (g .gates) (length (g .input)) = omega (arith, inside, length-take (g .gates) row, length-map (g .input) unmasked) in
+    let below : k < g .gates = omega (arith, within) in
+    let is = getD-take (g .gates) row k noInput below ∙ getD-map-inside unmasked (g .input) k 0 noInput (omega (arith, within)) in
+    subst P (sym is) (each k below)
+
 module _ (P : Input → Type 0) (g : Gate) (fits : Fits g) where
   pub tests-as-row : ((j : ℕ) → j < g .tests → P (testAt g j)) → Every P noInput (testsOf g)
   tests-as-row each k inside = let below : k < g .tests = omega (arith, tests-long g fits) in subst P (sym (test-at g fits k below)) (each k below)
 
   pub tests-in-row : Every P noInput (testsOf g) → (j : ℕ) → j < g .tests → P (testAt g j)
   tests-in-row each j below = subst P (test-at g fits j below) (each j (omega (arith, tests-long g fits)))
-
-  pub gate-inputs-as-row : ((j : ℕ) → j < g .gates → P (unmasked (getD (g .input) j 0))) → Every P noInput (gateInputsOf g)
-  gate-inputs-as-row each k inside =
-      let below : k < g .gates = omega (arith, gate-inputs-long g fits) in subst P (sym (gate-input-at g fits k below)) (each k below)
 
   pub gate-inputs-in-row : Every P noInput (gateInputsOf g) → (j : ℕ) → j < g .gates → P (unmasked (getD (g .input) j 0))
   gate-inputs-in-row each j below = subst P (gate-input-at g fits j below) (each j (omega (arith, gate-inputs-long g fits)))
@@ -56,7 +60,7 @@ module _ (P : Input → Type 0) (g : Gate) (fits : Fits g) where
   pub gate-inputs-every : ((j : ℕ) → j < g .gates → P (unmasked (getD (g .input) j 0))) → (j : ℕ) → j < g .gates → P (unmasked (getD (inOrder g .input) j 0))
   unfolding inOrder
   gate-inputs-every each =
-      let sorts = sorted-every P (gateInputsOf g) (gate-inputs-as-row P g fits each) in
+      let sorts = sorted-every P (gateInputsOf g) (gate-inputs-as-row P g each) in
       gate-inputs-in-row P (inOrder g) (in-order-fits g fits) (subst (Every P noInput) (sym (gate-inputs-sorted g (fits .shaped))) sorts)
 
 module _ (g : Gate) (fits : Fits g) (j : ℕ) where

@@ -131,14 +131,15 @@ pub fn read_gate(bytes: &[u8], at: usize, counts: &[u8], number: usize) -> GateR
         &mut mask,
         &mut input,
     );
-    let gate = in_order(Gate {
+    let given = Gate {
         threshold: f.threshold,
         tests: f.tests,
         component,
         mask,
         gates: f.gates,
         input,
-    });
+    };
+    let gate = in_order(given);
     GateRead {
         refusal: first(f.refusal, threshold_fault(input_count(gate), f.threshold)),
         next: f.next,

@@ -1,7 +1,7 @@
 -- Distinct inputs go by their set. What carries it: a row without an input (`without`) has one distinct input less where that input stood there, and the same
 -- where it did not; so two rows with one set lose the same inputs, one after the other.
 use Prim.Native.Nat.{ℕ, zero, suc, _+_, _≤_}
-use mathlib.Core.Path.{_≡_, refl, sym, ap, ap₂, _∙_}
+use mathlib.Core.Path.{_≡_, refl, sym, ap, _∙_}
 use mathlib.Core.Bool.{Bool, true, false, not, _&&_, _||_, cond, false≢true}
 use mathlib.Core.List.{List, [], _∷_}
 use native.Mathlib.Nat.{le-of-suc-le-suc, zero-add}
@@ -160,7 +160,7 @@ stands-counted a (c ∷ row) = go (sameInput a c) refl (stands-counted a row)
     go true same rest = rw same (sym (lt-ltb 0 (1 + timesIn a row) (omega arith)))
     go false other rest = rw (other, zero-add) rest
 
-alike-set : (row other : List Input) → Alike row other → SameSet row other
+pub alike-set : (row other : List Input) → Alike row other → SameSet row other
 alike-set row other alike a = stands-counted a row ∙ ap (ltb 0) (alike (λ (b : Input). truth (sameInput a b))) ∙ sym (stands-counted a other)
 
 pub distinct-alike : (row other : List Input) → Alike row other → Alike (distinct row) (distinct other)

@@ -4,13 +4,12 @@ use Prim.Native.Nat.{ℕ, zero, suc, _+_, _<_, _≤_}
 use mathlib.Core.Path.{_≡_, refl, sym, ap, ap₂, _∙_}
 use mathlib.Core.Bool.{Bool, true, false, _&&_, _||_, cond, false≢true}
 use mathlib.Core.List.{List, [], _∷_}
-use native.Mathlib.Nat.{le-of-suc-le-suc, zero-add}
+use native.Mathlib.Nat.{zero-add}
 use native.Mathlib.Numerals.{add-one}
 use native.Mathlib.Omega.{arith}
 use lib.Dec.{eqb}
 use lib.ListN.{length, getD, set, drop, length-set, length-map, drop-of-length-le}
 use lib.Seq.{drop-cons, drop-set-lt}
-use Rattle.lists.specs.Rows.{put}
 use Rattle.lists.proofs.Elements.{Every}
 use Rattle.lists.proofs.Puts.{Due, due-start, due-set, due-done, due-end}
 use Rattle.ordering.specs.Distinct.{sameInput, standsIn, distinct, standsNext, thinned, Fronted}

@@ -58,7 +58,7 @@ maskFault states mask = refuse 10 (outside 1 (2 ^ states - 1) mask)
 abbrev pub aheadFault : ℕ → ℕ → ℕ
 aheadFault gate input = refuse 11 (leb gate input)
 
--- 12 threshold: 0, or above the number of inputs
+-- 12 threshold: 0, or above the number of distinct inputs
 abbrev pub thresholdFault : ℕ → ℕ → ℕ
 thresholdFault inputs threshold = refuse 12 (outside 1 inputs threshold)
 

@@ -23,7 +23,7 @@ pub struct Component {
     pub p3: u32,
 }
 
-// A voting gate: true when at least `threshold` of its inputs are. Its tests are pairs of a component and a mask of its states; its
+// A voting gate: true when at least `threshold` of its distinct inputs are. Its tests are pairs of a component and a mask of its states; its
 // gate inputs are numbers of lower gates.
 pub struct Gate {
     pub threshold: u8,

@@ -7,7 +7,6 @@ use lib.ListN.{length, length-append}
 use denote.Ref.{now}
 use Rattle.lists.proofs.Puts.{Due, due-start, due-room, due-more, due-done}
 use Rattle.rules.specs.Limits.{mostTests, mostGateInputs}
-use Rattle.study.specs.declared.Gate.{Gate}
 use Rattle.fault_tree.specs.Rows.{gateRow}
 use Rattle.fault_tree.proofs.GateRows.{counts}
 use borrow.Author.Needs.{needs}

@@ -18,9 +18,12 @@ abbrev μ-loop : tie.MeasureT-loop
 inside : (c : tie.In-loop Inv-loop μ-loop) → c .before .loop .i < mostGates
 inside c = omega (arith, c .loop-test .taken, c .before .loop .inv .few)
 
--- the turn that a gate belongs to, and the call
-abbrev turn : tie.After-without-repeats Inv-loop μ-loop → tie.In-loop Inv-loop μ-loop
-turn c = c .before .before .before
+-- the gate without its repeats, the turn that it belongs to, and the call
+abbrev thinned : tie.After-put-row-arg Inv-loop μ-loop → tie.After-without-repeats Inv-loop μ-loop
+thinned c = c .before
+
+abbrev turn : tie.After-put-row-arg Inv-loop μ-loop → tie.In-loop Inv-loop μ-loop
+turn c = thinned c .before .before
 
 abbrev start : tie.In-loop Inv-loop μ-loop → tie.Start Inv-loop μ-loop
 start c = c .before .before .before
@@ -36,7 +39,7 @@ loop-again c =
     let put = c .before .before in
     let own = turn (put .before) in
     let taken = own .loop-test .taken in
-    let once = put .before .without-repeats .ensures in
+    let once = thinned (put .before) .without-repeats .ensures in
     rowed-more (own .before .loop .inv) taken (once .0) (once .1 (start own .pre .1 .0 _ taken)) (put .put-row .ensures)
 
 same-length : tie.Need-same-length Inv-loop μ-loop
@@ -54,8 +57,8 @@ put-rows-spec =
     (λ c. rowed-start (c .before .pre .0) (c .before .pre .1 .1))
     (λ c. record { fits = omega (arith, inside c) })
     inside
-    (λ c. record { fits = omega (arith, inside (c .before .before)) })
     (λ c κs. search needs)
+    (λ c. record { fits = omega (arith, inside (turn c)) })
     put-row-requires
     (λ c. omega arith)
     loop-less

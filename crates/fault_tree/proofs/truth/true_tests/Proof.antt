@@ -3,7 +3,6 @@ use Prim.Native.Nat.{ℕ, _+_, _-_, _<_}
 use native.Mathlib.Omega.{arith}
 use lib.ListN.{length, getD}
 use denote.Ref.{now}
-use borrow.Author.Needs.{needs}
 use Rattle.lists.specs.Bits.{bit}
 use Rattle.lists.proofs.Sums.{Counted, counted-start, counted-more, counted-most, counted-done}
 use Rattle.fault_tree.specs.Readable.{TestsReadable}
