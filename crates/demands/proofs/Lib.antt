@@ -17,6 +17,7 @@ pub mod Paths
 pub mod Reached
 pub mod Refusals
 pub mod RefusedOpening
+pub mod Repeats
 pub mod SameGates
 pub mod Saved
 pub mod SavedAlike

@@ -12,18 +12,24 @@ use lib.ListN.{length, getD}
 use lib.Seq.{getD-set-same, getD-set-other}
 use borrow.Author.Tests.{eqb-false, ne-eqb}
 use Rattle.lists.specs.Bits.{bit}
+use Rattle.lists.specs.Counting.{truth}
 use Rattle.lists.proofs.Digits.{bit-of-sum, no-bit-of-sum}
-use Rattle.lists.proofs.Sums.{count-alike}
+use Rattle.lists.proofs.SumOver.{sum-over-alike}
+use Rattle.ordering.specs.Distinct.{distinct}
+use Rattle.ordering.specs.Inputs.{Input, noInput}
+use Rattle.ordering.proofs.Sets.{distinct-every}
 use Rattle.rules.specs.Limits.{mostGates, never}
 use Rattle.study.specs.declared.Gate.{Gate}
 use Rattle.study.specs.declared.Study.{Study}
 use Rattle.study.specs.Joint.{stateCounts}
 use Rattle.study.specs.Places.{noGate, gateAt, loadAt}
+use Rattle.gate_order.specs.Inputs.{gateInputsOf}
+use Rattle.gate_order.proofs.Kept.{gate-inputs-as-row}
 use Rattle.soundness.proofs.Ranges.{gates-most, input-lower}
 use Rattle.entries.specs.Entries.{classBorne}
 use Rattle.entries.proofs.Entries.{entries-long}
 use Rattle.paths.specs.Words.{fits}
-use Rattle.fault_tree.specs.Truth.{trueTests, trueGates, gateTrue, withTruth, gateTruths}
+use Rattle.fault_tree.specs.Truth.{trueOnce, trueTests, trueGates, gateTrue, withTruth, gateTruths}
 use Rattle.fault_tree.proofs.GateTruths.{truths-long}
 use Rattle.fault_tree.specs.Classes.{lost, classBy, classOf}
 use Rattle.rules.proofs.Kept.{list-kept}
@@ -45,10 +51,14 @@ use Rattle.lists.proofs.Those.{only-one}
 -- a gate is as true by two accounts that agree on its gate inputs
 inputs-alike : (g : Gate) (x : List ℕ) (holds also : ℕ → Bool) → ((j : ℕ) → j < g .gates → holds (getD (g .input) j 0) ≡ also (getD (g .input) j 0))
     → gateTrue g x holds ≡ gateTrue g x also
-unfolding gateTrue trueGates
+unfolding gateTrue trueGates trueOnce
 inputs-alike g x holds also same =
+    let counted : Input → ℕ = λ a. truth (holds (a .number)) in
+    let recounted : Input → ℕ = λ a. truth (also (a .number)) in
+    let agree : Input → Type 0 = λ a. counted a ≡ recounted a in
+    let each = distinct-every agree (gateInputsOf g) (gate-inputs-as-row agree g (λ j below. ap truth (same j below))) in
     ap (λ (n : ℕ). leb (g .threshold) (trueTests g x + n))
-    (count-alike (λ (j : ℕ). holds (getD (g .input) j 0)) (λ (j : ℕ). also (getD (g .input) j 0)) (g .gates) same)
+    (sum-over-alike counted recounted noInput (distinct (gateInputsOf g)) each)
 
 module _ (gates : List Gate) (x : List ℕ) where
   -- gate k is true when the first n gates are evaluated

@@ -1,46 +1,18 @@
--- Gates by their inputs: two that hold the same inputs are true together, and two that hold the same rows in their places are the same gate.
-use Prim.Native.Nat.{ℕ, _+_, _<_}
-use mathlib.Core.Path.{_≡_, sym, ap, ap₂, _∙_}
-use mathlib.Core.Bool.{Bool}
+-- Gates by their inputs: two that hold the same rows in their places are the same gate.
+use Prim.Native.Nat.{ℕ, _<_}
+use mathlib.Core.Path.{_≡_, sym, ap, _∙_}
 use mathlib.Core.List.{List}
 use native.Mathlib.Decide.{decLt}
 use native.Mathlib.Omega.{arith}
-use lib.Dec.{leb}
 use lib.ListN.{getD}
 use lib.Seq.{ext-getD}
-use Rattle.lists.specs.Bits.{bit}
-use Rattle.lists.specs.Counting.{truth, countTrue}
 use Rattle.ordering.specs.Inputs.{Input, noInput}
 use Rattle.rules.specs.Limits.{mostTests, mostGateInputs}
 use Rattle.study.specs.declared.Gate.{Gate}
 use Rattle.gate_order.specs.Inputs.{unmasked, testsOf, gateInputsOf}
 use Rattle.gate_order.proofs.InOrder.{Fits}
 use Rattle.gate_order.proofs.Kept.{testAt, test-at, gate-input-at}
-use Rattle.gate_order.proofs.Summed.{tests-summed, gate-inputs-summed}
 use Rattle.soundness.specs.Sound.{ZeroBehind}
-use Rattle.fault_tree.specs.Truth.{trueTests, trueGates, gateTrue}
-use Rattle.demands.specs.Saving.{SameInputs}
-
--- ---- truth
-
-module _ (g h : Gate) (fits : Fits g) (fits′ : Fits h) (same : SameInputs g h) (x : List ℕ) (holds : ℕ → Bool) where
-  true-tests : trueTests g x ≡ trueTests h x
-  unfolding trueTests countTrue
-  true-tests =
-      let counts : Input → ℕ = λ a. truth (bit (a .mask) (getD x (a .number) 0)) in
-      tests-summed counts g fits ∙ same .same-tests counts ∙ sym (tests-summed counts h fits′)
-
-  true-gates : trueGates g holds ≡ trueGates h holds
-  unfolding trueGates countTrue
-  true-gates =
-      let counts : Input → ℕ = λ a. truth (holds (a .number)) in
-      gate-inputs-summed counts g fits ∙ same .same-gate-inputs counts ∙ sym (gate-inputs-summed counts h fits′)
-
-  pub true-together : gateTrue g x holds ≡ gateTrue h x holds
-  unfolding gateTrue
-  true-together = ap₂ leb (same .threshold) (ap₂ (λ (m n : ℕ). m + n) true-tests true-gates)
-
--- ---- the places
 
 module _ (g h : Gate) (fits : Fits g) (fits′ : Fits h) (behind : ZeroBehind g) (behind′ : ZeroBehind h) (same-tests : g .tests ≡ h .tests)
     (same-gates : g .gates ≡ h .gates) (tests : testsOf g ≡ testsOf h) (inputs : gateInputsOf g ≡ gateInputsOf h) where

@@ -55,7 +55,7 @@ inputs-trans s r =
 sorted-inputs : (g : Gate) → Fits g → SameInputs (inOrder g) g
 unfolding inOrder
 sorted-inputs g fits =
-    record { threshold = refl; tests = refl; gates = refl; same-tests = tests-alike g fits; same-gate-inputs = gate-inputs-alike g fits }
+    record { threshold = refl; tests = refl; gates = refl; same-tests = tests-alike g (fits .shaped); same-gate-inputs = gate-inputs-alike g (fits .shaped) }
 
 -- the mask of a gate input is a byte
 no-masks : (g : Gate) → Every ByteMask noInput (gateInputsOf g)
@@ -139,11 +139,8 @@ module _ (t : Study) (s : Sound t) (shaped : Shaped t) where
 -- ---- opening
 
 module _ (bytes : List ℕ) (done : opened bytes .outcome ≡ Done) where
-  pub given-fits : (i : ℕ) → i < mostGates → Fits (gateAt (asGiven bytes) i)
+  given-fits : (i : ℕ) → i < mostGates → Fits (gateAt (asGiven bytes) i)
   given-fits = gate-fits (asGiven bytes) (opened-given bytes done)
-
-  pub opened-fits : (i : ℕ) → i < mostGates → Fits (gateAt (opened bytes .study) i)
-  opened-fits = sound-fits (opened bytes .study) (opened-sound bytes done) (opened-shaped bytes)
 
   opened-gate : (i : ℕ) → i < mostGates → gateAt (opened bytes .study) i ≡ inOrder (gateAt (asGiven bytes) i)
   opened-gate i inside = ap (λ (t : Study). gateAt t i) (opened-ordered bytes done) ∙ ordered-gate (asGiven bytes) (opened-given bytes done) i inside

@@ -81,7 +81,7 @@ worked-examples = (
                           refused _ refl refl,
                           (
                             -- J and K
-                            holds _ _ refl refl refl refl refl,
+                            refused _ refl refl,
                             (
                               holds _ _ refl refl refl refl refl,
                               tt,

@@ -46,7 +46,7 @@ use Rattle.demands.specs.Listed.{ListedBy, pathIn}
 abbrev pub isTrue : Study → List ℕ → ℕ → Bool
 isTrue t x i = getD (gateTruths (t .gate) x (t .gates)) i false
 
--- Each gate is true exactly when at least its threshold of inputs are, a gate input being as true as that gate is.
+-- Each gate is true exactly when at least its threshold of distinct inputs are, a gate input being as true as that gate is.
 abbrev pub GatesAgree : Type 0
 GatesAgree = (t : Study) → Sound t → (x : List ℕ) (i : ℕ) → i < t .gates → isTrue t x i ≡ gateTrue (gateAt t i) x (isTrue t x)
 

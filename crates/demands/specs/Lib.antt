@@ -6,6 +6,7 @@ pub mod Demand3
 pub mod DrawnExamples
 pub mod Edits
 pub mod Listed
+pub mod Repeats
 pub mod Saving
 pub mod SharedComponent
 pub mod WorkedExamples

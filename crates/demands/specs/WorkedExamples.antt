@@ -250,14 +250,8 @@ examples =
     ∷ example (1 ∷ []) (refusedOpening 1)
     -- I: threshold 3 over two inputs
     ∷ example (2 ∷ 1 ∷ 1 ∷ 0x00 ∷ 0x00 ∷ 0x03 ∷ 3 ∷ 2 ∷ 0 ∷ 2 ∷ 1 ∷ 2 ∷ 0x01 ∷ 0 ∷ []) (refusedOpening 12)
-    -- J: threshold 2 over one test that stands twice
-    ∷ listing (1 ∷ 1 ∷ 1 ∷ 0x00 ∷ 0x03 ∷ 2 ∷ 2 ∷ 0 ∷ 2 ∷ 0 ∷ 2 ∷ 0x01 ∷ 0 ∷ [])
-    (opens (twoStates 0 ∷ []) (votes 2 (test 0 2 ∷ test 0 2 ∷ []) ∷ []) (lostBy 0 0 0 ∷ []))
-    (entry (0 ∷ []) 0 ∷ entry (1 ∷ []) 1 ∷ [])
-    (at one ∷ at 0 ∷ [])
-    (at one ∷ at 0 ∷ [])
-    (at 0 ∷ [])
-    noCustomers
+    -- J: threshold 2 over one test that stands twice, and counts once
+    ∷ example (1 ∷ 1 ∷ 1 ∷ 0x00 ∷ 0x03 ∷ 2 ∷ 2 ∷ 0 ∷ 2 ∷ 0 ∷ 2 ∷ 0x01 ∷ 0 ∷ []) (refusedOpening 12)
     -- K: state 1 at 0, and a load of one customer that is lost in it; it states no minutes, and so is short
     ∷ listing (1 ∷ 1 ∷ 1 ∷ 0x00 ∷ 0x02 ∷ 1 ∷ 0 ∷ 2 ∷ 0x03 ∷ 0 ∷ 1 ∷ 0 ∷ 0 ∷ 0 ∷ [])
     (opens (twoStates 0 ∷ []) (failed0 ∷ []) (lostBy 0 1 0 ∷ []))
