@@ -16,7 +16,7 @@ use Rattle.reading.proofs.Held.{Held, Gives, held, gives-any, gives-then, gives
 use Rattle.drawn_tree.specs.Drawn.{faultIn, treeIn, drawnFault, drawnTree}
 use Rattle.drawn_tree.specs.Leaves.{Subtree, first, later, Reaches, here, below, OneLeafEach, subtreesFrom, AskingReaches}
 use Rattle.drawn_tree.specs.Reading.{leafMark, nothingAsked, asked, leafRead, subtreesRead, nodeRead, treeRead, ended, drawnRead}
-use Rattle.drawn_tree.specs.Tree.{Tree, leaf, Trees, more, drawnClass, reached}
+use Rattle.drawn_tree.specs.Tree.{Tree, Trees, more, drawnClass, reached}
 use Rattle.drawn_tree.proofs.Judged.{Judged, drawn-judged}
 
 -- ---- a walk has no choice

@@ -1,7 +1,7 @@
 // The gate inputs of a gate: numbers of gates, beside masks of 0.
 use crate::within;
-use ordering::ascends;
-use ordering::distinct_count;
+use ordering::Counted;
+use ordering::count_distinct;
 use ordering::keep_distinct;
 use ordering::sort;
 use rules::INPUT_PLACES;
@@ -11,8 +11,8 @@ ghost use mathlib.Core.List.{map};
 ghost use lib.ListN.{length, take};
 ghost use Rattle.lists.specs.Rows.{put};
 ghost use Rattle.rules.specs.Limits.{mostGateInputs};
-ghost use Rattle.ordering.specs.Distinct.{distinct};
-ghost use Rattle.ordering.specs.Inputs.{Ascending, numbers, sorted, ascends as Inputs·ascends};
+ghost use Rattle.ordering.specs.Distinct.{distinct, Counts};
+ghost use Rattle.ordering.specs.Inputs.{Ascending, numbers, sorted};
 ghost use Rattle.gate_order.specs.Inputs.{unmasked, noMasks};
 
 // A row of masks for all places.
@@ -32,26 +32,16 @@ pub fn sort_gate_inputs(count: u8, input: &mut [u8])
     sort(&mut input[..n], &mut masks[..n]);
 }
 
-// Whether the first so many gate inputs are in order.
-pub fn gate_inputs_ascend(count: u8, input: [u8; INPUT_PLACES]) -> bool
-    ensures { λ r. ⌜ r ≡ Inputs·ascends (take count (map unmasked input)) ⌝ }
+// Whether the first so many gate inputs are in order, and how many of them are then distinct.
+pub fn count_gate_inputs(count: u8, input: [u8; INPUT_PLACES]) -> Counted
+    ensures { λ r. ⌜ Counts (take count (map unmasked input)) (r .ascends) (r .distinct) ⌝ }
 {
     let n = within(count, INPUT_PLACES);
     let masks = no_masks();
-    ascends(&input[..n], &masks[..n])
+    count_distinct(&input[..n], &masks[..n])
 }
 
-// How many of the first so many gate inputs are distinct, where they are in order.
-pub fn distinct_gate_inputs(count: u8, input: [u8; INPUT_PLACES]) -> usize
-    ensures few { λ r. ⌜ r ≤ mostGateInputs ⌝ }
-    ensures many { λ r. ⌜ (Ascending (take count (map unmasked input)) → r ≡ length (distinct (take count (map unmasked input)))) ⌝ }
-{
-    let n = within(count, INPUT_PLACES);
-    let masks = no_masks();
-    distinct_count(&input[..n], &masks[..n])
-}
-
-// Puts those at the front of the places, and says how many they are.
+// Puts the distinct ones of the first so many gate inputs, which are in order, at the front of the places, and says how many they are.
 pub fn keep_distinct_gate_inputs(count: u8, input: &mut [u8]) -> usize
     requires { ⌜ length (now input) ≡ mostGateInputs ⌝ }
     ensures few { λ r. ⌜ r ≤ mostGateInputs ⌝ }

@@ -2,17 +2,15 @@
 mod gate_inputs;
 mod tests;
 
-use gate_inputs::distinct_gate_inputs;
-use gate_inputs::gate_inputs_ascend;
+use gate_inputs::count_gate_inputs;
 use gate_inputs::keep_distinct_gate_inputs;
 use gate_inputs::sort_gate_inputs;
 use rules::first;
 use rules::unsound_fault;
 use study::Gate;
-use tests::distinct_tests;
+use tests::count_tests;
 use tests::keep_distinct_tests;
 use tests::sort_tests;
-use tests::tests_ascend;
 ghost use Prim.Native.Nat.{min};
 ghost use mathlib.Core.Path.{_≡_};
 ghost use Rattle.study.specs.Places.{ShapedGate};
@@ -49,30 +47,29 @@ pub fn in_order(g: Gate) -> Gate
     }
 }
 
-// 16 where the inputs of a gate are out of order.
-pub fn order_fault(g: Gate) -> u8
-    ensures { λ r. ⌜ r ≡ orderFault g ⌝ }
+// What the inputs of a gate were found to be: 16 where they are out of order, and otherwise how many are distinct, tests and gates together.
+pub struct InputsJudged {
+    pub refusal: u8,
+    pub distinct: u32,
+}
+
+// Goes along the inputs of a gate once.
+pub fn judge_inputs(g: Gate) -> InputsJudged
+    ensures order { λ r. ⌜ r .refusal ≡ orderFault g ⌝ }
+    ensures many { λ r. ⌜ (orderFault g ≡ 0 → r .distinct ≡ inputCount g) ⌝ }
 {
     let component = g.component;
     let mask = g.mask;
     let input = g.input;
-    first(
-        unsound_fault(tests_ascend(g.tests, component, mask)),
-        unsound_fault(gate_inputs_ascend(g.gates, input)),
-    )
+    let tests = count_tests(g.tests, component, mask);
+    let gates = count_gate_inputs(g.gates, input);
+    InputsJudged {
+        refusal: first(unsound_fault(tests.ascends), unsound_fault(gates.ascends)),
+        distinct: tests.distinct as u32 + gates.distinct as u32,
+    }
 }
 
-// How many distinct inputs a gate has, tests and gates together, where they are in order.
-pub fn input_count(g: Gate) -> u32
-    ensures { λ r. ⌜ (InOrder g → r ≡ inputCount g) ⌝ }
-{
-    let component = g.component;
-    let mask = g.mask;
-    let input = g.input;
-    distinct_tests(g.tests, component, mask) as u32 + distinct_gate_inputs(g.gates, input) as u32
-}
-
-// The gate with those alone. It has its places, as every gate that is given by value.
+// A gate in order with its distinct inputs alone. It has its places, as every gate that is given by value.
 pub fn without_repeats(g: Gate) -> Gate
     ensures places { λ r. ⌜ ShapedGate g ⌝ }
     ensures inputs { λ r. ⌜ (InOrder g → r ≡ distinctGate g) ⌝ }

@@ -1,7 +1,7 @@
 // The tests of a gate: by component, and those of one component by mask.
 use crate::within;
-use ordering::ascends;
-use ordering::distinct_count;
+use ordering::Counted;
+use ordering::count_distinct;
 use ordering::keep_distinct;
 use ordering::sort;
 use rules::TEST_PLACES;
@@ -10,8 +10,8 @@ ghost use mathlib.Core.Path.{_≡_};
 ghost use lib.ListN.{length, take};
 ghost use Rattle.lists.specs.Rows.{put};
 ghost use Rattle.rules.specs.Limits.{mostTests};
-ghost use Rattle.ordering.specs.Distinct.{distinct, Fronted};
-ghost use Rattle.ordering.specs.Inputs.{paired, Ascending, numbers, masks, sorted, ascends as Inputs·ascends};
+ghost use Rattle.ordering.specs.Distinct.{distinct, Counts, Fronted};
+ghost use Rattle.ordering.specs.Inputs.{paired, Ascending, numbers, masks, sorted};
 
 // Puts the first so many tests in order, in their places.
 pub fn sort_tests(count: u8, component: &mut [u8], mask: &mut [u8])
@@ -27,24 +27,15 @@ pub fn sort_tests(count: u8, component: &mut [u8], mask: &mut [u8])
     sort(&mut component[..n], &mut mask[..n]);
 }
 
-// Whether the first so many tests are in order.
-pub fn tests_ascend(count: u8, component: [u8; TEST_PLACES], mask: [u8; TEST_PLACES]) -> bool
-    ensures { λ r. ⌜ r ≡ Inputs·ascends (take count (paired component mask)) ⌝ }
+// Whether the first so many tests are in order, and how many of them are then distinct.
+pub fn count_tests(count: u8, component: [u8; TEST_PLACES], mask: [u8; TEST_PLACES]) -> Counted
+    ensures { λ r. ⌜ Counts (take count (paired component mask)) (r .ascends) (r .distinct) ⌝ }
 {
     let n = within(count, TEST_PLACES);
-    ascends(&component[..n], &mask[..n])
+    count_distinct(&component[..n], &mask[..n])
 }
 
-// How many of the first so many tests are distinct, where they are in order.
-pub fn distinct_tests(count: u8, component: [u8; TEST_PLACES], mask: [u8; TEST_PLACES]) -> usize
-    ensures few { λ r. ⌜ r ≤ mostTests ⌝ }
-    ensures many { λ r. ⌜ (Ascending (take count (paired component mask)) → r ≡ length (distinct (take count (paired component mask)))) ⌝ }
-{
-    let n = within(count, TEST_PLACES);
-    distinct_count(&component[..n], &mask[..n])
-}
-
-// Puts those at the front of the places, and says how many they are.
+// Puts the distinct ones of the first so many tests, which are in order, at the front of the places, and says how many they are.
 pub fn keep_distinct_tests(count: u8, component: &mut [u8], mask: &mut [u8]) -> usize
     requires components { ⌜ length (now component) ≡ mostTests ⌝ }
     requires masks { ⌜ length (now mask) ≡ mostTests ⌝ }

@@ -3,7 +3,7 @@ mod inputs;
 mod tests;
 
 use gate_order::in_order;
-use gate_order::input_count;
+use gate_order::judge_inputs;
 use inputs::read_inputs;
 use reading::ByteRead;
 use reading::byte_at;
@@ -140,8 +140,9 @@ pub fn read_gate(bytes: &[u8], at: usize, counts: &[u8], number: usize) -> GateR
         input,
     };
     let gate = in_order(given);
+    let judged = judge_inputs(gate);
     GateRead {
-        refusal: first(f.refusal, threshold_fault(input_count(gate), f.threshold)),
+        refusal: first(f.refusal, threshold_fault(judged.distinct, f.threshold)),
         next: f.next,
         gate,
     }

@@ -1,13 +1,13 @@
 -- Which inputs of a row are distinct: one that stands there again counts once.
 use Prim.Native.Nat.{ℕ}
 use mathlib.Core.Path.{_≡_}
-use mathlib.Core.Bool.{Bool, false, _&&_, _||_, cond}
+use mathlib.Core.Bool.{Bool, true, false, _&&_, _||_, cond}
 use mathlib.Core.List.{List, [], _∷_}
 use lib.Dec.{eqb}
 use lib.ListN.{length}
 use Rattle.lists.specs.Counting.{truth, sumOver}
 use Rattle.lists.specs.Rows.{put}
-use Rattle.ordering.specs.Inputs.{Input, numbers, masks}
+use Rattle.ordering.specs.Inputs.{Input, numbers, masks, ascends}
 
 -- two inputs are the same: tests of one component by one mask, or one gate
 unfoldable pub sameInput : Input → Input → Bool
@@ -46,6 +46,15 @@ unfoldable pub thinned : List Input → List Input
 unfolding standsNext
 thinned [] = []
 thinned (a ∷ row) = cond (standsNext a row) (thinned row) (a ∷ thinned row)
+
+-- how many inputs a row may have for their number to be a byte
+abbrev pub mostCounted : ℕ
+mostCounted = 255
+
+-- a row was found to be in order or not, and then to have so many distinct inputs
+pub record Counts (row : List Input) (in-order : Bool) (n : ℕ) : Type 0 where
+  pub order : in-order ≡ ascends row
+  pub many : ascends row ≡ true → n ≡ length (distinct row)
 
 -- two rows of bytes were n₀ and m₀, and now hold a row of inputs at their front, so many, and what they held behind it
 pub record Fronted (n₀ m₀ : List ℕ) (row : List Input) (n m : List ℕ) (count : ℕ) : Type 0 where

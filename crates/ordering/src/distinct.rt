@@ -1,8 +1,10 @@
 // The distinct inputs of a row in order, where repeats stand side by side: of those the last counts.
+use crate::falls;
+use crate::rank;
 ghost use Prim.Native.Nat.{suc, _<_, _≤_};
 ghost use mathlib.Core.Path.{_≡_};
 ghost use lib.ListN.{length, getD, drop};
-ghost use Rattle.ordering.specs.Distinct.{distinct, standsNext, Fronted};
+ghost use Rattle.ordering.specs.Distinct.{distinct, standsNext, mostCounted, Counts, Fronted};
 ghost use Rattle.ordering.specs.Inputs.{noInput, paired, Ascending};
 
 // Whether the input at a place is the same as the one behind it.
@@ -19,25 +21,39 @@ fn stands_next(number: &[u8], mask: &[u8], at: usize) -> bool
     number[at] == number[at + 1] && mask[at] == mask[at + 1]
 }
 
-// How many distinct inputs a row in order has.
-pub fn distinct_count(number: &[u8], mask: &[u8]) -> usize
-    requires { ⌜ length (now number) ≡ length (now mask) ⌝ }
-    ensures few { λ r. ⌜ r ≤ length (now (number .entry)) ⌝ }
-    ensures many { λ r.
-        ⌜ (Ascending (paired (now (number .entry)) (now (mask .entry))) → r ≡ length (distinct (paired (now (number .entry)) (now (mask .entry))))) ⌝ }
+// What a row was found to be: whether it is in order, and how many distinct inputs it then has.
+pub struct Counted {
+    pub ascends: bool,
+    pub distinct: u8,
+}
+
+// Goes along a row once: no input may rank below the one before it, and one counts where the next is another.
+pub fn count_distinct(number: &[u8], mask: &[u8]) -> Counted
+    requires rows { ⌜ length (now number) ≡ length (now mask) ⌝ }
+    requires few { ⌜ length (now number) ≤ mostCounted ⌝ }
+    ensures { λ r. ⌜ Counts (paired (now (number .entry)) (now (mask .entry))) (r .ascends) (r .distinct) ⌝ }
 {
-    let mut n: usize = 0;
+    let mut n: u8 = 0;
     let mut at: usize = 0;
     while at < number.len() {
+        if falls(number, mask, at, rank(number[at], mask[at])) {
+            return Counted {
+                ascends: false,
+                distinct: 0,
+            };
+        }
         if !stands_next(number, mask, at) {
             n = n + 1;
         }
         at = at + 1;
     }
-    n
+    Counted {
+        ascends: true,
+        distinct: n,
+    }
 }
 
-// Puts them at the front of the row, and says how many they are. What stands behind them is as it was.
+// Puts the distinct inputs of a row at its front, and says how many they are. What stands behind them is as it was.
 pub fn keep_distinct(number: &mut [u8], mask: &mut [u8]) -> usize
     requires { ⌜ length (now number) ≡ length (now mask) ⌝ }
     ensures few { λ r. ⌜ r ≤ length (now (number .entry)) ⌝ }

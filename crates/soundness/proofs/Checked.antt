@@ -1,16 +1,16 @@
 -- The check for 16 decides soundness: no breach is found exactly when every rule of `Sound` is kept. What carries it: the first breach of a
 -- list is none exactly when each is none, and so it is for the places of a kind (`PlacesKept`).
 use Prim.Native.Nat.{ℕ, _<_, _≤_}
-use mathlib.Core.Path.{_≡_, refl, sym, ap, subst, _∙_}
+use mathlib.Core.Path.{_≡_, refl, sym, subst}
 use mathlib.Core.Bool.{true}
-use mathlib.Core.List.{List, [], _∷_}
+use mathlib.Core.List.{List}
 use native.Mathlib.Omega.{arith}
 use lib.ListN.{length, getD}
 use borrow.Author.Tests.{eqb-true, eq-eqb}
-use Rattle.rules.specs.Breach.{refuse, first, firstBreach}
+use Rattle.rules.specs.Breach.{refuse}
 use Rattle.rules.specs.Limits.{mostComponents, mostGates, mostLoads, mostTests, mostGateInputs}
-use Rattle.rules.specs.Table.{statesFault, inputCountFault, noComponentFault, maskFault, aheadFault, thresholdFault, unsoundFault}
-use Rattle.rules.proofs.Kept.{first-kept, first-none, first-behind, list-kept, list-none, none-none, both-kept}
+use Rattle.rules.specs.Table.{statesFault, noComponentFault, maskFault, aheadFault, unsoundFault}
+use Rattle.rules.proofs.Kept.{first-kept, first-none, list-kept, list-none, none-none, both-kept}
 use Rattle.rules.proofs.Firsts.{places-kept, places-none}
 use Rattle.rules.proofs.Rows.{count-kept, input-count-kept, sound-kept, unused-fields, unused-none}
 use Rattle.study.specs.declared.Component.{Component}
@@ -21,13 +21,12 @@ use Rattle.study.specs.Edits.{withProbabilities}
 use Rattle.study.specs.Joint.{stateCounts}
 use Rattle.study.specs.Places.{componentAt, gateAt, loadAt}
 use Rattle.study.specs.Zero.{zeroComponent, zeroLoad}
-use Rattle.gate_order.specs.Inputs.{inputCount}
 use Rattle.gate_order.specs.Order.{InOrder}
-use Rattle.gate_order.proofs.Checked.{order-kept, order-none, none-ordered}
+use Rattle.gate_order.proofs.Checked.{order-kept, order-none}
 use Rattle.soundness.specs.Sound.{SoundComponent, ZeroBehind, SoundGate, UnusedGate, SoundLoad, Sound}
 use Rattle.soundness.specs.Check.{probabilitiesFault, componentFault, unusedComponentFault, componentPlaceFault, componentsFault}
 use Rattle.soundness.specs.Check.{testPlaceFault, testsFault, inputPlaceFault, gateInputsFault, inputPlacesFault}
-use Rattle.soundness.specs.Check.{gateFault, unusedGateFault, gatePlaceFault, gatesFault}
+use Rattle.soundness.specs.Check.{voteFault, gateFault, unusedGateFault, gatePlaceFault, gatesFault}
 use Rattle.soundness.specs.Check.{loadFault, unusedLoadFault, loadPlaceFault, loadsFault, frontFault, restFault, sound}
 
 -- ---- components
@@ -75,16 +74,14 @@ record SoundInputs (counts : List ℕ) (i : ℕ) (g : Gate) : Type 0 where
   mask : (j : ℕ) → j < g .tests → maskFault (getD counts (getD (g .component) j 0) 0) (getD (g .mask) j 0) ≡ 0
   input : (j : ℕ) → j < g .gates → aheadFault i (getD (g .input) j 0) ≡ 0
   behind : ZeroBehind g
-  order : InOrder g
 
 module _ (counts : List ℕ) (i : ℕ) (g : Gate) where
   inputs-kept : g .tests ≤ mostTests → g .gates ≤ mostGateInputs → inputPlacesFault counts i g ≡ 0 → SoundInputs counts i g
   unfolding inputPlacesFault testsFault testPlaceFault gateInputsFault inputPlaceFault
   inputs-kept tests-most gates-most e =
-      let front = list-kept _ _ e in
-      let back = both-kept _ _ (front .right) in
-      let tests = places-kept (g .tests) mostTests _ _ tests-most (front .left) in
-      let inputs = places-kept (g .gates) mostGateInputs _ _ gates-most (back .left) in
+      let both = first-kept _ _ e in
+      let tests = places-kept (g .tests) mostTests _ _ tests-most (both .left) in
+      let inputs = places-kept (g .gates) mostGateInputs _ _ gates-most (both .right) in
       record {
         component = λ j less. first-kept _ _ (tests .in-use j less) .left;
         mask = λ j less. first-kept _ _ (tests .in-use j less) .right;
@@ -95,43 +92,19 @@ module _ (counts : List ℕ) (i : ℕ) (g : Gate) where
               mask = λ j from less. unused-fields _ _ 0 0 (tests .behind j from less) .field2;
               input = λ j from less. unused-fields _ 0 0 0 (inputs .behind j from less) .field1;
             };
-        order = order-kept g (back .right);
       }
 
   inputs-none : SoundInputs counts i g → inputPlacesFault counts i g ≡ 0
   unfolding inputPlacesFault testsFault testPlaceFault gateInputsFault inputPlaceFault
   inputs-none s =
-      list-none _ _
+      first-none _ _
       (places-none (g .tests) mostTests _ _
       (record {
         in-use = λ j less. first-none _ _ (s .component j less) (s .mask j less);
         behind = λ j from less. unused-none _ _ 0 0 (s .behind .component j from less) (s .behind .mask j from less) refl refl;
       }))
-      (list-none _ _
       (places-none (g .gates) mostGateInputs _ _
       (record { in-use = s .input; behind = λ j from less. unused-none _ 0 0 0 (s .behind .input j from less) refl refl refl }))
-      (list-none _ _ (order-none g (s .order)) none-none))
-
-  -- where these are kept, the inputs stand in order, so that what counts the distinct ones there judges the threshold
-  inputs-ordered : inputPlacesFault counts i g ≡ 0 → InOrder g
-  unfolding inputPlacesFault
-  inputs-ordered e = order-kept g (both-kept _ _ (list-kept _ _ e .right) .right)
-
-  pub gate-judged : (places inputs : ℕ) → places ≡ inputPlacesFault counts i g → (InOrder g → inputs ≡ inputCount g)
-      → firstBreach (
-      inputCountFault mostTests (g .tests)
-      ∷ inputCountFault mostGateInputs (g .gates)
-      ∷ places
-      ∷ thresholdFault inputs (g .threshold)
-      ∷ []
-      )
-      ≡ gateFault counts i g
-  unfolding firstBreach gateFault
-  gate-judged places inputs e counted =
-      let judge : places ≡ 0 → firstBreach (thresholdFault inputs (g .threshold) ∷ []) ≡ firstBreach (thresholdFault (inputCount g) (g .threshold) ∷ []) =
-      λ kept. ap (λ (n : ℕ). firstBreach (thresholdFault n (g .threshold) ∷ [])) (counted (inputs-ordered (sym e ∙ kept))) in
-      ap (λ (rest : ℕ). first (inputCountFault mostTests (g .tests)) (first (inputCountFault mostGateInputs (g .gates)) rest))
-      (first-behind places _ _ judge ∙ ap (λ (p : ℕ). first p (firstBreach (thresholdFault (inputCount g) (g .threshold) ∷ []))) e)
 
   -- a gate in use keeps its rules, and its inputs stand in order
   record Ordered : Type 0 where
@@ -139,11 +112,12 @@ module _ (counts : List ℕ) (i : ℕ) (g : Gate) where
     order : InOrder g
 
   gate-kept : gateFault counts i g ≡ 0 → Ordered
-  unfolding gateFault
+  unfolding gateFault voteFault
   gate-kept e =
       let tests = list-kept _ _ e in
       let gates = list-kept _ _ (tests .right) in
       let rest = both-kept _ _ (gates .right) in
+      let vote = first-kept _ _ (rest .right) in
       let tests-most = input-count-kept mostTests (g .tests) (tests .left) in
       let inputs = inputs-kept tests-most (input-count-kept mostGateInputs (g .gates) (gates .left)) (rest .left) in
       record {
@@ -154,17 +128,18 @@ module _ (counts : List ℕ) (i : ℕ) (g : Gate) where
               component = inputs .component;
               mask = inputs .mask;
               input = inputs .input;
-              threshold = rest .right;
+              threshold = vote .right;
               behind = inputs .behind;
             };
-        order = inputs .order;
+        order = order-kept g (vote .left);
       }
 
   gate-none : SoundGate counts i g → InOrder g → gateFault counts i g ≡ 0
-  unfolding gateFault
+  unfolding gateFault voteFault
   gate-none s order =
-      let inputs = inputs-none (record { component = s .component; mask = s .mask; input = s .input; behind = s .behind; order = order }) in
-      list-none _ _ (s .tests) (list-none _ _ (s .gates) (list-none _ _ inputs (list-none _ _ (s .threshold) none-none)))
+      let inputs = inputs-none (record { component = s .component; mask = s .mask; input = s .input; behind = s .behind }) in
+      let vote = first-none _ _ (order-none g order) (s .threshold) in
+      list-none _ _ (s .tests) (list-none _ _ (s .gates) (list-none _ _ inputs (list-none _ _ vote none-none)))
 
   no-gate-kept : unusedGateFault counts i g ≡ 0 → UnusedGate g
   unfolding unusedGateFault
@@ -184,7 +159,6 @@ module _ (counts : List ℕ) (i : ℕ) (g : Gate) where
         mask = λ j less. absurd (omega arith);
         input = λ j less. absurd (omega arith);
         behind = u .behind;
-        order = none-ordered g (u .tests) (u .gates);
       }))
 
 -- ---- loads

@@ -59,25 +59,20 @@ inputPlaceFault i gates j input = inUse gates j (aheadFault i input) (unusedFaul
 unfoldable pub gateInputsFault : ℕ → ℕ → List ℕ → ℕ
 gateInputsFault i gates input = firstOf (λ (j : ℕ). inputPlaceFault i gates j (getD input j 0)) mostGateInputs 0
 
--- the places of the inputs of gate i, and then their order
+-- the places of the inputs of gate i
 unfoldable pub inputPlacesFault : List ℕ → ℕ → Gate → ℕ
-unfolding orderFault
-inputPlacesFault counts i g =
-    firstBreach (
-    testsFault counts (g .tests) (g .component) (g .mask) ∷ gateInputsFault i (g .gates) (g .input) ∷ orderFault g ∷ []
-    )
+inputPlacesFault counts i g = first (testsFault counts (g .tests) (g .component) (g .mask)) (gateInputsFault i (g .gates) (g .input))
 
--- gate place i that is in use, one that no record uses, and place i of a study with n gates; the places of inputs are judged in both. The threshold comes last,
--- since the distinct inputs are counted in order
+-- how a gate votes: its inputs stand in order, and its threshold is judged by the distinct ones
+unfoldable pub voteFault : Gate → ℕ
+unfolding orderFault inputCount
+voteFault g = first (orderFault g) (thresholdFault (inputCount g) (g .threshold))
+
+-- gate place i that is in use, one that no record uses, and place i of a study with n gates; the places of inputs are judged in both
 unfoldable pub gateFault : List ℕ → ℕ → Gate → ℕ
-unfolding inputCount
 gateFault counts i g =
     firstBreach (
-    inputCountFault mostTests (g .tests)
-    ∷ inputCountFault mostGateInputs (g .gates)
-    ∷ inputPlacesFault counts i g
-    ∷ thresholdFault (inputCount g) (g .threshold)
-    ∷ []
+    inputCountFault mostTests (g .tests) ∷ inputCountFault mostGateInputs (g .gates) ∷ inputPlacesFault counts i g ∷ voteFault g ∷ []
     )
 
 unfoldable pub unusedGateFault : List ℕ → ℕ → Gate → ℕ

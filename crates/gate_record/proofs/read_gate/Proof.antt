@@ -63,11 +63,11 @@ given c =
     }
 
 -- its distinct inputs are counted in order, and are as many as before
-counted : (c : tie.After-input-count) → c .input-count .result ≡ inputCount (given (fields-read (c .before)))
+counted : (c : tie.After-judge-inputs) → c .judge-inputs .result .distinct ≡ inputCount (given (fields-read (c .before)))
 counted c =
     let g = given (fields-read (c .before)) in
     let shaped : ShapedGate g = record { component = search needs; mask = search needs; input = search needs } in
-    counted-in-order (c .before .in-order .ensures) (c .input-count .ensures) shaped
+    counted-in-order (c .before .in-order .ensures) (c .judge-inputs .ensures .1) shaped
 
 returns-2 : tie.Need-returns-2
 unfolding gateInOrder gate absentGate
