@@ -1,3 +1,4 @@
+pub mod Along
 pub mod Moving
 pub mod Pairs
 pub mod Rises

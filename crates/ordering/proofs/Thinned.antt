@@ -1,5 +1,5 @@
--- Rows without the inputs that stand right behind again: in order, these are the distinct ones. And what carries the two loops that look for them, over what is
--- left to look at: those that count there are still to be counted (`Counting`), or to be put at the front (`Thinning`).
+-- Rows without the inputs that stand right behind again: in order, these are the distinct ones. And what carries the loop that puts them at the front, over what
+-- is left to look at: those that count there are still to be put (`Thinning`).
 use Prim.Native.Nat.{ℕ, zero, suc, _+_, _<_, _≤_}
 use mathlib.Core.Path.{_≡_, refl, sym, ap, ap₂, _∙_}
 use mathlib.Core.Bool.{Bool, true, false, _&&_, _||_, cond, false≢true}
@@ -94,33 +94,6 @@ unfolding standsNext sameInput
 next-told ns ms at rows two =
     let inside : suc at < length (paired ns ms) = omega (arith, two, paired-long ns ms rows) in
     rw (drop-cons (paired ns ms) (suc at) noInput inside, getD-paired ns ms at rows, getD-paired ns ms (suc at) rows) refl
-
--- ---- those that count, counted
-
--- n are counted, and those from a place on are to come
-pub record Counting (row : List Input) (n at : ℕ) : Type 0 where
-  pub few : n ≤ at
-  pub due : n + length (thinned (drop at row)) ≡ length (thinned row)
-
-module _ {row : List Input} where
-  pub counting-start : Counting row 0 0
-  counting-start = record { few = omega arith; due = zero-add (length (thinned row)) }
-
-  pub counting-again : {n at : ℕ} → Counting row n at → at < length row → standsNext (getD row at noInput) (drop (suc at) row) ≡ true → Counting row n (at + 1)
-  counting-again {n} {at} c inside next =
-      record {
-        few = omega (arith, c .few);
-        due = rw add-one (ap (λ (r : List Input). n + length r) (sym (thinned-again row at inside next)) ∙ c .due);
-      }
-
-  pub counting-more : {n at : ℕ} → Counting row n at → at < length row → standsNext (getD row at noInput) (drop (suc at) row) ≡ false
-      → Counting row (n + 1) (at + 1)
-  counting-more {n} {at} c inside last =
-      let one = ap (λ (r : List Input). length r) (thinned-more row at inside last) in
-      record { few = omega (arith, c .few); due = rw (add-one at) (omega (arith, one, c .due)) }
-
-  pub counting-done : {n at : ℕ} → Counting row n at → length row ≤ at → n ≡ length (thinned row)
-  counting-done {n} {at} c end = omega (arith, c .due, ap (λ (r : List Input). length r) (thinned-none row at end))
 
 -- ---- those that count, put at the front
 

@@ -1,5 +1,4 @@
 // The distinct inputs of a row in order, where repeats stand side by side: of those the last counts.
-use crate::falls;
 use crate::rank;
 ghost use Prim.Native.Nat.{suc, _<_, _≤_};
 ghost use mathlib.Core.Path.{_≡_};
@@ -27,24 +26,31 @@ pub struct Counted {
     pub distinct: u8,
 }
 
-// Goes along a row once: no input may rank below the one before it, and one counts where the next is another.
+// Goes along a row once: no input may rank below the one before it, and where it ranks above, another one begins.
 pub fn count_distinct(number: &[u8], mask: &[u8]) -> Counted
     requires rows { ⌜ length (now number) ≡ length (now mask) ⌝ }
     requires few { ⌜ length (now number) ≤ mostCounted ⌝ }
     ensures { λ r. ⌜ Counts (paired (now (number .entry)) (now (mask .entry))) (r .ascends) (r .distinct) ⌝ }
 {
-    let mut n: u8 = 0;
+    if number.len() == 0 {
+        return Counted {
+            ascends: true,
+            distinct: 0,
+        };
+    }
+    let mut n: u8 = 1;
     let mut at: usize = 0;
-    while at < number.len() {
-        if falls(number, mask, at, rank(number[at], mask[at])) {
+    let mut here = rank(number[0], mask[0]);
+    while at + 1 < number.len() {
+        let next = rank(number[at + 1], mask[at + 1]);
+        if next < here {
             return Counted {
                 ascends: false,
                 distinct: 0,
             };
         }
-        if !stands_next(number, mask, at) {
-            n = n + 1;
-        }
+        n = n + (here < next) as u8;
+        here = next;
         at = at + 1;
     }
     Counted {
