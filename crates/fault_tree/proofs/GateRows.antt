@@ -1,5 +1,5 @@
--- The rows of gates: what putting one comes to, what carries the loop that puts them all (those of the gates below i stand), and the truth that a row tells, which
--- is that of its gate: the row holds the distinct inputs.
+-- The rows of gates: what putting one comes to, what carries the loop that puts them all (those of the gates below i stand), and the truth that a row tells,
+-- which is that of its gate: the row holds the distinct inputs.
 use Prim.Native.Nat.{ℕ, _+_, _*_, _<_, _≤_}
 use mathlib.Core.Path.{_≡_, refl, sym, ap, ap₂, subst, _∙_}
 use mathlib.Core.Bool.{Bool, true, false}
@@ -74,7 +74,8 @@ module _ {g : Gate} {rows rows′ : List ℕ} {at : ℕ} (wrote : RowPut g rows 
 
   row-of : RowOf g rows′ at
   row-of =
-      let behind-counts : gateRow g ≡ (counts g ++ g .component) ++ (g .mask ++ g .input) = sym (append-assoc (counts g) (g .component) (g .mask ++ g .input)) in
+      let behind-counts : gateRow g ≡ (counts g ++ g .component) ++ (g .mask ++ g .input) =
+      sym (append-assoc (counts g) (g .component) (g .mask ++ g .input)) in
       let behind-masks : gateRow g ≡ ((counts g ++ g .component) ++ g .mask) ++ (g .input ++ []) =
       behind-counts
       ∙ sym (append-assoc (counts g ++ g .component) (g .mask) (g .input))

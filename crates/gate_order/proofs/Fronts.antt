@@ -45,7 +45,8 @@ module _ (count size k : ℕ) (within : k ≡ min count size) where
     row-long : length row ≡ k
     row-long = ap length (sym same) ∙ paired-long (take k c) (take k m) (fronts-long c m long long′) ∙ sym (front-long c long)
 
-    part-fronted : (front : List Input) (n : ℕ) → length front ≤ k → Fronted (take k c) (take k m) front x y n → Fronted c m front (x ++ drop k c) (y ++ drop k m) n
+    part-fronted : (front : List Input) (n : ℕ) → length front ≤ k → Fronted (take k c) (take k m) front x y n
+        → Fronted c m front (x ++ drop k c) (y ++ drop k m) n
     part-fronted front n few part =
         record {
           in-numbers = part-put c x (numbers front) long (omega (arith, few, length-map front (λ (a : Input). a .number))) (part .in-numbers);
@@ -75,11 +76,11 @@ module _ (count size k : ℕ) (within : k ≡ min count size) where
     distinct-front n keeps = part-fronted (distinct row) n (omega (arith, distinct-most row, row-long)) (rw same at keeps)
 
 -- gate inputs, beside masks of 0
-pub inputs-front : (count k : ℕ) → k ≡ min count mostGateInputs → (l : List ℕ) → length l ≡ mostGateInputs
-    → paired (take k l) (take k noMasks) ≡ take count (map unmasked l)
+pub inputs-front : (count k : ℕ) → k ≡ min count mostGateInputs → (l m : List ℕ) → length l ≡ mostGateInputs → m ≡ noMasks
+    → paired (take k l) (take k m) ≡ take count (map unmasked l)
 unfolding noMasks
-inputs-front count k within l long =
-    let beside : paired l (replicate mostGateInputs 0) ≡ map unmasked l = ap (λ (n : ℕ). paired l (replicate n 0)) (sym long) ∙ paired-unmasked l in
-    paired-take k l (replicate mostGateInputs 0)
+inputs-front count k within l m long none =
+    let beside : paired l m ≡ map unmasked l = ap (paired l) none ∙ ap (λ (n : ℕ). paired l (replicate n 0)) (sym long) ∙ paired-unmasked l in
+    paired-take k l m
     ∙ ap (take k) beside
     ∙ take-front count mostGateInputs k within (map unmasked l) (length-map l unmasked ∙ long)

@@ -123,11 +123,11 @@ module _ (g : Gate) (fits : Fits g) where
   unfolding inOrder
   in-order-still order =
       let room : g .tests ≤ length (g .component) = rw (fits .shaped .component) (fits .tests) in
+      let rows = one-length g (fits .shaped) in
       let tests = sorted-still (testsOf g) (order .tests) in
       let component =
-      ap (λ (row : List Input). put (g .component) 0 (numbers row)) tests ∙ components-own (g .component) (g .mask) (g .tests) (one-length g (fits .shaped)) room in
-      let mask =
-      ap (λ (row : List Input). put (g .mask) 0 (masks row)) tests ∙ masks-own (g .component) (g .mask) (g .tests) (one-length g (fits .shaped)) room in
+      ap (λ (row : List Input). put (g .component) 0 (numbers row)) tests ∙ components-own (g .component) (g .mask) (g .tests) rows room in
+      let mask = ap (λ (row : List Input). put (g .mask) 0 (masks row)) tests ∙ masks-own (g .component) (g .mask) (g .tests) rows room in
       let input =
       ap (λ (row : List Input). put (g .input) 0 (numbers row)) (sorted-still (gateInputsOf g) (order .gate-inputs))
       ∙ inputs-own (g .input) (g .gates) (rw (fits .shaped .input) (fits .gates)) in

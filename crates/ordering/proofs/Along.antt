@@ -1,5 +1,5 @@
--- What carries the loop that goes along two rows of bytes once (`Along`): what stands from a place on decides the order, as many inputs are counted as have begun
--- up to there, and the rank of the one there is at hand.
+-- What carries the loop that goes along two rows of bytes once (`Along`): what stands from a place on decides the order, as many inputs are counted as have
+-- begun up to there, and the rank of the one there is at hand.
 use Prim.Native.Nat.{ℕ, suc, _+_, _*_, _<_, _≤_}
 use mathlib.Core.Path.{_≡_, refl, sym, ap, _∙_}
 use mathlib.Core.Bool.{Bool, true, false, cond, false≢true}

@@ -166,15 +166,15 @@ alike-set row other alike a = stands-counted a row ∙ ap (ltb 0) (alike (λ (b 
 pub distinct-alike : (row other : List Input) → Alike row other → Alike (distinct row) (distinct other)
 distinct-alike row other alike f = distinct-by-set f row other (alike-set row other alike)
 
--- there are no more of them than stand there
+-- there are no more of them than stand there, whether the first counts or not
+pub first-most : (p : Bool) (a : Input) (counted row : List Input) → length counted ≤ length row → length (cond p counted (a ∷ counted)) ≤ length (a ∷ row)
+first-most true a counted row most = omega arith
+first-most false a counted row most = omega arith
+
 pub distinct-most : (row : List Input) → length (distinct row) ≤ length row
 unfolding distinct
 distinct-most [] = omega arith
-distinct-most (a ∷ row) = go (standsIn a row) (distinct-most row)
-  where
-    go : (p : Bool) → length (distinct row) ≤ length row → length (cond p (distinct row) (a ∷ distinct row)) ≤ length (a ∷ row)
-    go true most = omega arith
-    go false most = omega arith
+distinct-most (a ∷ row) = first-most (standsIn a row) a (distinct row) row (distinct-most row)
 
 -- what holds of each input holds of each distinct one
 pub distinct-every : (P : Input → Type 0) (row : List Input) → Every P noInput row → Every P noInput (distinct row)

@@ -1,5 +1,5 @@
--- Rows without the inputs that stand right behind again: in order, these are the distinct ones. And what carries the loop that puts them at the front, over what
--- is left to look at: those that count there are still to be put (`Thinning`).
+-- Rows without the inputs that stand right behind again: in order, these are the distinct ones. And what carries the loop that puts them at the front, over
+-- what is left to look at: those that count there are still to be put (`Thinning`).
 use Prim.Native.Nat.{ℕ, zero, suc, _+_, _<_, _≤_}
 use mathlib.Core.Path.{_≡_, refl, sym, ap, ap₂, _∙_}
 use mathlib.Core.Bool.{Bool, true, false, _&&_, _||_, cond, false≢true}
@@ -15,7 +15,7 @@ use Rattle.lists.proofs.Puts.{Due, due-start, due-set, due-done, due-end}
 use Rattle.ordering.specs.Distinct.{sameInput, standsIn, distinct, standsNext, thinned, Fronted}
 use Rattle.ordering.specs.Inputs.{Input, noInput, maskValues, ByteMask, rank, paired, numbers, masks, Ascending}
 use Rattle.ordering.specs.Laws.{EnoughToLookNext}
-use Rattle.ordering.proofs.Sets.{same-told, same-self}
+use Rattle.ordering.proofs.Sets.{same-told, same-self, first-most}
 use Rattle.ordering.proofs.Pairs.{paired-long, getD-paired}
 use Rattle.ordering.proofs.Rises.{Rises, rises}
 use Rattle.ordering.proofs.Unique.{same-input}
@@ -118,11 +118,7 @@ pub record Thinning (ns₀ ms₀ ns ms : List ℕ) (kept at : ℕ) : Type 0 wher
 pub thinned-most : (row : List Input) → length (thinned row) ≤ length row
 unfolding thinned
 thinned-most [] = omega arith
-thinned-most (a ∷ row) = go (standsNext a row) (thinned-most row)
-  where
-    go : (p : Bool) → length (thinned row) ≤ length row → length (cond p (thinned row) (a ∷ thinned row)) ≤ length (a ∷ row)
-    go true most = omega arith
-    go false most = omega arith
+thinned-most (a ∷ row) = first-most (standsNext a row) a (thinned row) row (thinned-most row)
 
 pub thinning-start : {ns ms : List ℕ} → length ns ≡ length ms → Thinning ns ms ns ms 0 0
 thinning-start {ns} {ms} e =

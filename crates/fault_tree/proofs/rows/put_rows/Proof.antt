@@ -1,5 +1,5 @@
--- `fault_tree::rows::put_rows` meets its contract. The rows of the gates below i stand (`Rowed`), each without its repeats, since its inputs are in order; the gates
--- left fall.
+-- `fault_tree::rows::put_rows` meets its contract. The rows of the gates below i stand (`Rowed`), each without its repeats, since its inputs are in order; the
+-- gates left fall.
 use Prim.Native.Nat.{_-_, _<_}
 use mathlib.Core.Path.{_∙_}
 use native.Mathlib.Omega.{arith}

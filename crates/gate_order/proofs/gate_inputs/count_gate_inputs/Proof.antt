@@ -26,7 +26,7 @@ returns : tie.Need-returns
 returns c =
     let unmasked = c .before .before .before in
     let counted = unmasked .before in
-    rw (unmasked .no-masks .ensures, inputs-front _ _ (counted .within .ensures) (counted .before .args .t2) (search needs)) at (c .count-distinct .ensures)
+    rw (inputs-front _ _ (counted .within .ensures) (counted .before .args .t2) _ (search needs) (unmasked .no-masks .ensures)) at (c .count-distinct .ensures)
 
 pub count-gate-inputs-spec : {M : Type 1} → statement M
 count-gate-inputs-spec =

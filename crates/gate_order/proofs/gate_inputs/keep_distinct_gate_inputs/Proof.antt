@@ -1,12 +1,12 @@
--- `gate_order::gate_inputs::keep_distinct_gate_inputs` meets its contract: the front parts of the places that are lent are the gate inputs, with no masks (`Fronts`),
--- and come back as their distinct ones.
-use mathlib.Core.Path.{_≡_, ap, _∙_}
-use mathlib.Core.List.{List, map}
+-- `gate_order::gate_inputs::keep_distinct_gate_inputs` meets its contract: the front parts of the places that are lent are the gate inputs, with no masks
+-- (`Fronts`), and come back as their distinct ones.
+use mathlib.Core.Path.{_≡_}
+use mathlib.Core.List.{map}
 use lib.ListN.{length, take}
 use native.Mathlib.Omega.{arith}
 use borrow.Author.Needs.{needs}
 use Rattle.ordering.specs.Distinct.{Fronted}
-use Rattle.ordering.specs.Inputs.{paired, Ascending}
+use Rattle.ordering.specs.Inputs.{Ascending}
 use Rattle.rules.specs.Limits.{mostGateInputs}
 use Rattle.gate_order.specs.Inputs.{unmasked as unmask}
 use Rattle.gate_order.proofs.Fronts.{front-long, fronts-long, inputs-front, distinct-front}
@@ -40,9 +40,7 @@ returns c =
     let within = counted .within .ensures in
     let long = start counted .pre in
     let long′ : length masks ≡ mostGateInputs = search needs in
-    let same =
-    ap (λ (l : List _). paired (take (counted .within .result) input) (take (counted .within .result) l)) (unmasked .no-masks .ensures)
-    ∙ inputs-front _ _ within input long in
+    let same = inputs-front _ _ within input masks long (unmasked .no-masks .ensures) in
     let few = front-long _ mostGateInputs _ within input long in
     let count = start counted .args .count in
     let front : Ascending (take count (map unmask input)) → Fronted _ _ _ _ _ _ =

@@ -1,10 +1,8 @@
 -- `gate_order::gate_inputs::sort_gate_inputs` meets its contract: the front parts of the places that are lent are the gate inputs, with no masks (`Fronts`),
 -- and come back sorted.
-use mathlib.Core.Path.{_≡_, ap, _∙_}
-use mathlib.Core.List.{List}
-use lib.ListN.{length, take}
+use mathlib.Core.Path.{_≡_}
+use lib.ListN.{length}
 use borrow.Author.Needs.{needs}
-use Rattle.ordering.specs.Inputs.{paired}
 use Rattle.rules.specs.Limits.{mostGateInputs}
 use Rattle.gate_order.proofs.Fronts.{front-long, fronts-long, inputs-front, sorted-front}
 use Rattle.gate_order.proofs.gate_inputs.sort_gate_inputs.Statement.{statement}
@@ -37,9 +35,7 @@ returns c =
     let within = counted .within .ensures in
     let long = start counted .pre in
     let long′ : length masks ≡ mostGateInputs = search needs in
-    let same =
-    ap (λ (l : List _). paired (take (counted .within .result) input) (take (counted .within .result) l)) (unmasked .no-masks .ensures)
-    ∙ inputs-front _ _ within input long in
+    let same = inputs-front _ _ within input masks long (unmasked .no-masks .ensures) in
     sorted-front _ mostGateInputs _ within input masks _ _ _ long long′ same (sorts .sort .ensures) .in-numbers
 
 pub sort-gate-inputs-spec : {M : Type 1} → statement M

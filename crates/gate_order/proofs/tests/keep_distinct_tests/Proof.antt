@@ -1,4 +1,6 @@
--- `gate_order::tests::keep_distinct_tests` meets its contract: the front parts of the places that are lent are the tests (`Fronts`), and come back as their distinct ones.
+-- `gate_order::tests::keep_distinct_tests` meets its contract: the front parts of the places that are lent are the tests (`Fronts`), and come back as their
+-- distinct ones.
+use Prim.Native.Nat.{_≤_}
 use native.Mathlib.Omega.{arith}
 use borrow.Author.Needs.{needs}
 use Rattle.rules.specs.Limits.{mostTests}
@@ -27,14 +29,23 @@ returns c =
     let within = counted .within .ensures in
     let long = start counted .pre .0 in
     let long′ = start counted .pre .1 in
-    let same = tests-front _ mostTests _ within _ _ long long′ in
-    let few = front-long _ mostTests _ within (start counted .args .component .now) long in (
-      omega (arith, keeps .keep-distinct .ensures .0, few, within),
+    let front = front-long _ mostTests _ within (start counted .args .component .now) long in
+    let few : keeps .keep-distinct .result ≤ mostTests = omega (arith, keeps .keep-distinct .ensures .0, front, within) in
+    let same = tests-front _ mostTests _ within _ _ long long′ in (
+      few,
       λ up. distinct-front _ mostTests _ within _ _ _ _ _ long long′ same _ (keeps .keep-distinct .ensures .1 (rw same up)),
     )
 
 pub keep-distinct-tests-spec : {M : Type 1} → statement M
 keep-distinct-tests-spec =
     tie.close
-    (tie.spec (λ c κs. search needs) (λ c. search needs) slice-aggregate-keep-distinct (λ c. search needs) slice-aggregate-keep-distinct-2 keep-distinct-requires (λ c. search needs)
-    (λ c. search needs) returns)
+    (tie.spec
+    (λ c κs. search needs)
+    (λ c. search needs)
+    slice-aggregate-keep-distinct
+    (λ c. search needs)
+    slice-aggregate-keep-distinct-2
+    keep-distinct-requires
+    (λ c. search needs)
+    (λ c. search needs)
+    returns)

@@ -1,4 +1,5 @@
--- `ordering::distinct::keep_distinct` meets its contract. Those that count from a place on are still to be put at the front (`Thinning`), and the places left fall.
+-- `ordering::distinct::keep_distinct` meets its contract. Those that count from a place on are still to be put at the front (`Thinning`), and the places left
+-- fall.
 use Prim.Native.Nat.{_-_, _<_}
 use mathlib.Core.Path.{sym, subst, _∙_}
 use mathlib.Core.Logic.{⊎-elim}

@@ -21,8 +21,9 @@ returns c =
 
 returns-2 : tie.Need-returns-2
 returns-2 c =
-    let start = c .before .before .before .before .before .before in
-    let two = c .before .before .before .before .before .if1 .left in
+    let behind = c .before .before .before .before .before in
+    let start = behind .before in
+    let two = behind .if1 .left in
     rw add-one
     (sym
     (next-told (start .args .number .now) (start .args .mask .now) (start .args .at) (start .pre .0) (rw add-one at two)
@@ -30,8 +31,9 @@ returns-2 c =
 
 returns-3 : tie.Need-returns-3
 returns-3 c =
-    let start = c .before .before .before .before in
-    let two = c .before .before .before .if1 .left in
+    let behind = c .before .before .before in
+    let start = behind .before in
+    let two = behind .if1 .left in
     let apart = ne-eqb (getD (start .args .number .now) (start .args .at) 0) (getD (start .args .number .now) (start .args .at + 1) 0) (c .if2 .left) in
     rw (add-one, rw add-one at apart)
     (sym

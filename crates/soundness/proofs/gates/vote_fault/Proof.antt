@@ -1,5 +1,5 @@
--- `soundness::gates::vote_fault` meets its contract: where the inputs stand in order, their distinct ones are what was counted; where they do not, the threshold
--- is not looked at.
+-- `soundness::gates::vote_fault` meets its contract: where the inputs stand in order, their distinct ones are what was counted; where they do not, the
+-- threshold is not looked at.
 use Prim.Native.Nat.{ℕ}
 use mathlib.Core.Path.{ap, ap₂, _∙_}
 use borrow.Author.Needs.{needs}
