@@ -1,0 +1,77 @@
+-- `exponential::survival` meets its contract. Before each turn of the loop, going on from there gives the product of all factors (`Going`), and the places
+-- that are left fall.
+use Prim.Native.Nat.{ℕ, _+_, _-_, _/_, _%_}
+use mathlib.Core.Path.{_≡_, refl, sym, ap, _∙_}
+use native.Mathlib.Omega.{arith}
+use native.Mathlib.Nat.{mod-lt}
+use lib.ListN.{drop}
+use Rattle.exponential.specs.Worked.{grain, powers, factors, times, timesEach, survivalOf}
+use Rattle.exponential.proofs.Along.{Going, turn, all-done}
+use borrow.Author.Needs.{needs}
+use Rattle.exponential.proofs.survival.Statement.{statement}
+use Rattle.exponential.proofs.survival.Tie as tie
+
+abbrev Inv-loop : tie.InvT-loop
+Inv-loop exponent b₀ bits₀ place₀ b bits place = Going exponent bits place b
+
+abbrev μ-loop : tie.MeasureT-loop
+μ-loop exponent b₀ bits₀ place₀ b bits place = powers - place
+
+line-requires : tie.Need-line-requires Inv-loop μ-loop
+line-requires c κs = mod-lt _ (omega arith)
+
+loop-holds : tie.Need-loop-holds Inv-loop μ-loop
+loop-holds c =
+    let line = c .line .ensures in
+    record { within = omega arith; gives = ap (timesEach (c .before .args .exponent / grain) factors) (line .0); units = line .1 }
+
+factor-requires : tie.Need-factor-requires Inv-loop μ-loop
+factor-requires c κs = c .loop-test .taken
+
+times-requires : tie.Need-times-requires Inv-loop μ-loop
+times-requires c κs = (c .before .before .loop .inv .units, c .factor .ensures .1)
+
+add-place : tie.Need-add-place Inv-loop μ-loop
+add-place c = omega (arith, c .before .before .loop-test .taken)
+
+loop-less : tie.Need-loop-less Inv-loop μ-loop
+loop-less c = omega (arith, c .before .before .loop-test .taken)
+
+loop-again : tie.Need-loop-again Inv-loop μ-loop
+loop-again c =
+    let begun = c .before .before .before .loop in
+    let less = c .before .before .loop-test .taken in
+    let next = c .times .ensures .0 ∙ ap (λ (f : ℕ). times (begun .bits % 2) f (begun .b)) (c .before .factor .ensures .0) in
+    let rest = ap (timesEach (begun .bits / 2) (drop (begun .place + 1) factors)) next in
+    record {
+      within = omega (arith, less);
+      gives = rest ∙ sym (turn (begun .bits) (begun .b) (begun .place) less) ∙ begun .inv .gives;
+      units = c .times .ensures .1;
+    }
+
+raise-requires : tie.Need-raise-requires Inv-loop μ-loop
+raise-requires c κs = search needs
+
+returns : tie.Need-returns Inv-loop μ-loop
+unfolding survivalOf
+returns c =
+    let end = c .before .before .loop in
+    let all : end .place ≡ powers = omega (arith, end .inv .within, c .before .loop-test .left) in
+    let product = sym (all-done (end .bits) (end .b)) ∙ rw all at (end .inv .gives) in
+    rw (c .raise .ensures, product) refl
+
+pub survival-spec : {M : Type 1} → statement M
+survival-spec =
+    tie.close
+    (tie.spec
+    Inv-loop
+    μ-loop
+    line-requires
+    loop-holds
+    factor-requires
+    times-requires
+    add-place
+    loop-less
+    loop-again
+    raise-requires
+    returns)

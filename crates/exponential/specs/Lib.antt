@@ -1,0 +1,4 @@
+pub mod Laws
+pub mod Series
+pub mod Survives
+pub mod Worked
