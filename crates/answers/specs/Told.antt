@@ -6,6 +6,9 @@ use Rattle.answers.specs.Answered.{answered}
 use Rattle.answers.specs.declared.bounds.BoundsAnswer.{BoundsAnswer}
 use Rattle.answers.specs.declared.bounds.BoundsAnswer.the-variants.{Bounds, Refused as NoBounds}
 use Rattle.answers.specs.declared.bounds.Enclosure.{Enclosure}
+use Rattle.answers.specs.declared.chances.Chances.{Chances as ChanceBounds}
+use Rattle.answers.specs.declared.chances.SurvivalAnswer.{SurvivalAnswer}
+use Rattle.answers.specs.declared.chances.SurvivalAnswer.the-variants.{Chances, Refused as NoChances}
 use Rattle.answers.specs.declared.counts.CountAnswer.{CountAnswer}
 use Rattle.answers.specs.declared.counts.CountAnswer.the-variants.{Count, Refused as NoCount}
 use Rattle.answers.specs.declared.counts.Listing.{Listing}
@@ -45,6 +48,9 @@ caidiValues NotStated = []
 abbrev pub figureValues : FigureValues → List ℕ
 figureValues figures = pairValues (figures .saifi) ++ (pairValues (figures .saidi) ++ (caidiValues (figures .caidi) ++ pairValues (figures .maifi)))
 
+abbrev pub chanceValues : ChanceBounds → List ℕ
+chanceValues chances = pairValues (chances .survival) ++ pairValues (chances .failure)
+
 -- ---- the answers
 
 -- of opening, the edits and the call for class bounds: only that it is done
@@ -71,3 +77,8 @@ boundsTold (NoBounds n) = refusal n
 abbrev pub figuresTold : FiguresAnswer → Told
 figuresTold (Figures figures) = result (figureValues figures)
 figuresTold (NoFigures n) = refusal n
+
+-- of the call for the chance of surviving: its pair, then that of failure
+abbrev pub survivalTold : SurvivalAnswer → Told
+survivalTold (Chances chances) = result (chanceValues chances)
+survivalTold (NoChances n) = refusal n

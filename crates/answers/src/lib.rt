@@ -1,12 +1,15 @@
-// What the calls hand back: the outcome of a call that makes a study, counts, bounds and figures, each replaced by the number of the refusal table
+// What the calls hand back: the outcome of a call that makes a study, counts, bounds, figures and chances, each replaced by the number of the refusal table
 // where the call is refused.
 mod bounds;
+mod chances;
 mod counts;
 mod figures;
 mod outcome;
 
 pub use bounds::BoundsAnswer;
 pub use bounds::Enclosure;
+pub use chances::Chances;
+pub use chances::SurvivalAnswer;
 pub use counts::CountAnswer;
 pub use counts::Listing;
 pub use counts::PathCount;

@@ -97,7 +97,8 @@ fn times(bit: u64, factor: u64, b: Bounds) -> Bounds
 
 // Bounds for the exponential of minus an exponent.
 pub fn survival(exponent: u64) -> Bounds
-    ensures { λ r. ⌜ r ≡ survivalOf exponent ⌝ }
+    ensures pair { λ r. ⌜ r ≡ survivalOf exponent ⌝ }
+    ensures units { λ r. ⌜ Units r ⌝ }
 {
     let mut b = line(exponent % GRAIN);
     let mut bits = exponent / GRAIN;

@@ -9,10 +9,10 @@ use lib.Dec.{leb, ltb, eqb}
 use borrow.Author.Tests.{leb-false, ltb-false, le-leb, lt-leb, le-ltb, eqb-false, not-false}
 use Rattle.units.specs.One.{one}
 use Rattle.rules.specs.Breach.{refuse}
-use Rattle.rules.specs.Limits.{fewestStates, mostStates, mostJointStates}
+use Rattle.rules.specs.Limits.{fewestStates, mostStates, mostJointStates, farthest}
 use Rattle.rules.specs.Table.{countFault, statesFault, lackedStateFault, sumFault, widthFault, noStateFault, inputsFault, inputCountFault}
 use Rattle.rules.specs.Table.{noComponentFault, aheadFault, unsoundFault, unusedFault, itemFault, sizeFault, roomFault, customersFault}
-use Rattle.rules.specs.Table.{nodeFault, leafFault}
+use Rattle.rules.specs.Table.{nodeFault, leafFault, farFault}
 use Rattle.rules.proofs.Kept.{Within, refuse-kept, range-kept, unless-kept}
 
 -- a row that judges by `<`, and one that judges by `≤`
@@ -113,3 +113,6 @@ node-kept components component asked e = go (leb components component) refl (ref
 
 pub leaf-kept : (loads class : ℕ) → leafFault loads class ≡ 0 → class / 2 ^ loads ≡ 0
 leaf-kept loads class e = let none = below-kept 21 0 (class / 2 ^ loads) e in omega arith
+
+pub far-kept : (exponent : ℕ) → farFault exponent ≡ 0 → exponent ≤ farthest
+far-kept = below-kept 22 farthest

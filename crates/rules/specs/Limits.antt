@@ -1,4 +1,4 @@
--- The limits of the study format.
+-- The limits of the study format, and how far an exponent goes.
 use Prim.Native.Nat.{ℕ, _^_}
 
 abbrev pub mostComponents : ℕ
@@ -55,3 +55,7 @@ never = 255
 -- 4,096 joint states take; gate 0 with twelve tests, 27; 31 more gates with twelve tests and 31 gate inputs, 59 each; eight loads with every field, 10 each.
 abbrev pub longestStudy : ℕ
 longestStudy = 2023
+
+-- the largest exponent whose exponential is given: twenty times one
+abbrev pub farthest : ℕ
+farthest = 20000000000

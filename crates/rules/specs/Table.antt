@@ -3,7 +3,7 @@ use Prim.Native.Nat.{ℕ, _+_, _-_, _/_, _^_}
 use mathlib.Core.Bool.{Bool, not, _||_}
 use lib.Dec.{ltb, leb, eqb}
 use Rattle.units.specs.One.{one}
-use Rattle.rules.specs.Limits.{fewestStates, mostStates, mostJointStates, never}
+use Rattle.rules.specs.Limits.{fewestStates, mostStates, mostJointStates, never, farthest}
 use Rattle.rules.specs.Breach.{refuse, outside, unlessAbsent}
 
 -- 1 short: the bytes end inside or before a due field
@@ -113,3 +113,7 @@ behindFault bytes = refuse badEnd (ltb 0 bytes)
 -- 22 leaf: a class with a bit at or above the load count
 abbrev pub leafFault : ℕ → ℕ → ℕ
 leafFault loads class = refuse 22 (ltb 0 (class / 2 ^ loads))
+
+-- 23 too far: an exponent above the largest
+abbrev pub farFault : ℕ → ℕ
+farFault exponent = refuse 23 (ltb farthest exponent)

@@ -1,4 +1,4 @@
-// The refusal table in code: each rule of studies and drawn trees once, as the number of its row where it is broken and 0 where it is kept.
+// The refusal table in code: each rule of studies, drawn trees and exponents once, as the number of its row where it is broken and 0 where it is kept.
 // Opening, the soundness check and the edits all refuse by these. Not for callers from outside: those call `planning`.
 mod breach;
 mod limits;
@@ -33,6 +33,7 @@ pub use table::ahead_fault;
 pub use table::behind_fault;
 pub use table::count_fault;
 pub use table::customers_fault;
+pub use table::far_fault;
 pub use table::input_count_fault;
 pub use table::inputs_fault;
 pub use table::item_fault;

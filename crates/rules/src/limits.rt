@@ -1,4 +1,4 @@
-// The limits of the study format.
+// The limits of the study format, and how far an exponent goes.
 
 pub const MOST_COMPONENTS: u8 = 12;
 
@@ -50,6 +50,9 @@ pub const NEVER: u8 = 255;
 
 // The bytes of the longest study that opens.
 pub const LONGEST_STUDY: usize = 2023;
+
+// The largest exponent whose exponential is given.
+pub const FARTHEST: u64 = 20000000000;
 
 // Row 1: the bytes end inside or before a due field.
 pub const SHORT: u8 = 1;

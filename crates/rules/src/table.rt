@@ -3,6 +3,7 @@ use crate::breach::refuse;
 use crate::breach::refuse_outside;
 use crate::breach::unless_absent;
 use crate::limits::BAD_END;
+use crate::limits::FARTHEST;
 use crate::limits::FEWEST_STATES;
 use crate::limits::MASK_BITS;
 use crate::limits::MOST_JOINT_STATES;
@@ -14,7 +15,7 @@ ghost use Rattle.rules.specs.Limits.{mostLoads};
 ghost use Rattle.rules.specs.Table.{countFault, strayFault, statesFault, noStateFault, sumFault, widthFault, inputsFault};
 ghost use Rattle.rules.specs.Table.{noComponentFault, maskFault, aheadFault, thresholdFault, noGateFault, sizeFault, leftFault};
 ghost use Rattle.rules.specs.Table.{unsoundFault, unusedFault, itemFault, roomFault, customersFault, nodeFault, behindFault, leafFault};
-ghost use Rattle.rules.specs.Table.{lackedStateFault, inputCountFault, lossGateFault};
+ghost use Rattle.rules.specs.Table.{lackedStateFault, inputCountFault, lossGateFault, farFault};
 
 // 2 counts
 pub fn count_fault(most: u8, n: u8) -> u8
@@ -196,4 +197,11 @@ pub fn leaf_fault(loads: u8, class: u32) -> u8
     ensures { λ r. ⌜ r ≡ leafFault loads class ⌝ }
 {
     refuse(22, 0 < class >> loads)
+}
+
+// 23 too far
+pub fn far_fault(exponent: u64) -> u8
+    ensures { λ r. ⌜ r ≡ farFault exponent ⌝ }
+{
+    refuse(23, FARTHEST < exponent)
 }

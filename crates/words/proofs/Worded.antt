@@ -5,7 +5,7 @@ use mathlib.Core.List.{List, [], _∷_}
 use native.Mathlib.Omega.{arith}
 use lib.ListN.{length, getD, List·getD-eq-default}
 use Rattle.text.specs.Writing.{Room, Wrote}
-use Rattle.words.specs.Words.{refusalWords, refusalWord, wordBytes}
+use Rattle.words.specs.Words.{refusalWords, lastRefusal, refusalWord, wordBytes}
 
 -- where the number is k, whose word is known
 module _ {d word : List ℕ} {at n k : ℕ} (number : n ≡ k) (spelt : refusalWord k ≡ word) where
@@ -25,10 +25,10 @@ beyond n zero none some = some
 beyond n (suc k) none some = omega (arith, beyond n k (none .0) some, none .1)
 
 -- a number that has no word
-pub no-word : (n : ℕ) → NoneOf n 22 → [] ≡ refusalWord n
+pub no-word : (n : ℕ) → NoneOf n lastRefusal → [] ≡ refusalWord n
 unfolding refusalWord refusalWords
 no-word zero none = refl
-no-word (suc n) none = sym (List·getD-eq-default refusalWords [] {n = suc n} (beyond (suc n) 22 none (omega arith)))
+no-word (suc n) none = sym (List·getD-eq-default refusalWords [] {n = suc n} (beyond (suc n) lastRefusal none (omega arith)))
 
 -- the length of the longest row
 unfoldable longest : List (List ℕ) → ℕ

@@ -39,6 +39,7 @@ pub fn write_word(out: &mut [u8], at: usize, refusal: u8) -> usize
         20 => copy(out, at, b"node"),
         21 => copy(out, at, b"bad end"),
         22 => copy(out, at, b"leaf"),
+        23 => copy(out, at, b"too far"),
         _ => at,
     }
 }

@@ -6,6 +6,7 @@ use native.Mathlib.Omega.{arith}
 use native.Mathlib.Nat.{mod-lt}
 use lib.ListN.{drop}
 use Rattle.exponential.specs.Worked.{grain, powers, factors, times, timesEach, survivalOf}
+use Rattle.exponential.proofs.Enclosed.{raised-most}
 use Rattle.exponential.proofs.Along.{Going, turn, all-done}
 use borrow.Author.Needs.{needs}
 use Rattle.exponential.proofs.survival.Statement.{statement}
@@ -58,7 +59,7 @@ returns c =
     let end = c .before .before .loop in
     let all : end .place ≡ powers = omega (arith, end .inv .within, c .before .loop-test .left) in
     let product = sym (all-done (end .bits) (end .b)) ∙ rw all at (end .inv .gives) in
-    rw (c .raise .ensures, product) refl
+    rw (c .raise .ensures) (rw product refl, record { lower = end .inv .units .lower; upper = raised-most (end .b .upper) })
 
 pub survival-spec : {M : Type 1} → statement M
 survival-spec =

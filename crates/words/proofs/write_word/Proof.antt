@@ -8,8 +8,8 @@ use borrow.Author.Needs.{needs}
 use Rattle.words.proofs.write_word.Statement.{statement}
 use Rattle.words.proofs.write_word.Tie as tie
 
-returns-23 : tie.Need-returns-23
-returns-23 c =
+returns-24 : tie.Need-returns-24
+returns-24 c =
     let start = c .before .before in
     let none = no-word (start .args .refusal) (c .match .rest) in
     rw (sym none) (wrote-none _ _ (omega (arith, (rw (sym none) at (start .pre)) .fits)))
@@ -64,6 +64,8 @@ write-word-spec =
     (λ c. search needs)
     (λ c κs. let arm = c .before .before in word-room (arm .match .keys22) refl (arm .before .before .pre))
     (λ c. search needs)
+    (λ c κs. let arm = c .before .before in word-room (arm .match .keys23) refl (arm .before .before .pre))
+    (λ c. search needs)
     (λ c. word-wrote (c .before .before .before .before .before .match .keys1) refl (search))
     (λ c. search needs)
     (λ c. word-wrote (c .before .before .before .before .before .match .keys2) refl (search))
@@ -107,4 +109,6 @@ write-word-spec =
     (λ c. word-wrote (c .before .before .before .before .before .match .keys21) refl (search))
     (λ c. search needs)
     (λ c. word-wrote (c .before .before .before .before .before .match .keys22) refl (search))
-    returns-23)
+    (λ c. search needs)
+    (λ c. word-wrote (c .before .before .before .before .before .match .keys23) refl (search))
+    returns-24)
