@@ -1,10 +1,14 @@
-// What a call answers in C: a count or 0, or the number of its refusal below 0.
+// What a call answers in C: a count or 0, or the number of its refusal below 0; and a pair of bounds in its places.
 use answers::CountAnswer;
+use answers::Enclosure;
 use answers::Listing;
 use answers::Outcome;
+ghost use Prim.Native.Nat.{_+_, _≤_};
 ghost use mathlib.Core.Path.{_≡_};
 ghost use lib.IntN.{pos};
-ghost use Rattle.answers.specs.Told.{outcomeTold, listingTold, countTold};
+ghost use lib.ListN.{length};
+ghost use Rattle.lists.specs.Rows.{put};
+ghost use Rattle.answers.specs.Told.{pairValues, outcomeTold, listingTold, countTold};
 ghost use Rattle.export_answers.specs.Answers.{below, answeredBy, done, count};
 
 // A count.
@@ -49,4 +53,13 @@ pub fn answer_count(answer: CountAnswer) -> i64
         CountAnswer::Count(number) => counted(number),
         CountAnswer::Refused(number) => refused(number),
     }
+}
+
+// Writes a pair of bounds at a place.
+pub fn write_pair(pair: Enclosure, places: &mut [u64], at: usize)
+    requires { ⌜ at + 2 ≤ length (now places) ⌝ }
+    ensures { λ r. ⌜ now (places .exit) ≡ put (now (places .entry)) at (pairValues pair) ⌝ }
+{
+    places[at] = pair.lower;
+    places[at + 1] = pair.upper;
 }

@@ -1,11 +1,11 @@
 // The figures of an opened study for C, by its gates or by a drawn tree, a pair of places each.
 use answers::Caidi;
-use answers::Enclosure;
 use answers::Figures;
 use answers::FiguresAnswer;
 use evaluation::study_figures;
 use export_answers::counted;
 use export_answers::refused;
+use export_answers::write_pair;
 use meaning::Source;
 use meaning::judged_classes;
 use meaning::no_classes;
@@ -16,7 +16,7 @@ ghost use Prim.Native.Nat.{_+_, _≤_};
 ghost use mathlib.Core.Path.{_≡_};
 ghost use lib.ListN.{length};
 ghost use Rattle.lists.specs.Rows.{put};
-ghost use Rattle.answers.specs.Told.{pairValues, caidiValues, figureValues};
+ghost use Rattle.answers.specs.Told.{caidiValues, figureValues};
 ghost use Rattle.meaning.specs.Meaning.{byGates, byTree};
 ghost use Rattle.meaning.specs.Sources.{meaningOf};
 ghost use Rattle.export_answers.specs.Answers.{pairs};
@@ -33,15 +33,6 @@ const MAIFI_AT: usize = 6;
 
 // The places of them all.
 const FIGURE_PLACES: usize = 8;
-
-// Writes a pair of bounds at a place.
-fn write_pair(pair: Enclosure, places: &mut [u64], at: usize)
-    requires { ⌜ at + 2 ≤ length (now places) ⌝ }
-    ensures { λ r. ⌜ now (places .exit) ≡ put (now (places .entry)) at (pairValues pair) ⌝ }
-{
-    places[at] = pair.lower;
-    places[at + 1] = pair.upper;
-}
 
 // Writes CAIDI where it is stated; answers how many figures are stated, the three others among them.
 fn write_caidi(caidi: Caidi, places: &mut [u64]) -> u32

@@ -5,4 +5,5 @@ mod figures;
 mod losses;
 mod paths;
 mod studies;
+mod survival;
 mod texts;

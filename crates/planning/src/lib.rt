@@ -2,6 +2,7 @@
 // nothing that was lent or handed in is changed then. Each is passed on from the crate that does it.
 pub use answers::BoundsAnswer;
 pub use answers::Caidi;
+pub use answers::Chances;
 pub use answers::CountAnswer;
 pub use answers::Enclosure;
 pub use answers::Figures;
@@ -10,6 +11,7 @@ pub use answers::Listing;
 pub use answers::Outcome;
 pub use answers::PathCount;
 pub use answers::StudyAnswer;
+pub use answers::SurvivalAnswer;
 pub use editing::set_customers;
 pub use editing::set_minutes;
 pub use editing::set_probabilities;
@@ -28,5 +30,6 @@ pub use path_calls::path_bounds;
 pub use report_text::empty_report;
 pub use report_text::report;
 pub use rules::LONGEST_STUDY;
+pub use survival::survival;
 pub use words::refusal_word;
 pub use writing::write;

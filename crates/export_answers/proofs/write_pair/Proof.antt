@@ -1,10 +1,10 @@
--- `export_figures::write_pair` meets its contract: two places, one behind the other.
+-- `export_answers::write_pair` meets its contract: two places, one behind the other.
 use native.Mathlib.Omega.{arith}
 use lib.ListN.{length-set}
 use Rattle.lists.proofs.Puts.{due-start, due-set, due-done}
 use borrow.Author.Needs.{needs}
-use Rattle.export_figures.proofs.write_pair.Statement.{statement}
-use Rattle.export_figures.proofs.write_pair.Tie as tie
+use Rattle.export_answers.proofs.write_pair.Statement.{statement}
+use Rattle.export_answers.proofs.write_pair.Tie as tie
 
 slice-write-places-2 : tie.Need-slice-write-places-2
 slice-write-places-2 c = simp length-set (omega arith)
