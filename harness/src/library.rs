@@ -18,6 +18,9 @@ pub const CLASS_PLACES: usize = 256;
 /// The places that the figures need.
 pub const FIGURE_PLACES: usize = 8;
 
+/// The places that the chances of surviving and of failure need.
+pub const SURVIVAL_PLACES: usize = 4;
+
 /// A result, or the number of the refusal table by which the call was refused.
 pub type Answer<T> = Result<T, u8>;
 
@@ -104,6 +107,7 @@ extern "C" {
         figures: *mut u64,
         room: usize,
     ) -> i64;
+    fn grid_survival(fit: u32, hours: u32, bounds: *mut u64, room: usize) -> i64;
     fn grid_loads_lost(class: u8) -> i64;
     fn grid_report(bytes: *const u8, size: usize, text: *mut u8, room: usize) -> i64;
     fn grid_refusal_word(number: u8, text: *mut u8, room: usize) -> i64;
@@ -300,6 +304,11 @@ pub fn drawn_figures(study: &[u8], tree: &[u8], figures: &mut [u64]) -> Answer<u
             figures.len(),
         )
     })
+}
+
+/// Writes the bounds for the chance of surviving so many hours at a rate in FIT, then those for a failure in them. Refused by 23, 18.
+pub fn survival(fit: u32, hours: u32, bounds: &mut [u64]) -> Answer<usize> {
+    answer(unsafe { grid_survival(fit, hours, bounds.as_mut_ptr(), bounds.len()) })
 }
 
 /// How many loads are lost in a class. Never refused.

@@ -1,7 +1,9 @@
 //! The port that the benchmark times must be right as well: its reports, images, written studies and bounds of classes by a drawn tree agree with the
-//! second implementation's, and its bounds of classes and loads by gates with the library's.
+//! second implementation's, and its bounds of classes and loads by gates and its chances of surviving with the library's.
 use harness::generate::{self, Random};
-use harness::library::{self, CLASS_PLACES, LONGEST_STUDY, REPORT_BYTES, STUDY_BYTES};
+use harness::library::{
+    self, CLASS_PLACES, LONGEST_STUDY, REPORT_BYTES, STUDY_BYTES, SURVIVAL_PLACES,
+};
 use harness::port;
 use harness::reference::calls as reference;
 use harness::reference::image;
@@ -119,5 +121,26 @@ fn port_agrees() {
                 compare_trees(random, &opened.lent, &study);
             }
         }
+    }
+}
+
+/// Chances of surviving, in enough places and in too few.
+fn compare_survival(fit: u32, hours: u32) {
+    for room in [SURVIVAL_PLACES - 1, SURVIVAL_PLACES] {
+        let made = [port::survival, library::survival].map(|call| {
+            let mut bounds = vec![LENT_NUMBER; room];
+            let answer = call(fit, hours, &mut bounds);
+            (answer, bounds)
+        });
+        assert_same(&made, &[fit, hours].map(u32::to_le_bytes).concat());
+    }
+}
+
+#[test]
+fn port_survives() {
+    let random = &mut Random::new(0);
+    for _ in 0..100_000 {
+        let bits = random.between(0, 31);
+        compare_survival(random.word() >> bits, random.word() >> (31 - bits));
     }
 }

@@ -24,6 +24,9 @@
 //     i                           the figures of the current study. One line: the refusal, 0 for none. Unless refused, a line each for SAIFI,
 //                                 SAIDI, CAIDI and MAIFI: the lower and the upper bound, and an empty line where CAIDI is not stated
 //     n CLASS                     the number of loads lost in a class
+//     e FIT HOURS LEAST MOST      the chances at a rate and hours. One line: the refusal, 0 for none, and unless refused behind it the bounds for
+//                                 surviving and for failure. Unless refused, one line: 1 where the lower bound for surviving is at most LEAST, else
+//                                 0, and 1 where the upper one is at least MOST, else 0
 //     w NUMBER SIZE FILL          asks for the word of a refusal in so many bytes that all hold FILL. One line: the refusal, 0 for none, and the
 //                                 number of bytes. One line: the word. One line: how many of the bytes behind the word hold FILL, and how many
 //                                 do not
@@ -43,7 +46,7 @@
 // slices of 300 places that all hold 18,446,744,073,709,551,615: how many places then hold the same as those of slices that were cleared
 // before, and how many still hold that number.
 //
-// P1, P2, P3, N and VALUE have four bytes, lowest byte first, SIZE, LOWER and UPPER have two, a TREE all that are left, and the others one. A byte that is missing counts as 0. Any
+// P1, P2, P3, N, VALUE, FIT, HOURS, LEAST and MOST have four bytes, lowest byte first, SIZE, LOWER and UPPER have two, a TREE all that are left, and the others one. A byte that is missing counts as 0. Any
 // other letter does nothing.
 use crate::filled::bound;
 use crate::filled::list;
@@ -52,6 +55,7 @@ use crate::filled::write;
 use crate::overwritten::overwrite;
 use crate::told::bound_load;
 use crate::told::figures;
+use crate::told::survival;
 use check_tools::alter::altered;
 use check_tools::hexadecimal::byte_at;
 use check_tools::hexadecimal::number_at;
@@ -185,6 +189,16 @@ fn write_sized(bytes: &[u8], study: Study) {
     );
 }
 
+// Asks for the chances at the rate and hours that the command names.
+fn survival_named(bytes: &[u8]) {
+    survival(
+        number_at(bytes, 0),
+        number_at(bytes, 4),
+        number_at(bytes, 8) as u64,
+        number_at(bytes, 12) as u64,
+    );
+}
+
 // Obeys a command that draws a tree beside the current study.
 fn look_drawn(letter: u8, bytes: &[u8], study: Study) {
     match letter {
@@ -209,6 +223,7 @@ fn look(letter: u8, bytes: &[u8], study: Study) {
         b'v' => bound_load(false, study, &[], byte_at(bytes, 0) as usize),
         b'i' => figures(false, study, &[]),
         b'n' => numbers::number(planning::loads_lost(byte_at(bytes, 0)) as u64, true),
+        b'e' => survival_named(bytes),
         b'w' => word_sized(bytes),
         b'x' => write_sized(bytes, study),
         b'y' => write(altered_copy(bytes, study), 64, 170),

@@ -3,6 +3,7 @@ use check_tools::numbers;
 use planning::BoundsAnswer;
 use planning::Caidi;
 use planning::FiguresAnswer;
+use planning::SurvivalAnswer;
 use study::Study;
 
 // Asks for the bounds of a load, by the study's gates or by a drawn tree.
@@ -51,5 +52,25 @@ pub fn figures(drawn: bool, study: Study, tree: &[u8]) {
             numbers::two(figures.maifi.lower, figures.maifi.upper);
         }
         FiguresAnswer::Refused(number) => numbers::byte(number, true),
+    }
+}
+
+// Shows the refusal, 0 for none, and behind it the bounds for surviving and for failure; then whether those for surviving have a number at or above the
+// lower one and another at or below the upper one.
+pub fn survival(fit: u32, hours: u32, least: u64, most: u64) {
+    let answer = planning::survival(fit, hours);
+    match answer {
+        SurvivalAnswer::Chances(chances) => {
+            let survival = chances.survival;
+            numbers::number(0, false);
+            numbers::number(survival.lower, false);
+            numbers::number(survival.upper, false);
+            numbers::two(chances.failure.lower, chances.failure.upper);
+            numbers::two(
+                numbers::one_if(survival.lower <= least),
+                numbers::one_if(most <= survival.upper),
+            );
+        }
+        SurvivalAnswer::Refused(number) => numbers::byte(number, true),
     }
 }

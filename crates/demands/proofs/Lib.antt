@@ -23,6 +23,7 @@ pub mod Saved
 pub mod SavedAlike
 pub mod SharedComponent
 pub mod Sorted
+pub mod Survival
 pub mod TruthKept
 pub mod Unsound
 pub mod WorkedExamples

@@ -38,7 +38,7 @@ of-each : (P Q : Lent → Type 0) → ((l : Lent) → P l → Q l) → (ls : Lis
 of-each P Q on [] h = tt
 of-each P Q on (l ∷ ls) h = (on l (h .0), of-each P Q on ls (h .1))
 
-refuses : {told : Told} (breaches values : List ℕ) (lent : List Lent) → told ≡ tells (firstBreach breaches) values
+pub refuses : {told : Told} (breaches values : List ℕ) (lent : List Lent) → told ≡ tells (firstBreach breaches) values
     → OfEach (FilledBy (firstBreach breaches)) lent → Refuses told breaches values lent
 refuses breaches values lent is fills =
     record {

@@ -9,4 +9,5 @@ pub mod Listed
 pub mod Repeats
 pub mod Saving
 pub mod SharedComponent
+pub mod Survival
 pub mod WorkedExamples

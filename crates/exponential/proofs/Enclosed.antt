@@ -8,7 +8,6 @@ use native.Mathlib.Omega.{arith}
 use lib.Dec.{leb}
 use borrow.Author.Tests.{leb-true, leb-false}
 use Rattle.units.specs.One.{one}
-use Rattle.units.specs.Rounding.{down, up, scale}
 use Rattle.units.proofs.Rounding.{down-below, down-near, up-above, up-near, up-most}
 use Rattle.exponential.specs.declared.Bounds.{Bounds}
 use Rattle.exponential.specs.Series.{whole, partial}

@@ -7,7 +7,6 @@ use Rattle.rules.proofs.Kept.{list-last, front-broken, second-decides}
 use Rattle.answers.specs.Answered.{answered}
 use Rattle.answers.specs.Told.{chanceValues, tells, survivalTold}
 use Rattle.answers.specs.declared.chances.Chances.{Chances}
-use Rattle.answers.specs.declared.chances.SurvivalAnswer.{SurvivalAnswer}
 use Rattle.answers.specs.declared.chances.SurvivalAnswer.the-variants.{Chances as Given, Refused}
 use Rattle.answers.proofs.Answered.{answered-done, answered-refused, answered-tells, no-breach, some-breach, breach-told}
 use Rattle.survival.specs.Chances.{exponentOf, survivalFault, chancesOf, survivalGiven}
@@ -39,7 +38,8 @@ module _ (fit hours room : ℕ) where
   given-in {c} e =
       let none = no-breach breach values (chanceValues c) told (ap survivalTold e) in
       let same = sym e ∙ answered-done Refused breach _ none in
-      ap (answered Refused lacking) same ∙ ap (λ (n : ℕ). answered Refused n (Given (chancesOf (exponentOf fit hours)))) (sym (second-decides far lacking (far-is ∙ none)))
+      let last = second-decides far lacking (far-is ∙ none) in
+      ap (answered Refused lacking) same ∙ ap (λ (n : ℕ). answered Refused n (Given (chancesOf (exponentOf fit hours)))) (sym last)
 
   pub refused-in : {n : ℕ} → survivalGiven fit hours ≡ Refused n → Refused n ≡ survivalIn fit hours room
   unfolding survivalIn survivalInFault

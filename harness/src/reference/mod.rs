@@ -1,5 +1,6 @@
 //! The second implementation: every call once more, from the papers alone, in the plainest way that gives the answer.
 //! It goes over joint states one by one and is slow. Nothing here was taken from the proved code or from the port.
+pub mod big;
 pub mod bounds;
 pub mod calls;
 pub mod drawn;
@@ -12,4 +13,5 @@ pub mod paths;
 pub mod refusals;
 pub mod report;
 pub mod study;
+pub mod survival;
 pub mod writing;

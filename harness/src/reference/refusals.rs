@@ -22,9 +22,10 @@ pub const NO_CUSTOMERS: u8 = 19;
 pub const NODE: u8 = 20;
 pub const BAD_END: u8 = 21;
 pub const LEAF: u8 = 22;
+pub const TOO_FAR: u8 = 23;
 
 /// The words in the order of their numbers, from 1 on.
-const WORDS: [&str; 22] = [
+const WORDS: [&str; 23] = [
     "short",
     "counts",
     "stray bit",
@@ -47,6 +48,7 @@ const WORDS: [&str; 22] = [
     "node",
     "bad end",
     "leaf",
+    "too far",
 ];
 
 /// The word of a refusal; none for a number that the table lacks.

@@ -1,5 +1,5 @@
 //! Compares every call of the proved library with the second implementation, on generated inputs: sound, damaged and altered studies, and trees that
-//! are drawn beside them, damaged or not.
+//! are drawn beside them, damaged or not; and rates beside hours.
 //! The words behind `cargo test --test comparison --` may be another number of inputs, and another first seed.
 mod lent;
 mod orders;
@@ -7,6 +7,7 @@ mod pair;
 mod questions;
 mod repeats;
 mod shown;
+mod survival;
 mod tally;
 
 use harness::asked::Asked;
@@ -172,6 +173,15 @@ fn assert_enough(tally: &Tally) {
         often(met, &answer);
     }
     often(tally.drawn_gates, "trees drawn from gates");
+    often(tally.survival.given, "chances of surviving");
+    often(
+        tally.survival.refused[18],
+        "chances of surviving, refused by 18",
+    );
+    often(
+        tally.survival.refused[23],
+        "chances of surviving, refused by 23",
+    );
 }
 
 fn main() {
@@ -180,10 +190,15 @@ fn main() {
     let first_seed = numbers.next().unwrap_or(FIRST_SEED);
     let mut tally = Tally::default();
     compare_words(&mut tally, first_seed);
+    survival::compare_survival(&mut tally, first_seed);
     for seed in first_seed..first_seed + inputs {
         compare_input(&mut tally, seed);
     }
     println!("{tally}");
+    println!(
+        "the widest gap between two bounds of a chance of surviving: {} units",
+        survival::widest_gap(first_seed)
+    );
     if inputs >= INPUTS {
         assert_enough(&tally);
     }

@@ -8,7 +8,7 @@ use harness::reference::study::Study;
 use std::fmt;
 
 /// The last number of the refusal table.
-pub const LAST_REFUSAL: usize = 22;
+pub const LAST_REFUSAL: usize = 23;
 
 /// How often a kind of call was answered, and how often it was refused, by number.
 #[derive(Default)]
@@ -58,6 +58,8 @@ pub struct Tally {
     pub drawn: Drawn,
     /// Trees drawn from gates, of which the library said what it said of the gates.
     pub drawn_gates: usize,
+    /// Chances of surviving, of which each given was judged by what is promised.
+    pub survival: Answers,
 }
 
 impl Tally {
@@ -128,6 +130,11 @@ impl fmt::Display for Tally {
             line,
             "slices full of the largest number: {} times with the bounds of classes that cleared ones have, left full by 16: {}, by 18: {}",
             self.in_full.given, self.in_full.refused[16], self.in_full.refused[18]
+        )?;
+        writeln!(
+            line,
+            "{} times a chance of surviving that keeps what is promised, refused by 23: {}, by 18: {}",
+            self.survival.given, self.survival.refused[23], self.survival.refused[18]
         )?;
         write!(
             line,

@@ -5,7 +5,7 @@ use Rattle.rules.proofs.Kept.{list-last}
 use Rattle.answers.specs.declared.chances.SurvivalAnswer.the-variants.{Chances, Refused}
 use Rattle.answers.proofs.Answered.{answered-done, answered-refused}
 use Rattle.exponential.specs.Worked.{survivalOf}
-use Rattle.survival.specs.Chances.{exponentOf, survivalFault, chancesBy, survivalGiven}
+use Rattle.survival.specs.Chances.{survivalFault, chancesBy, survivalGiven}
 use borrow.Author.Needs.{needs}
 use Rattle.survival.proofs.survival.Statement.{statement}
 use Rattle.survival.proofs.survival.Tie as tie

@@ -113,3 +113,16 @@ fn voting(n: u8) -> Input {
 pub fn growing() -> Vec<Input> {
     (4..=12).map(voting).collect()
 }
+
+/// The bytes of a rate and hours: two numbers of four.
+pub const RATE_BYTES: usize = 8;
+
+/// A thousand rates and hours, none of them too far: every size of exponent up to the largest.
+pub fn rates() -> Vec<u8> {
+    let random = &mut Random::new(0);
+    let pairs = (0..1000).map(|_| {
+        let fit = random.between(1, 2_000_000) >> random.below(21);
+        [fit as u32, random.between(1, 10_000) as u32]
+    });
+    pairs.flatten().flat_map(u32::to_le_bytes).collect()
+}

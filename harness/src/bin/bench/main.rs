@@ -2,7 +2,9 @@
 mod inputs;
 mod timing;
 
-use harness::library::{self, CLASS_PLACES, LONGEST_STUDY, REPORT_BYTES, STUDY_BYTES};
+use harness::library::{
+    self, CLASS_PLACES, LONGEST_STUDY, REPORT_BYTES, STUDY_BYTES, SURVIVAL_PLACES,
+};
 use harness::port;
 use inputs::{Drawn, Input};
 use timing::{side_by_side, Answer, Call, Times};
@@ -18,19 +20,24 @@ fn print_head(title: &str) {
     );
 }
 
-/// A row for a study, beside the number of bytes that were read.
-fn print_row_of(input: &Input, bytes: usize, times: Option<Times>) {
+/// A row: what was timed, beside the two times.
+fn print_times(timed: String, times: Option<Times>) {
     let Some(Times { proved, port }) = times else {
-        println!("{:<22} the two differ", input.name);
+        println!("{timed:<49} the two differ");
         return;
     };
     let ratio = proved / port;
-    println!(
-        "{:<22} {bytes:>6} {:>12} {:>6} {proved:>12.2} {port:>12.2} {ratio:>7.2}",
-        input.name,
-        input.joint_states(),
-        input.paths(),
+    println!("{timed:<49} {proved:>12.2} {port:>12.2} {ratio:>7.2}");
+}
+
+/// A row for a study, beside the number of bytes that were read.
+fn print_row_of(input: &Input, bytes: usize, times: Option<Times>) {
+    let (joint_states, paths) = (input.joint_states(), input.paths());
+    let timed = format!(
+        "{:<22} {bytes:>6} {joint_states:>12} {paths:>6}",
+        input.name
     );
+    print_times(timed, times);
 }
 
 fn print_row(input: &Input, times: Option<Times>) {
@@ -108,6 +115,31 @@ fn load_bounds(input: &Input) {
     print_row(input, side_by_side(calls, &input.image(), 2));
 }
 
+/// Asks for the chances at each of the given rates and hours, in places of its own.
+fn for_each_rate(
+    call: fn(u32, u32, &mut [u64]) -> Answer,
+    given: &[u8],
+    places: &mut [u64],
+) -> Answer {
+    let word = |bytes: &[u8]| u32::from_le_bytes(bytes.try_into().expect("four bytes"));
+    let pairs = given.chunks_exact(inputs::RATE_BYTES);
+    for (pair, bounds) in pairs.zip(places.chunks_exact_mut(SURVIVAL_PLACES)) {
+        let (fit, hours) = pair.split_at(inputs::RATE_BYTES / 2);
+        call(word(fit), word(hours), bounds)?;
+    }
+    Ok(0)
+}
+
+fn survival(rates: &[u8]) {
+    let calls: [Call<u64>; 2] = [
+        |given, places| for_each_rate(library::survival, given, places),
+        |given, places| for_each_rate(port::survival, given, places),
+    ];
+    let count = rates.len() / inputs::RATE_BYTES;
+    let times = side_by_side(calls, rates, count * SURVIVAL_PLACES);
+    print_times(format!("{count} rates and hours"), times);
+}
+
 fn main() {
     println!(
         "Microseconds for one call: the median of {} batches, taken in turn.",
@@ -129,6 +161,8 @@ fn main() {
     inputs::trees().iter().for_each(drawn_class_bounds);
     print_head("Bounds of a load");
     studies.iter().for_each(load_bounds);
+    print_head("Chances of surviving, all of these in turn");
+    survival(&inputs::rates());
     print_head("Growth of reports: two-state components, four loads on voting gates");
     inputs::growing().iter().for_each(report);
 }

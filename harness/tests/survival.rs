@@ -1,0 +1,84 @@
+//! The judge of the chance of surviving, on values whose digits are published: e^-1 = 0.36787944117.., e^-20 = 0.00000000206115.., and what follows
+//! from both for the bounds that the library gives.
+use harness::library::{self, SURVIVAL_PLACES};
+use harness::reference::survival::{broken, exponent, is_lower, is_upper};
+
+const ONE: u64 = 1_000_000_000;
+
+/// The largest number of units that is a lower bound, the smallest that is an upper one.
+fn assert_between(exponent: u64, lower: u64, upper: u64) {
+    assert!(is_lower(exponent, lower) && !is_lower(exponent, lower + 1));
+    assert!(is_upper(exponent, upper) && !is_upper(exponent, upper - 1));
+}
+
+#[test]
+fn certain_without_an_exponent() {
+    assert_between(0, ONE, ONE);
+}
+
+#[test]
+fn a_unit() {
+    assert_between(1, ONE - 1, ONE);
+}
+
+#[test]
+fn e_to_minus_one() {
+    assert_between(ONE, 367_879_441, 367_879_442);
+}
+
+#[test]
+fn e_to_minus_twenty() {
+    assert_between(20 * ONE, 2, 3);
+}
+
+#[test]
+fn a_year_at_one_fit() {
+    // 1 - 0.00000876 + 0.00000876² / 2 - ..
+    assert_between(8_760, 999_991_240, 999_991_241);
+}
+
+#[test]
+fn only_23() {
+    assert_eq!(exponent(4_000_000_000, 5), Ok(20 * ONE));
+    assert_eq!(exponent(92_739, 215_659), Err(23));
+    assert_eq!(exponent(u32::MAX, u32::MAX), Err(23));
+}
+
+#[test]
+fn what_is_promised() {
+    let kept = [
+        367_879_440,
+        367_879_450,
+        ONE - 367_879_450,
+        ONE - 367_879_440,
+    ];
+    assert_eq!(broken(ONE, kept), None);
+    let [lower, upper, failure_lower, failure_upper] = kept;
+    for wrong in [
+        [lower + 2, upper, failure_lower, failure_upper - 2],
+        [lower, lower + 1, failure_upper - 1, failure_upper],
+        [lower, lower + 65, failure_upper - 65, failure_upper],
+        [lower, upper, failure_upper, failure_lower],
+        [lower, upper, failure_lower + 1, failure_upper],
+        [upper, lower, failure_upper, failure_lower],
+        [lower, ONE + 1, 0, failure_upper],
+    ] {
+        assert!(broken(ONE, wrong).is_some(), "{wrong:?}");
+    }
+    assert!(broken(0, [ONE - 1, ONE, 0, 1]).is_some());
+}
+
+#[test]
+fn the_library_keeps_it() {
+    for (fit, hours) in [
+        (0, 8_760),
+        (1, 1),
+        (1_000_000_000, 1),
+        (4_000_000_000, 5),
+        (1, 8_760),
+    ] {
+        let mut bounds = [0; SURVIVAL_PLACES];
+        assert_eq!(library::survival(fit, hours, &mut bounds), Ok(0));
+        assert_eq!(broken(u64::from(fit) * u64::from(hours), bounds), None);
+    }
+}
