@@ -36,6 +36,9 @@
 /* The places that the figures need. */
 #define GRID_FIGURE_PLACES 8
 
+/* The places that the chances of surviving and of failure need. */
+#define GRID_SURVIVAL_PLACES 4
+
 #ifdef __cplusplus
 extern "C" {
 #endif
@@ -96,6 +99,12 @@ int64_t grid_figures(const uint8_t *study, size_t study_len, uint64_t *figures, 
 /* The same by a drawn tree. Answers 4, or 3 where CAIDI is not stated. Refused by 16, 20 to 22, 18, 19. */
 int64_t grid_drawn_figures(const uint8_t *study, size_t study_len, const uint8_t *tree, size_t tree_len, uint64_t *figures,
                            size_t figures_len);
+
+/* Writes bounds, in units of a billionth, for the chance that something which fails at a rate of `fit` failures per thousand million hours survives
+ * so many hours, lower and upper at places 0 and 1, and for the chance that it fails in them, at places 2 and 3: one less each, swapped. Any number
+ * between two of them can be set as a probability. No study is needed. Answers 0. Refused by 23 where FIT times hours is above 20,000,000,000, then
+ * 18. */
+int64_t grid_survival(uint32_t fit, uint32_t hours, uint64_t *bounds, size_t bounds_len);
 
 /* How many loads are lost in a class: the ones of its byte. */
 int64_t grid_loads_lost(uint8_t class_);

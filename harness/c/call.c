@@ -1,5 +1,5 @@
 /* Calls the library from C: opens a study of two components, prints its SAIFI and MAIFI, what an edit and a study are refused by, the paths and the
- * SAIFI of a drawn tree, and the bytes of the study once edited. */
+ * SAIFI of a drawn tree, the chance of failure from a rate and hours, and the bytes of the study once edited. */
 #include "grid.h"
 
 #include <inttypes.h>
@@ -30,6 +30,19 @@ static void print_refusal(int64_t answer)
     int64_t size = grid_refusal_word((uint8_t)-answer, word, sizeof word);
 
     printf("REFUSED %" PRId64 " %.*s\n", -answer, (int)size, (const char *)word);
+}
+
+/* Prints the bounds for the chance that a component of 1,000 FIT fails within a year, and what a rate that is too high is refused by. */
+static int print_chances(void)
+{
+    uint64_t bounds[GRID_SURVIVAL_PLACES];
+
+    if (grid_survival(1000, 8760, bounds, GRID_SURVIVAL_PLACES) != 0)
+        return 1;
+    printf("SURVIVES %" PRIu64 " %" PRIu64 "\n", bounds[0], bounds[1]);
+    printf("FAILS %" PRIu64 " %" PRIu64 "\n", bounds[2], bounds[3]);
+    print_refusal(grid_survival(4000000000, 6, bounds, GRID_SURVIVAL_PLACES));
+    return 0;
 }
 
 /* Edits the study, writes it out and prints its bytes: component 1 fails no more, and the load has 250 customers. */
@@ -82,6 +95,8 @@ int main(void)
     print_refusal(grid_set_probabilities(study, sizeof study, 0, 1000000001, 0, 0));
     print_refusal(grid_open(bytes, sizeof bytes - 1, study, sizeof study));
     if (print_drawn(study, sizeof study) != 0)
+        return 1;
+    if (print_chances() != 0)
         return 1;
     return print_edited(study, sizeof study);
 }

@@ -6,9 +6,8 @@ use units::UP;
 use units::scale;
 ghost use Prim.Native.Nat.{_<_};
 ghost use mathlib.Core.Path.{_≡_};
-ghost use lib.ListN.{getD};
 ghost use Rattle.units.specs.One.{one};
-ghost use Rattle.exponential.specs.Worked.{grain, factors, powers, raised, line as lineOf, Units, times as timesOf, survivalOf};
+ghost use Rattle.exponential.specs.Worked.{grain, factors, raised, line as lineOf, Units, times as timesOf, survivalOf};
 
 // What is left of an exponent below it is bounded by a straight line.
 const GRAIN: u64 = 16384;
@@ -70,13 +69,11 @@ fn line(rest: u64) -> Bounds
     }
 }
 
-// The factor of a power of two.
-fn factor(place: usize) -> u64
-    requires { ⌜ place < powers ⌝ }
-    ensures factor { λ r. ⌜ r ≡ getD factors place 0 ⌝ }
-    ensures less { λ r. ⌜ r < one ⌝ }
+// The table, to be held by whoever goes along it: each place of a constant that is read puts all of it anew.
+fn factor_table() -> [u64; POWERS]
+    ensures { λ r. ⌜ r ≡ factors ⌝ }
 {
-    FACTORS[place]
+    FACTORS
 }
 
 // The bounds times the factor of a bit, where the bit stands.
@@ -100,11 +97,12 @@ pub fn survival(exponent: u64) -> Bounds
     ensures pair { λ r. ⌜ r ≡ survivalOf exponent ⌝ }
     ensures units { λ r. ⌜ Units r ⌝ }
 {
+    let factors = factor_table();
     let mut b = line(exponent % GRAIN);
     let mut bits = exponent / GRAIN;
     let mut place: usize = 0;
     while place < POWERS {
-        b = times(bits % 2, factor(place), b);
+        b = times(bits % 2, factors[place], b);
         bits = bits / 2;
         place = place + 1;
     }
