@@ -21,7 +21,7 @@ check: ## Prove one crate and what it depends on: CRATE=name. What has not chang
 test: ## Prove every crate from nothing, see every must-fail edit refused, run the programs, compare with a second implementation
 	@scripts/test.sh
 
-bench: ## Time the proved report, opening, writing and bounds of classes and loads beside a plain Rust port of the same algorithms
+bench: ## Time the proved report, opening, writing, bounds of classes and loads and chances of surviving beside a plain Rust port of the same algorithms
 	@rt staticlib exports > /dev/null
 	@cd harness && cargo run --offline --quiet --release --bin bench
 
