@@ -1,7 +1,8 @@
 //! The judge of the chance of surviving, on values whose digits are published: e^-1 = 0.36787944117.., e^-20 = 0.00000000206115.., and what follows
 //! from both for the bounds that the library gives.
-use harness::library::{self, SURVIVAL_PLACES};
+use harness::library::{self, STUDY_BYTES, SURVIVAL_PLACES};
 use harness::reference::survival::{broken, exponent, is_lower, is_upper};
+use harness::studies::{from_hexadecimal, CASE_A};
 
 const ONE: u64 = 1_000_000_000;
 
@@ -81,4 +82,20 @@ fn the_library_keeps_it() {
         assert_eq!(library::survival(fit, hours, &mut bounds), Ok(0));
         assert_eq!(broken(u64::from(fit) * u64::from(hours), bounds), None);
     }
+}
+
+/// Case A with the chance of failure of 1,000 FIT over a year for component 0. Its load is lost at 8,721,747 + 991,278,253 × 0.2, which ends in .6.
+#[test]
+fn from_a_rate_to_a_study() {
+    let mut bounds = [0; SURVIVAL_PLACES];
+    assert_eq!(library::survival(1000, 8_760, &mut bounds), Ok(0));
+    assert_eq!(bounds, [991_278_253, 991_278_263, 8_721_737, 8_721_747]);
+    let mut study = [0; STUDY_BYTES];
+    assert_eq!(library::open(&from_hexadecimal(CASE_A), &mut study), Ok(0));
+    let failed = u32::try_from(bounds[3]).expect("at most one");
+    let edited = library::set_probabilities(&mut study, 0, [failed, 0, 0]);
+    assert_eq!(edited, Ok(0));
+    let [mut lower, mut upper] = [0; 2];
+    assert_eq!(library::load_bounds(&study, 0, &mut lower, &mut upper), Ok(0));
+    assert_eq!([lower, upper], [206_977_397, 206_977_398]);
 }

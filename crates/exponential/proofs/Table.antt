@@ -1,4 +1,4 @@
--- The factors of the table, each shown right by its partial sum to the power 64: one test that is computed over the whole table.
+-- The factors of the table, each shown right by a partial sum: one test that is computed over the whole table.
 use Prim.Native.Nat.{ℕ, suc, _+_, _*_, _^_, _<_}
 use mathlib.Core.Path.{_≡_, refl}
 use mathlib.Core.Bool.{Bool, true, _&&_, and-eq-true-iff}
@@ -14,11 +14,16 @@ use Rattle.exponential.specs.Worked.{grain, powers, factors}
 use Rattle.exponential.proofs.Enclosing.{Factor}
 use Rattle.exponential.proofs.Certificates.{below-shown, above-shown}
 
--- x is a power of two in units, and f its factor
+-- the power to which the partial sums go: more than twice the largest exponent, so that the terms fall by half from there on
+abbrev last : ℕ
+last = 64
+
+-- f is the factor of an exponent x: terms fall by half behind the last, f is a lower bound with room for the last once more, a unit more is an upper
+-- bound, and f is less than one
 unfoldable pub right : ℕ → ℕ → Bool
 right x f =
-    leb (2 * x) (one * suc 64)
-    && (leb (f * (partial x 64 + x ^ 64)) (one * whole 64) && (leb (one * whole 64) ((f + 1) * partial x 64) && ltb f one))
+    leb (2 * x) (one * suc last)
+    && (leb (f * (partial x last + x ^ last)) (one * whole last) && (leb (one * whole last) ((f + 1) * partial x last) && ltb f one))
 
 -- a row of factors, the first for a power and each later one for twice the power before
 unfoldable pub allRight : ℕ → List ℕ → Bool
@@ -32,12 +37,12 @@ table-right = refl
 pub factor-right : (x f : ℕ) → right x f ≡ true → Factor x f
 unfolding right
 factor-right x f e =
-    let half = and-eq-true-iff (leb (2 * x) (one * suc 64)) _ .0 e in
-    let least = and-eq-true-iff (leb (f * (partial x 64 + x ^ 64)) (one * whole 64)) _ .0 (half .1) in
-    let most = and-eq-true-iff (leb (one * whole 64) ((f + 1) * partial x 64)) _ .0 (least .1) in
+    let half = and-eq-true-iff (leb (2 * x) (one * suc last)) _ .0 e in
+    let least = and-eq-true-iff (leb (f * (partial x last + x ^ last)) (one * whole last)) _ .0 (half .1) in
+    let most = and-eq-true-iff (leb (one * whole last) ((f + 1) * partial x last)) _ .0 (least .1) in
     record {
-      below = below-shown x f 64 (leb-true _ _ (half .0)) (leb-true _ _ (least .0));
-      above = above-shown x (f + 1) 64 (leb-true _ _ (most .0));
+      below = below-shown x f last (leb-true _ _ (half .0)) (leb-true _ _ (least .0));
+      above = above-shown x (f + 1) last (leb-true _ _ (most .0));
       most = ltb-true _ _ (most .1);
     }
 

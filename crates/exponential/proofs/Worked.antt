@@ -33,7 +33,7 @@ each-encloses (factor ∷ rest) power bits {x} {gap} {b} all e =
     widened (each-encloses rest (2 * power) (bits / 2) (tested .1) bit) same (omega arith)
 
 -- all bits of an exponent
-reached : (x : ℕ) → x < reach → Enclosed x 43 (timesEach (x / grain) factors (line (x % grain)))
+reached : (x : ℕ) → x < reach → Enclosed x (1 + 2 * powers) (timesEach (x / grain) factors (line (x % grain)))
 unfolding factors
 reached x less =
     let low = line-encloses (x % grain) (mod-lt x {m = grain} (omega arith)) in
