@@ -124,23 +124,31 @@ fn port_agrees() {
     }
 }
 
-/// Chances of surviving, in enough places and in too few.
-fn compare_survival(fit: u32, hours: u32) {
-    for room in [SURVIVAL_PLACES - 1, SURVIVAL_PLACES] {
+/// Chances of surviving, in too few places and then in enough, of which the answer is handed back.
+fn compare_survival(fit: u32, hours: u32) -> Answer {
+    let in_room = |room| {
         let made = [port::survival, library::survival].map(|call| {
             let mut bounds = vec![LENT_NUMBER; room];
             let answer = call(fit, hours, &mut bounds);
             (answer, bounds)
         });
         assert_same(&made, &[fit, hours].map(u32::to_le_bytes).concat());
-    }
+        let [(answer, _), _] = made;
+        answer
+    };
+    let _ = in_room(SURVIVAL_PLACES - 1);
+    in_room(SURVIVAL_PLACES)
 }
 
 #[test]
 fn port_survives() {
     let random = &mut Random::new(0);
+    let mut far = 0;
     for _ in 0..100_000 {
-        let bits = random.between(0, 31);
-        compare_survival(random.word() >> bits, random.word() >> (31 - bits));
+        // Products of up to 35 bits, some of them too far.
+        let bits = random.between(0, 29);
+        let answer = compare_survival(random.word() >> bits, random.word() >> (29 - bits));
+        far += usize::from(answer == Err(23));
     }
+    assert!((300..99_700).contains(&far), "{far} too far");
 }

@@ -1,10 +1,8 @@
 //! The judge of the chance of surviving, on values whose digits are published: e^-1 = 0.36787944117.., e^-20 = 0.00000000206115.., and what follows
 //! from both for the bounds that the library gives.
 use harness::library::{self, STUDY_BYTES, SURVIVAL_PLACES};
-use harness::reference::survival::{broken, exponent, is_lower, is_upper};
+use harness::reference::survival::{broken, exponent, is_lower, is_upper, ONE};
 use harness::studies::{from_hexadecimal, CASE_A};
-
-const ONE: u64 = 1_000_000_000;
 
 /// The largest number of units that is a lower bound, the smallest that is an upper one.
 fn assert_between(exponent: u64, lower: u64, upper: u64) {
@@ -55,18 +53,40 @@ fn what_is_promised() {
     ];
     assert_eq!(broken(ONE, kept), None);
     let [lower, upper, failure_lower, failure_upper] = kept;
-    for wrong in [
-        [lower + 2, upper, failure_lower, failure_upper - 2],
-        [lower, lower + 1, failure_upper - 1, failure_upper],
-        [lower, lower + 65, failure_upper - 65, failure_upper],
-        [lower, upper, failure_upper, failure_lower],
-        [lower, upper, failure_lower + 1, failure_upper],
-        [upper, lower, failure_upper, failure_lower],
-        [lower, ONE + 1, 0, failure_upper],
+    for (wrong, what) in [
+        (
+            [lower + 2, upper, failure_lower, failure_upper - 2],
+            "the lower bound is above",
+        ),
+        (
+            [lower, lower + 1, failure_upper - 1, failure_upper],
+            "the upper bound is below",
+        ),
+        (
+            [lower, lower + 65, failure_upper - 65, failure_upper],
+            "too far apart",
+        ),
+        (
+            [lower, upper, failure_upper, failure_lower],
+            "failure's lower bound",
+        ),
+        (
+            [lower, upper, failure_lower, failure_upper + 1],
+            "failure's upper bound",
+        ),
+        (
+            [upper, lower, failure_upper, failure_lower],
+            "not in order from 0 to one",
+        ),
+        (
+            [lower, ONE + 1, 0, failure_upper],
+            "not in order from 0 to one",
+        ),
     ] {
-        assert!(broken(ONE, wrong).is_some(), "{wrong:?}");
+        assert_eq!(broken(ONE, wrong), Some(what), "{wrong:?}");
     }
-    assert!(broken(0, [ONE - 1, ONE, 0, 1]).is_some());
+    let uncertain = broken(0, [ONE - 1, ONE, 0, 1]);
+    assert_eq!(uncertain, Some("an exponent of 0 is certain"));
 }
 
 #[test]
@@ -96,6 +116,9 @@ fn from_a_rate_to_a_study() {
     let edited = library::set_probabilities(&mut study, 0, [failed, 0, 0]);
     assert_eq!(edited, Ok(0));
     let [mut lower, mut upper] = [0; 2];
-    assert_eq!(library::load_bounds(&study, 0, &mut lower, &mut upper), Ok(0));
+    assert_eq!(
+        library::load_bounds(&study, 0, &mut lower, &mut upper),
+        Ok(0)
+    );
     assert_eq!([lower, upper], [206_977_397, 206_977_398]);
 }

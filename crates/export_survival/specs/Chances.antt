@@ -18,12 +18,9 @@ use Rattle.export_answers.specs.Answers.{answeredBy, done, leftBy}
 abbrev pub survivalPlaces : ℕ
 survivalPlaces = 4
 
--- where the pair of each stands
+-- where the pair of surviving stands, and behind it that of failure
 abbrev pub survivalAt : ℕ
 survivalAt = 0
-
-abbrev pub failureAt : ℕ
-failureAt = 2
 
 -- 23, then 18
 unfoldable pub survivalInFault : ℕ → ℕ → ℕ → ℕ

@@ -5,10 +5,11 @@ use super::refusals::{unless, TOO_FAR};
 use super::study;
 use std::iter;
 
-const ONE: u64 = study::ONE as u64;
+/// Certainty, in units.
+pub const ONE: u64 = study::ONE as u64;
 
 /// The largest exponent, in units.
-const FARTHEST: u128 = 20_000_000_000;
+pub const FARTHEST: u64 = 20_000_000_000;
 
 /// How many units the two bounds of a chance may differ by.
 const WIDEST: u64 = 64;
@@ -16,7 +17,7 @@ const WIDEST: u64 = 64;
 /// FIT times hours, in units, or 23.
 pub fn exponent(fit: u32, hours: u32) -> Result<u64, u8> {
     let product = u128::from(fit) * u128::from(hours);
-    unless(product <= FARTHEST, TOO_FAR)?;
+    unless(product <= FARTHEST.into(), TOO_FAR)?;
     Ok(product as u64)
 }
 

@@ -4,14 +4,11 @@ use crate::tally::Tally;
 use harness::generate::Random;
 use harness::library::{self, SURVIVAL_PLACES};
 use harness::reference::refusals::{unless, NO_ROOM};
-use harness::reference::survival::{broken, exponent};
+use harness::reference::survival::{broken, exponent, FARTHEST, ONE};
 
 /// How many drawn chances are judged, and of how many more only the gap is looked at.
 const JUDGED: usize = 100_000;
 const LOOKED_AT: usize = 1_000_000;
-
-const ONE: u64 = 1_000_000_000;
-const FARTHEST: u64 = 20 * ONE;
 
 /// A number of so many bits at most, and often of fewer.
 fn of_bits(random: &mut Random, most: usize) -> u64 {
