@@ -18,7 +18,7 @@ use Rattle.ordering.specs.Inputs.{Input}
 use Rattle.rules.specs.Limits.{mostGates}
 use Rattle.study.specs.declared.Gate.{Gate}
 use Rattle.study.specs.Places.{noGate, ShapedGate}
-use Rattle.gate_order.specs.Inputs.{distinctGate}
+use Rattle.gate_order.specs.Rows.{distinctGate}
 use Rattle.gate_order.proofs.Distinct.{tests-distinct, gate-inputs-distinct, distinct-fits}
 use Rattle.gate_order.proofs.InOrder.{Fits}
 use Rattle.gate_order.proofs.Kept.{testAt}

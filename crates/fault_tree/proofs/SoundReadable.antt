@@ -13,7 +13,7 @@ use Rattle.study.specs.declared.Study.{Study}
 use Rattle.study.specs.Joint.{stateCounts}
 use Rattle.study.specs.Places.{gateAt}
 use Rattle.ordering.specs.Inputs.{Input}
-use Rattle.gate_order.specs.Inputs.{distinctGate}
+use Rattle.gate_order.specs.Rows.{distinctGate}
 use Rattle.gate_order.proofs.Distinct.{distinct-fits, distinct-tests-every, distinct-gate-inputs-every}
 use Rattle.gate_order.proofs.InOrder.{Fits}
 use Rattle.soundness.specs.Sound.{Sound}

@@ -11,7 +11,7 @@ use Rattle.lists.specs.Rows.{put}
 use Rattle.rules.specs.Limits.{mostGates, mostTests, mostGateInputs}
 use Rattle.study.specs.declared.Gate.{Gate}
 use Rattle.study.specs.Places.{noGate, ShapedGate}
-use Rattle.gate_order.specs.Inputs.{distinctGate}
+use Rattle.gate_order.specs.Rows.{distinctGate}
 
 -- a row: the threshold of a gate, its counts of tests and of gate inputs, the components of its tests, their masks, and its gate inputs
 abbrev pub gateRow : Gate → List ℕ

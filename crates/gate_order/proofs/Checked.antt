@@ -10,7 +10,8 @@ use Rattle.rules.proofs.Kept.{first-kept, first-none}
 use Rattle.rules.proofs.Rows.{sound-kept}
 use Rattle.study.specs.declared.Gate.{Gate}
 use Rattle.gate_order.specs.Inputs.{unmasked, testsOf, gateInputsOf}
-use Rattle.gate_order.specs.Order.{InOrder, orderFault}
+use Rattle.gate_order.specs.Breach.{orderFault}
+use Rattle.gate_order.specs.Order.{InOrder}
 
 pub order-kept : (g : Gate) → orderFault g ≡ 0 → InOrder g
 unfolding orderFault

@@ -10,7 +10,8 @@ use Rattle.ordering.specs.Inputs.{Input, noInput, numbers, masks}
 use Rattle.ordering.proofs.Sets.{distinct-most, distinct-every}
 use Rattle.rules.specs.Limits.{mostTests, mostGateInputs}
 use Rattle.study.specs.declared.Gate.{Gate}
-use Rattle.gate_order.specs.Inputs.{unmasked, testsOf, gateInputsOf, distinctGate}
+use Rattle.gate_order.specs.Inputs.{unmasked, testsOf, gateInputsOf}
+use Rattle.gate_order.specs.Rows.{distinctGate}
 use Rattle.gate_order.proofs.InOrder.{Fits, unmasked-none, tests-long, gate-inputs-long}
 use Rattle.gate_order.proofs.Kept.{testAt, tests-as-row, tests-in-row, gate-inputs-as-row, gate-inputs-in-row}
 use Rattle.gate_order.proofs.Rows.{written-long, tests-written, inputs-written}

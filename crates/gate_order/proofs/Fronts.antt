@@ -8,13 +8,16 @@ use lib.ListN.{length, take, drop, replicate, length-map, take-append-drop}
 use lib.Seq.{length-take-le, drop-append-le}
 use Rattle.lists.specs.Rows.{put}
 use Rattle.lists.proofs.Puts.{put-whole}
-use Rattle.ordering.specs.Distinct.{distinct, Fronted}
-use Rattle.ordering.specs.Inputs.{Input, paired, numbers, masks, Hold, sorted}
+use Rattle.ordering.specs.Distinct.{distinct}
+use Rattle.ordering.specs.Thinning.{Fronted}
+use Rattle.ordering.specs.Inputs.{Input, paired, numbers, masks, sorted}
+use Rattle.ordering.specs.Sorting.{Hold}
 use Rattle.ordering.proofs.Pairs.{paired-take, paired-long, paired-unmasked}
 use Rattle.ordering.proofs.Sets.{distinct-most}
 use Rattle.ordering.proofs.Sorted.{sorted-long}
 use Rattle.rules.specs.Limits.{mostGateInputs}
-use Rattle.gate_order.specs.Inputs.{unmasked, noMasks}
+use Rattle.gate_order.specs.Inputs.{unmasked}
+use Rattle.gate_order.specs.Rows.{noMasks}
 use Rattle.gate_order.proofs.Rows.{take-within}
 
 module _ (count size k : ℕ) (within : k ≡ min count size) where

@@ -15,7 +15,8 @@ use Rattle.rules.specs.Limits.{mostTests, mostGateInputs}
 use Rattle.study.specs.declared.Gate.{Gate}
 use Rattle.study.specs.Places.{ShapedGate}
 use Rattle.gate_order.specs.Inputs.{unmasked, testsOf, gateInputsOf, inputCount}
-use Rattle.gate_order.specs.Order.{InOrder, inOrder, orderFault}
+use Rattle.gate_order.specs.Breach.{orderFault}
+use Rattle.gate_order.specs.Order.{InOrder, inOrder}
 use Rattle.gate_order.proofs.Checked.{order-none}
 use Rattle.gate_order.proofs.Rows.{written-long, tests-written, inputs-written, components-own, masks-own, inputs-own}
 

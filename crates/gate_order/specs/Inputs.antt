@@ -1,11 +1,9 @@
 -- The inputs of a gate as rows: its tests, and its gate inputs. How many they are, each counted once however often it stands there.
 use Prim.Native.Nat.{ℕ, _+_}
 use mathlib.Core.List.{List, map}
-use lib.ListN.{length, take, replicate}
-use Rattle.lists.specs.Rows.{put}
+use lib.ListN.{length, take}
 use Rattle.ordering.specs.Distinct.{distinct}
-use Rattle.ordering.specs.Inputs.{Input, paired, numbers, masks}
-use Rattle.rules.specs.Limits.{mostGateInputs}
+use Rattle.ordering.specs.Inputs.{Input, paired}
 use Rattle.study.specs.declared.Gate.{Gate}
 
 -- the tests of a gate, as they stand
@@ -19,24 +17,7 @@ unmasked n = record { number = n; mask = 0 }
 abbrev pub gateInputsOf : Gate → List Input
 gateInputsOf g = take (g .gates) (map unmasked (g .input))
 
--- the masks of gate inputs, as a row beside them
-unfoldable pub noMasks : List ℕ
-noMasks = replicate mostGateInputs 0
-
 -- how many inputs a gate has, tests and gates together, by which its threshold is judged
 unfoldable pub inputCount : Gate → ℕ
 unfolding paired distinct
 inputCount g = length (distinct (testsOf g)) + length (distinct (gateInputsOf g))
-
--- a gate with its distinct inputs alone; the places behind them are as they were
-unfoldable pub distinctGate : Gate → Gate
-unfolding put paired distinct
-distinctGate g =
-    record {
-      threshold = g .threshold;
-      tests = length (distinct (testsOf g));
-      component = put (g .component) 0 (numbers (distinct (testsOf g)));
-      mask = put (g .mask) 0 (masks (distinct (testsOf g)));
-      gates = length (distinct (gateInputsOf g));
-      input = put (g .input) 0 (numbers (distinct (gateInputsOf g)));
-    }

@@ -1,10 +1,7 @@
 -- The order of a gate's inputs: tests ascend by component, then by mask, and gate inputs ascend. Unused places stay behind them.
-use Prim.Native.Nat.{ℕ}
 use mathlib.Core.List.{map}
 use Rattle.lists.specs.Rows.{put}
-use Rattle.ordering.specs.Inputs.{paired, numbers, masks, Ascending, sorted, ascends}
-use Rattle.rules.specs.Breach.{first}
-use Rattle.rules.specs.Table.{unsoundFault}
+use Rattle.ordering.specs.Inputs.{paired, numbers, masks, Ascending, sorted}
 use Rattle.study.specs.declared.Gate.{Gate}
 use Rattle.study.specs.declared.Study.{Study}
 use Rattle.gate_order.specs.Inputs.{testsOf, gateInputsOf}
@@ -39,8 +36,3 @@ ordered t =
       gate = map inOrder (t .gate);
       load = t .load;
     }
-
--- 16 for a gate whose inputs are out of order
-unfoldable pub orderFault : Gate → ℕ
-unfolding paired ascends
-orderFault g = first (unsoundFault (ascends (testsOf g))) (unsoundFault (ascends (gateInputsOf g)))

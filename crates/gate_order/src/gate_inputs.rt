@@ -11,9 +11,11 @@ ghost use mathlib.Core.List.{map};
 ghost use lib.ListN.{length, take};
 ghost use Rattle.lists.specs.Rows.{put};
 ghost use Rattle.rules.specs.Limits.{mostGateInputs};
-ghost use Rattle.ordering.specs.Distinct.{distinct, Counts};
+ghost use Rattle.ordering.specs.Distinct.{distinct};
+ghost use Rattle.ordering.specs.Thinning.{Counts};
 ghost use Rattle.ordering.specs.Inputs.{Ascending, numbers, sorted};
-ghost use Rattle.gate_order.specs.Inputs.{unmasked, noMasks};
+ghost use Rattle.gate_order.specs.Inputs.{unmasked};
+ghost use Rattle.gate_order.specs.Rows.{noMasks};
 
 // A row of masks for all places.
 fn no_masks() -> [u8; INPUT_PLACES]

@@ -14,8 +14,10 @@ use tests::sort_tests;
 ghost use Prim.Native.Nat.{min};
 ghost use mathlib.Core.Path.{_≡_};
 ghost use Rattle.study.specs.Places.{ShapedGate};
-ghost use Rattle.gate_order.specs.Inputs.{inputCount, distinctGate};
-ghost use Rattle.gate_order.specs.Order.{InOrder, inOrder, orderFault};
+ghost use Rattle.gate_order.specs.Inputs.{inputCount};
+ghost use Rattle.gate_order.specs.Rows.{distinctGate};
+ghost use Rattle.gate_order.specs.Breach.{orderFault};
+ghost use Rattle.gate_order.specs.Order.{InOrder, inOrder};
 
 // As many places as a count says, and no more than there are.
 fn within(count: u8, places: usize) -> usize

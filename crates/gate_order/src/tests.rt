@@ -10,7 +10,8 @@ ghost use mathlib.Core.Path.{_≡_};
 ghost use lib.ListN.{length, take};
 ghost use Rattle.lists.specs.Rows.{put};
 ghost use Rattle.rules.specs.Limits.{mostTests};
-ghost use Rattle.ordering.specs.Distinct.{distinct, Counts, Fronted};
+ghost use Rattle.ordering.specs.Distinct.{distinct};
+ghost use Rattle.ordering.specs.Thinning.{Counts, Fronted};
 ghost use Rattle.ordering.specs.Inputs.{paired, Ascending, numbers, masks, sorted};
 
 // Puts the first so many tests in order, in their places.

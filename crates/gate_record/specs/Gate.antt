@@ -11,7 +11,6 @@ use Rattle.reading.specs.Fields.{fieldsByMap}
 use Rattle.study.specs.declared.Gate.{Gate}
 use Rattle.study.specs.Absent.{absentGate}
 use Rattle.gate_order.specs.Inputs.{inputCount}
-use Rattle.gate_order.specs.Order.{inOrder}
 
 abbrev pub withThreshold : ℕ → Gate → Gate
 withThreshold n g =
@@ -48,28 +47,6 @@ withInput j gate g =
       gates = g .gates;
       input = set (g .input) j gate;
     }
-
--- a gate of which nothing is given, as one that is absent but for its places
-abbrev pub nothingGiven : Gate → List ℕ → List ℕ → List ℕ → Gate
-nothingGiven absent component mask input =
-    record {
-      threshold = absent .threshold;
-      tests = absent .tests;
-      component = component;
-      mask = mask;
-      gates = absent .gates;
-      input = input;
-    }
-
--- the tests of a gate are so many, and these are their places
-abbrev pub withTestRow : ℕ → List ℕ → List ℕ → Gate → Gate
-withTestRow n component mask g =
-    record { threshold = g .threshold; tests = n; component = component; mask = mask; gates = g .gates; input = g .input }
-
--- its gate inputs likewise
-abbrev pub withInputRow : ℕ → List ℕ → Gate → Gate
-withInputRow n input g =
-    record { threshold = g .threshold; tests = g .tests; component = g .component; mask = g .mask; gates = n; input = input }
 
 unfoldable pub threshold : Gate → Reader Gate
 threshold g = do
@@ -119,10 +96,3 @@ gate counts number = do
   g ← fieldsByMap gateMaps (gateField counts number) absentGate
   judge (thresholdFault (inputCount g) (g .threshold))
   return g
-
--- the same gate with its inputs in order
-unfoldable pub gateInOrder : List ℕ → ℕ → Reader Gate
-unfolding inOrder
-gateInOrder counts number = do
-  g ← gate counts number
-  return (inOrder g)

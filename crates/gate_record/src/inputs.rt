@@ -13,7 +13,8 @@ ghost use Rattle.rules.specs.Limits.{mostGateInputs};
 ghost use Rattle.reading.specs.Fields.{whereLeft};
 ghost use Rattle.reading.specs.Reader.{ReadsAt, ReadsWith, repeat};
 ghost use Rattle.study.specs.declared.Gate.{Gate};
-ghost use Rattle.gate_record.specs.Gate.{inputsByte, withInput, withInputRow, input as Gate·input, inputs};
+ghost use Rattle.gate_record.specs.Gate.{inputsByte, withInput, input as Gate·input, inputs};
+ghost use Rattle.gate_record.specs.Places.{withInputRow};
 
 // A count of tests or of gate inputs, which is in range where it is not refused.
 pub fn inputs_at(bytes: &[u8], at: usize, most: u8) -> ByteRead

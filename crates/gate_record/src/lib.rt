@@ -23,7 +23,8 @@ ghost use lib.ListN.{length};
 ghost use Rattle.rules.specs.Limits.{gateMaps, mostTests, mostGateInputs};
 ghost use Rattle.reading.specs.Reader.{ReadsAt};
 ghost use Rattle.reading.specs.Fields.{fieldAt, fields};
-ghost use Rattle.gate_record.specs.Gate.{withThreshold, nothingGiven, threshold, gateField, gateInOrder};
+ghost use Rattle.gate_record.specs.Gate.{withThreshold, threshold, gateField};
+ghost use Rattle.gate_record.specs.Places.{nothingGiven, gateInOrder};
 
 pub struct GateRead {
     pub refusal: u8,

@@ -16,7 +16,8 @@ ghost use Rattle.rules.specs.Limits.{mostTests};
 ghost use Rattle.reading.specs.Fields.{fieldAt};
 ghost use Rattle.reading.specs.Reader.{ReadsAt, repeat};
 ghost use Rattle.study.specs.declared.Gate.{Gate};
-ghost use Rattle.gate_record.specs.Gate.{withTest, withTestRow, test, tests};
+ghost use Rattle.gate_record.specs.Gate.{withTest, test, tests};
+ghost use Rattle.gate_record.specs.Places.{withTestRow};
 
 // What is read of a test.
 struct TestRead {

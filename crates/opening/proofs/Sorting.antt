@@ -12,9 +12,11 @@ use Rattle.reading.proofs.After.{asRead-refused}
 use Rattle.ordering.specs.Inputs.{paired, sorted}
 use Rattle.study.specs.declared.Gate.{Gate}
 use Rattle.study.specs.Zero.{zeroGate, noGates}
-use Rattle.gate_record.specs.Gate.{gate, gateInOrder}
+use Rattle.gate_record.specs.Gate.{gate}
+use Rattle.gate_record.specs.Places.{gateInOrder}
 use Rattle.gate_order.specs.Order.{inOrder}
-use Rattle.opening.specs.Opening.{gateRecord, gateRecordInOrder, placing}
+use Rattle.opening.specs.Opening.{gateRecord, placing}
+use Rattle.opening.specs.Places.{gateRecordInOrder}
 
 -- what was read, with the inputs of each gate in order
 abbrev pub allInOrder : Read (List Gate) → Read (List Gate)

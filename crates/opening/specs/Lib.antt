@@ -1,3 +1,4 @@
 pub mod Laws
 pub mod Longest
 pub mod Opening
+pub mod Places

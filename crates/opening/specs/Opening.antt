@@ -1,6 +1,6 @@
 -- Opening a study: the three counts, then the component, gate and load records, then the end of the bytes. A study is read as the bytes give it, and
 -- answered with the inputs of its gates in order.
-use Prim.Native.Nat.{ℕ, _*_, _≤_}
+use Prim.Native.Nat.{ℕ, _*_}
 use mathlib.Core.List.{List}
 use lib.ListN.{length, take, set}
 use Rattle.lists.specs.Product.{product}
@@ -8,7 +8,7 @@ use Rattle.rules.specs.Limits.{mostComponents, mostGates, mostLoads}
 use Rattle.rules.specs.Table.{countFault, widthFault, leftFault}
 use Rattle.reading.specs.Reader.{Read, refused, got, Reader, byte, judge, return, repeat, _>>=_, _>>_}
 use Rattle.component_record.specs.Component.{component}
-use Rattle.gate_record.specs.Gate.{gate, gateInOrder}
+use Rattle.gate_record.specs.Gate.{gate}
 use Rattle.load_record.specs.Load.{load}
 use Rattle.study.specs.declared.Component.{Component}
 use Rattle.study.specs.declared.Gate.{Gate}
@@ -28,12 +28,6 @@ count most = do
   judge (countFault most n)
   return n
 
--- counts that a study has places for
-pub record CountsFit (components gates loads : ℕ) : Type 0 where
-  pub components-fit : components ≤ mostComponents
-  pub gates-fit : gates ≤ mostGates
-  pub loads-fit : loads ≤ mostLoads
-
 -- a component after others that have so many joint states
 unfoldable pub componentAfter : ℕ → Reader Component
 componentAfter jointStates = do
@@ -48,10 +42,6 @@ componentRecord i cs = componentAfter (product (take i (states cs)))
 -- gate i; `counts` has the state count of each component
 abbrev pub gateRecord : List ℕ → ℕ → List Gate → Reader Gate
 gateRecord counts i gs = gate counts i
-
--- the same gate with its inputs in order
-abbrev pub gateRecordInOrder : List ℕ → ℕ → List Gate → Reader Gate
-gateRecordInOrder counts i gs = gateInOrder counts i
 
 -- a load of a study with so many gates
 abbrev pub loadRecord : ℕ → ℕ → List Load → Reader Load

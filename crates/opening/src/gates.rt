@@ -7,7 +7,8 @@ ghost use Prim.Native.Nat.{_≤_};
 ghost use Rattle.rules.specs.Limits.{mostGates};
 ghost use Rattle.reading.specs.Reader.{ReadsAt, repeat};
 ghost use Rattle.study.specs.Zero.{noGates};
-ghost use Rattle.opening.specs.Opening.{gateRecordInOrder, placing};
+ghost use Rattle.opening.specs.Opening.{placing};
+ghost use Rattle.opening.specs.Places.{gateRecordInOrder};
 
 pub struct GatesRead {
     pub refusal: u8,

@@ -26,7 +26,8 @@ ghost use lib.ListN.{drop};
 ghost use Rattle.reading.specs.Reader.{ReadsWith, got};
 ghost use Rattle.study.specs.declared.Study.{Study};
 ghost use Rattle.gate_order.specs.Order.{ordered};
-ghost use Rattle.opening.specs.Opening.{CountsFit, count, records, refusedOpening, answer, opened};
+ghost use Rattle.opening.specs.Opening.{count, records, refusedOpening, answer, opened};
+ghost use Rattle.opening.specs.Places.{CountsFit};
 
 // One of the first three bytes, which is in range where it is not refused.
 fn count_at(bytes: &[u8], at: usize, most: u8) -> ByteRead

@@ -12,8 +12,10 @@ use lib.Seq.{drop-cons}
 use borrow.Author.Tests.{lt-ltb, le-ltb}
 use Rattle.lists.specs.Counting.{truth}
 use Rattle.lists.proofs.Sums.{truth-most}
-use Rattle.ordering.specs.Distinct.{sameInput, distinct, standsNext, thinned, Counts}
-use Rattle.ordering.specs.Inputs.{Input, noInput, maskValues, ByteMask, rank, paired, ascends}
+use Rattle.ordering.specs.Distinct.{sameInput, distinct}
+use Rattle.ordering.specs.Thinning.{standsNext, thinned, Counts}
+use Rattle.ordering.specs.Inputs.{Input, noInput, maskValues, ByteMask, rank, paired}
+use Rattle.ordering.specs.Sorting.{ascends}
 use Rattle.ordering.proofs.Pairs.{paired-long, getD-paired}
 use Rattle.ordering.proofs.Rises.{ascends-kept}
 use Rattle.ordering.proofs.Sets.{same-told, same-self}

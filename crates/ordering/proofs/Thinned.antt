@@ -12,7 +12,8 @@ use lib.ListN.{length, getD, set, drop, length-set, length-map, drop-of-length-l
 use lib.Seq.{drop-cons, drop-set-lt}
 use Rattle.lists.proofs.Elements.{Every}
 use Rattle.lists.proofs.Puts.{Due, due-start, due-set, due-done, due-end}
-use Rattle.ordering.specs.Distinct.{sameInput, standsIn, distinct, standsNext, thinned, Fronted}
+use Rattle.ordering.specs.Distinct.{sameInput, standsIn, distinct}
+use Rattle.ordering.specs.Thinning.{standsNext, thinned, Fronted}
 use Rattle.ordering.specs.Inputs.{Input, noInput, maskValues, ByteMask, rank, paired, numbers, masks, Ascending}
 use Rattle.ordering.specs.Laws.{EnoughToLookNext}
 use Rattle.ordering.proofs.Sets.{same-told, same-self, first-most}

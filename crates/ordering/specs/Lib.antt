@@ -1,3 +1,5 @@
 pub mod Distinct
 pub mod Inputs
 pub mod Laws
+pub mod Sorting
+pub mod Thinning

@@ -3,7 +3,8 @@ use crate::rank;
 ghost use Prim.Native.Nat.{suc, _<_, _≤_};
 ghost use mathlib.Core.Path.{_≡_};
 ghost use lib.ListN.{length, getD, drop};
-ghost use Rattle.ordering.specs.Distinct.{distinct, standsNext, mostCounted, Counts, Fronted};
+ghost use Rattle.ordering.specs.Distinct.{distinct};
+ghost use Rattle.ordering.specs.Thinning.{standsNext, mostCounted, Counts, Fronted};
 ghost use Rattle.ordering.specs.Inputs.{noInput, paired, Ascending};
 
 // Whether the input at a place is the same as the one behind it.

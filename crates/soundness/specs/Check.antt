@@ -18,7 +18,7 @@ use Rattle.gate_order.specs.Inputs.{inputCount}
 use Rattle.study.specs.Joint.{stateCounts}
 use Rattle.study.specs.Places.{noGate}
 use Rattle.study.specs.Zero.{zeroComponent, zeroLoad}
-use Rattle.gate_order.specs.Order.{orderFault}
+use Rattle.gate_order.specs.Breach.{orderFault}
 
 -- probabilities of states 1 to 3 of a component with so many states: 5 for one above 0 of a state that it lacks, then 6
 unfoldable pub probabilitiesFault : ℕ → ℕ → ℕ → ℕ → ℕ

@@ -7,7 +7,7 @@ use Rattle.rules.specs.Table.{unsoundFault}
 use Rattle.rules.proofs.Kept.{first-kept}
 use Rattle.rules.proofs.Rows.{sound-kept}
 use Rattle.gate_order.specs.Inputs.{inputCount}
-use Rattle.gate_order.specs.Order.{orderFault}
+use Rattle.gate_order.specs.Breach.{orderFault}
 use Rattle.gate_order.proofs.judge_inputs.Statement.{statement}
 use Rattle.gate_order.proofs.judge_inputs.Tie as tie
 

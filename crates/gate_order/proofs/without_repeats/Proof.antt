@@ -2,7 +2,7 @@
 use native.Mathlib.Omega.{arith}
 use borrow.Author.Needs.{needs}
 use Rattle.study.specs.declared.Gate.{Gate}
-use Rattle.gate_order.specs.Inputs.{distinctGate}
+use Rattle.gate_order.specs.Rows.{distinctGate}
 use Rattle.gate_order.proofs.without_repeats.Statement.{statement}
 use Rattle.gate_order.proofs.without_repeats.Tie as tie
 

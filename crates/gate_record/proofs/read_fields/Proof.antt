@@ -10,7 +10,8 @@ use Rattle.reading.specs.Reader.{Read, Reads}
 use Rattle.reading.proofs.Calls.{asks-nothing}
 use Rattle.reading.proofs.MapBits.{first-left, second-left, third-left, three-fields}
 use Rattle.study.specs.declared.Gate.{Gate}
-use Rattle.gate_record.specs.Gate.{withThreshold, nothingGiven, withTestRow, inputs, gateField}
+use Rattle.gate_record.specs.Gate.{withThreshold, inputs, gateField}
+use Rattle.gate_record.specs.Places.{nothingGiven, withTestRow}
 use Rattle.gate_record.proofs.read_fields.Statement.{statement}
 use Rattle.gate_record.proofs.read_fields.Tie as tie
 

@@ -15,7 +15,8 @@ use Rattle.gate_order.specs.Order.{inOrder}
 use Rattle.gate_order.proofs.InOrder.{counted-in-order}
 use Rattle.rules.specs.Table.{thresholdFault}
 use Rattle.study.specs.declared.Gate.{Gate}
-use Rattle.gate_record.specs.Gate.{nothingGiven, gateField, gate, gateInOrder}
+use Rattle.gate_record.specs.Gate.{gateField, gate}
+use Rattle.gate_record.specs.Places.{nothingGiven, gateInOrder}
 use Rattle.gate_record.proofs.read_gate.Statement.{statement}
 use Rattle.gate_record.proofs.read_gate.Tie as tie
 

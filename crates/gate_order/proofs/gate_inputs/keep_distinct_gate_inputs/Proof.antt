@@ -5,7 +5,7 @@ use mathlib.Core.List.{map}
 use lib.ListN.{length, take}
 use native.Mathlib.Omega.{arith}
 use borrow.Author.Needs.{needs}
-use Rattle.ordering.specs.Distinct.{Fronted}
+use Rattle.ordering.specs.Thinning.{Fronted}
 use Rattle.ordering.specs.Inputs.{Ascending}
 use Rattle.rules.specs.Limits.{mostGateInputs}
 use Rattle.gate_order.specs.Inputs.{unmasked as unmask}

@@ -7,7 +7,8 @@ use lib.ListN.{length, length-set}
 use Rattle.reading.proofs.Calls.{asks-nothing}
 use Rattle.reading.proofs.Repeats.{RepeatLeft, repeat-start, repeat-more, repeat-done}
 use Rattle.study.specs.declared.Gate.{Gate}
-use Rattle.gate_record.specs.Gate.{withInputRow, input as Gate·input}
+use Rattle.gate_record.specs.Gate.{input as Gate·input}
+use Rattle.gate_record.specs.Places.{withInputRow}
 use Rattle.gate_record.proofs.inputs.read_input_list.Statement.{statement}
 use Rattle.gate_record.proofs.inputs.read_input_list.Tie as tie
 

@@ -7,7 +7,8 @@ use lib.ListN.{length, length-set}
 use Rattle.reading.proofs.Calls.{asks-nothing}
 use Rattle.reading.proofs.Repeats.{RepeatLeft, repeat-start, repeat-more, repeat-done}
 use Rattle.study.specs.declared.Gate.{Gate}
-use Rattle.gate_record.specs.Gate.{withTestRow, test}
+use Rattle.gate_record.specs.Gate.{test}
+use Rattle.gate_record.specs.Places.{withTestRow}
 use Rattle.gate_record.proofs.tests.read_test_list.Statement.{statement}
 use Rattle.gate_record.proofs.tests.read_test_list.Tie as tie
 

@@ -5,7 +5,8 @@ use native.Mathlib.Omega.{arith}
 use Rattle.reading.proofs.Calls.{asks-nothing}
 use Rattle.reading.proofs.Repeats.{RepeatLeft, repeat-start, repeat-done}
 use Rattle.study.specs.Zero.{noGates}
-use Rattle.opening.specs.Opening.{gateRecordInOrder, placing}
+use Rattle.opening.specs.Opening.{placing}
+use Rattle.opening.specs.Places.{gateRecordInOrder}
 use Rattle.opening.proofs.Places.{placed, place-refused}
 use Rattle.opening.proofs.gates.read_gates.Statement.{statement}
 use Rattle.opening.proofs.gates.read_gates.Tie as tie

@@ -8,7 +8,7 @@ use native.Mathlib.Omega.{arith}
 use lib.ListN.{length}
 use borrow.Author.Needs.{needs}
 use borrow.Author.Tests.{not-true, not-false}
-use Rattle.ordering.specs.Distinct.{Fronted}
+use Rattle.ordering.specs.Thinning.{Fronted}
 use Rattle.ordering.specs.Inputs.{Input, paired}
 use Rattle.ordering.proofs.Pairs.{paired-long}
 use Rattle.ordering.proofs.Thinned.{Thinning, thinning-start, thinning-again, thinning-more, thinning-done, thinned-most, thinned-distinct}

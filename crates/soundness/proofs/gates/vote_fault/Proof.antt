@@ -6,7 +6,7 @@ use borrow.Author.Needs.{needs}
 use Rattle.rules.specs.Breach.{first}
 use Rattle.rules.specs.Table.{thresholdFault}
 use Rattle.rules.proofs.Kept.{first-behind}
-use Rattle.gate_order.specs.Order.{orderFault}
+use Rattle.gate_order.specs.Breach.{orderFault}
 use Rattle.soundness.specs.Check.{voteFault}
 use Rattle.soundness.proofs.gates.vote_fault.Statement.{statement}
 use Rattle.soundness.proofs.gates.vote_fault.Tie as tie
