@@ -2,6 +2,7 @@
 use Prim.Native.Nat.{ℕ, _+_, _-_, _*_, _<_, _≤_}
 use native.Mathlib.Nat.{div-mul-le-self, lt-div-mul-add}
 use native.Mathlib.Omega.{arith}
+use Rattle.units.specs.Laws.{QuotientsRound}
 use Rattle.units.specs.Rounding.{quotientDown, quotientUp}
 
 module _ (a b : ℕ) where
@@ -20,3 +21,7 @@ module _ (a b : ℕ) where
   pub quotient-near-above : 0 < b → quotientUp a b * b < a + b
   unfolding quotientUp
   quotient-near-above some = omega (arith, div-mul-le-self (a + (b - 1)) b)
+
+pub quotients-round : QuotientsRound
+quotients-round =
+    record { not-above = quotient-below; largest = quotient-near-below; not-below = quotient-above; smallest = quotient-near-above }

@@ -4,6 +4,7 @@ use mathlib.Core.Path.{_≡_, refl}
 use native.Mathlib.Nat.{add-zero, mul-le-mul}
 use native.Mathlib.Omega.{arith}
 use lib.Dec.{lit<}
+use Rattle.units.specs.Laws.{ScaleRounds}
 use Rattle.units.specs.One.{one}
 use Rattle.units.specs.Rounding.{down, up, scale, quotientDown, quotientUp}
 use Rattle.units.proofs.Quotients.{quotient-below, quotient-near-below, quotient-above, quotient-near-above}
@@ -40,3 +41,6 @@ module _ (p : ℕ) where
 
   pub up-exact : scale up one p ≡ p
   up-exact = omega (arith, up-above one p, up-near one p)
+
+pub scale-rounds : ScaleRounds
+scale-rounds = record { downwards = scale-down; upwards = scale-up; exact-downwards = down-exact; exact-upwards = up-exact }

@@ -1,3 +1,4 @@
+pub mod Laws
 pub mod One
 pub mod Rounding
 pub mod Within
