@@ -10,6 +10,7 @@ use Rattle.lists.specs.Product.{product}
 use Rattle.lists.proofs.Elements.{Every}
 use Rattle.lists.proofs.Maps.{getD-map-inside}
 use Rattle.joint_states.specs.JointStates.{JointState, divided, jointStates, numberOf}
+use Rattle.joint_states.specs.Laws.{JointStatesListed}
 
 -- ---- a joint state, component by component
 
@@ -122,9 +123,24 @@ numbered (c ∷ cs) (s ∷ x) j =
     ∙ ap (λ (z : ℕ). z ∷ getD (jointStates cs) (numberOf cs x) []) (zero-add s)
     ∙ ap (λ (y : List ℕ). s ∷ y) (numbered cs x (joint-tail j))
 
+-- the one at place k has number k
+at-place : (counts : List ℕ) (k : ℕ) (h : k < product counts) → with-number counts k h .joint ≡ getD (jointStates counts) k []
+at-place counts k h =
+    let w = with-number counts k h in
+    sym (numbered counts (w .joint) (w .is-joint)) ∙ ap (λ (n : ℕ). getD (jointStates counts) n []) (w .number)
+
 -- all that the list holds are joint states
 pub all-joint : (counts : List ℕ) → Every (JointState counts) [] (jointStates counts)
 all-joint counts k h =
-    let w = with-number counts k (rw (length-jointStates counts) at h) in
-    let place = sym (numbered counts (w .joint) (w .is-joint)) ∙ ap (λ (n : ℕ). getD (jointStates counts) n []) (w .number) in
-    subst (JointState counts) place (w .is-joint)
+    let inside : k < product counts = rw (length-jointStates counts) at h in
+    subst (JointState counts) (at-place counts k inside) (with-number counts k inside .is-joint)
+
+pub joint-states-listed : JointStatesListed
+joint-states-listed counts =
+    record {
+      many = length-jointStates counts;
+      joint = λ k h. all-joint counts k (rw (length-jointStates counts) h);
+      numbered = λ k h. sym (ap (numberOf counts) (at-place counts k h)) ∙ with-number counts k h .number;
+      below = number-below counts;
+      at-number = numbered counts;
+    }

@@ -1,1 +1,2 @@
 pub mod JointStates
+pub mod Laws

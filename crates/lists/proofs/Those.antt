@@ -7,6 +7,7 @@ use native.Mathlib.Nat.{le-of-suc-le-suc}
 use native.Mathlib.Omega.{arith}
 use lib.ListN.{length, getD}
 use Rattle.lists.specs.Counting.{those}
+use Rattle.lists.proofs.Elements.{Every}
 
 module _ {A : Type 0} (takesPart : A → Bool) (z : A) where
   -- where none takes part, no element does
@@ -37,3 +38,9 @@ module _ {A : Type 0} (takesPart : A → Bool) (z : A) where
           absurd (none-takes l none i (le-of-suc-le-suc h) takes)
       go false e zero h takes only behind = absurd (false≢true (sym e ∙ takes))
       go false e (suc i) h takes only behind = behind only i (le-of-suc-le-suc h) takes
+
+-- two tests that agree on every element of a list have the same ones take part
+pub those-alike : {A : Type 0} (f g : A → Bool) (d : A) (l : List A) → Every (λ (x : A). f x ≡ g x) d l → those f l ≡ those g l
+unfolding those
+those-alike f g d [] agree = refl
+those-alike f g d (x ∷ l) agree = rw (agree 0 (omega arith), those-alike f g d l (λ k h. agree (suc k) (omega arith))) refl
