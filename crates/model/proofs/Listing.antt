@@ -10,7 +10,7 @@ use Rattle.lists.proofs.Puts.{put-size}
 use Rattle.rules.specs.Limits.{mostJointStates}
 use Rattle.entries.specs.Entries.{entryBytes, listBytes}
 use Rattle.entries.proofs.Entries.{entries-put}
-use Rattle.paths.proofs.Entries.{entries-long}
+use Rattle.paths.proofs.Entries.{each-entry}
 use Rattle.paths.proofs.Need.{need-is, need-most, paths-few as block-paths-few}
 use Rattle.model.specs.Good.{Good}
 use Rattle.model.specs.Held.{Listed}
@@ -20,7 +20,7 @@ use Rattle.model.proofs.Classes.{good-block, good-listable}
 module _ (m : Model) (good : Good m) where
   pub entries-wide : Every (λ (entry : List ℕ). length entry ≡ entryBytes (components m)) [] (pathsOf m)
   unfolding pathsOf
-  entries-wide = entries-long (m .counts) (classesOf m) (good-block m good)
+  entries-wide i h = each-entry (m .counts) (classesOf m) (good-block m good) i h .long
 
   -- an entry for each path
   pub list-need : length (joined (pathsOf m)) ≡ length (pathsOf m) * entryBytes (components m)

@@ -12,12 +12,26 @@ use Rattle.paths.specs.Paths.{paths}
 use Rattle.paths.specs.Words.{OnePath, BlankIff}
 use Rattle.paths.proofs.Ascending.{paths-ascend}
 use Rattle.paths.proofs.Blank.{blank-exactly}
+use Rattle.paths.proofs.Entries.{each-entry as block-entry}
 use Rattle.paths.proofs.OnePath.{one-path-each}
 use Rattle.paths.proofs.Tell.{paths-tell}
 use Rattle.model.specs.Good.{Good}
-use Rattle.model.specs.Laws.{OnePathEach, PathsAscend, BlankExactly, ClassAlike, PathsTell}
+use Rattle.model.specs.Laws.{EachIsEntry, OnePathEach, PathsAscend, BlankExactly, ClassAlike, PathsTell}
 use Rattle.model.specs.Model.{Model, components, classesOf, pathsOf}
 use Rattle.model.proofs.Classes.{classes-long, class-at, good-block}
+
+pub each-entry : EachIsEntry
+unfolding pathsOf
+each-entry m good i h =
+    let e = block-entry (m .counts) (classesOf m) (good-block m good) i h in
+    record {
+      long = e .long;
+      states = e .states;
+      joint = e .joint;
+      is-joint = e .is-joint;
+      fitted = e .fitted;
+      bears = e .bears ∙ class-at m (e .joint) (e .is-joint);
+    }
 
 pub one-path : OnePathEach
 unfolding pathsOf

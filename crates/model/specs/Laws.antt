@@ -4,9 +4,13 @@ use mathlib.Core.Path.{_≡_}
 use mathlib.Core.List.{List, []}
 use lib.ListN.{length, getD}
 use Rattle.joint_states.specs.JointStates.{JointState}
-use Rattle.paths.specs.Words.{OnePath, Ascending, BlankIff}
+use Rattle.paths.specs.Words.{IsEntry, OnePath, Ascending, BlankIff}
 use Rattle.model.specs.Good.{Good}
 use Rattle.model.specs.Model.{Model, components, pathsOf}
+
+-- Each path is an entry over its components, and bears the class of some joint state that fits it.
+abbrev pub EachIsEntry : Type 0
+EachIsEntry = (m : Model) → Good m → (i : ℕ) → i < length (pathsOf m) → IsEntry (m .counts) (m .class) (getD (pathsOf m) i [])
 
 -- Every joint state fits one path and only one, and that path bears the joint state's class.
 abbrev pub OnePathEach : Type 0

@@ -12,12 +12,12 @@ use Rattle.rules.specs.Table.{roomFault}
 use Rattle.entries.specs.Entries.{entryBytes, listBytes}
 use Rattle.paths.specs.Blocks.{Listable}
 use Rattle.paths.specs.Paths.{paths}
-use Rattle.paths.proofs.Entries.{entries-long}
+use Rattle.paths.proofs.Entries.{each-entry}
 use Rattle.paths.proofs.Few.{few-paths}
 
 module _ {counts block : List ℕ} (l : Listable counts block) where
   pub need-is : length (joined (paths counts block)) ≡ length (paths counts block) * entryBytes (length counts)
-  need-is = joined-long (entryBytes (length counts)) (paths counts block) (entries-long counts block (l .whole))
+  need-is = joined-long (entryBytes (length counts)) (paths counts block) (λ i h. each-entry counts block (l .whole) i h .long)
 
   pub paths-few : length (paths counts block) ≤ mostJointStates
   paths-few = omega (arith, few-paths counts block (l .whole) .most, l .whole .long, l .small)

@@ -5,10 +5,9 @@ use mathlib.Core.List.{List, []}
 use lib.ListN.{length, getD}
 use Rattle.lists.specs.Product.{product}
 use Rattle.joint_states.specs.JointStates.{JointState}
-use Rattle.entries.specs.Entries.{entryBytes}
 use Rattle.paths.specs.Blocks.{Block, classAt}
 use Rattle.paths.specs.Paths.{paths}
-use Rattle.paths.specs.Words.{OnePath, Ascending, BlankIff}
+use Rattle.paths.specs.Words.{IsEntry, OnePath, Ascending, BlankIff}
 
 abbrev pub OnePathEach : Type 0
 OnePathEach =
@@ -27,11 +26,10 @@ BlankExactly =
 abbrev pub PathsTell : Type 0
 PathsTell = (counts a b : List ℕ) → Block counts a → Block counts b → paths counts a ≡ paths counts b → a ≡ b
 
--- each entry has a mark for each component, and a class
-abbrev pub EntriesLong : Type 0
-EntriesLong =
+abbrev pub EachIsEntry : Type 0
+EachIsEntry =
     (counts block : List ℕ) → Block counts block → (i : ℕ) → i < length (paths counts block)
-    → length (getD (paths counts block) i []) ≡ entryBytes (length counts)
+    → IsEntry counts (classAt counts block) (getD (paths counts block) i [])
 
 -- there is a path at least, and at most one for each joint state
 pub record PathsFew (counts block : List ℕ) : Type 0 where

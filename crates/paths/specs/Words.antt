@@ -7,7 +7,7 @@ use lib.Dec.{eqb}
 use lib.ListN.{length, getD}
 use Rattle.lists.specs.Counting.{those}
 use Rattle.joint_states.specs.JointStates.{JointState}
-use Rattle.entries.specs.Entries.{blankMark, classBorne}
+use Rattle.entries.specs.Entries.{blankMark, entryBytes, classBorne}
 
 abbrev pub Blank : List ℕ → ℕ → Type 0
 Blank entry k = getD entry k blankMark ≡ blankMark
@@ -21,6 +21,16 @@ unfoldable pub fits : List ℕ → List ℕ → Bool
 fits [] entry = true
 fits (s ∷ x) [] = true
 fits (s ∷ x) (mark ∷ entry) = (eqb mark blankMark || eqb mark s) && fits x entry
+
+-- an entry over components with these state counts: a mark for each of them, then a class; a settled mark is a state that its component has; and some
+-- joint state fits, whose class it bears, so that no path is empty
+pub record IsEntry (counts : List ℕ) (class : List ℕ → ℕ) (entry : List ℕ) : Type 0 where
+  pub long : length entry ≡ entryBytes (length counts)
+  pub states : (k : ℕ) → k < length counts → Settled entry k → getD entry k blankMark < getD counts k 0
+  pub joint : List ℕ
+  pub is-joint : JointState counts joint
+  pub fitted : fits joint entry ≡ true
+  pub bears : classBorne (length counts) entry ≡ class joint
 
 -- the paths that a joint state fits
 abbrev pub fitting : List ℕ → List (List ℕ) → List (List ℕ)
