@@ -4,3 +4,4 @@ pub mod Laws
 pub mod Leaves
 pub mod Reading
 pub mod Tree
+pub mod WellDrawn
