@@ -7,7 +7,8 @@ use rules::far_fault;
 use units::ONE;
 ghost use mathlib.Core.Path.{_≡_};
 ghost use Rattle.exponential.specs.Worked.{Units};
-ghost use Rattle.survival.specs.Chances.{exponentOf, chancesBy, survivalGiven};
+ghost use Rattle.survival.specs.Chances.{exponentOf, chancesBy};
+ghost use Rattle.survival.specs.Promise.{Answers};
 
 // FIT times hours: the product of two numbers of four bytes needs eight.
 fn exponent(fit: u32, hours: u32) -> u64
@@ -36,7 +37,7 @@ fn chances(surviving: Bounds) -> Chances
 
 // The chances of surviving so many hours at a rate in FIT, and of a failure in them. Refused by 23.
 pub fn survival(fit: u32, hours: u32) -> SurvivalAnswer
-    ensures { λ r. ⌜ r ≡ survivalGiven fit hours ⌝ }
+    ensures { λ r. ⌜ Answers fit hours r ⌝ }
 {
     let x = exponent(fit, hours);
     let breach = far_fault(x);

@@ -11,13 +11,13 @@ returns : tie.Need-returns
 returns c =
     let handing = c .before .before in
     let matched = handing .before .before .before in
-    let answered = sym (matched .before .before .survival .ensures) ∙ matched .chances .given .1 in
+    let answered = sym (matched .before .before .survival .ensures .given) ∙ matched .chances .given .1 in
     rw (← given-in _ _ _ answered) (handed-on (PlacesChances _ _ _) (handing .hand-chances .ok) (handing .hand-chances .ensures))
 
 returns-2 : tie.Need-returns-2
 returns-2 c =
     let matched = c .before .before in
-    let answered = sym (matched .before .before .survival .ensures) ∙ matched .number .given .1 in
+    let answered = sym (matched .before .before .survival .ensures .given) ∙ matched .number .given .1 in
     rw (← refused-in _ _ _ answered) (record { answered = handed _ (c .refused .ok) ∙ c .refused .ensures; left = refl })
 
 pub survival-spec : {M : Type 1} → statement M
