@@ -3,14 +3,13 @@ use crate::layout::CLASS_BYTES;
 use crate::layout::Class;
 use crate::layout::LIST_BYTES;
 use text::copy;
-ghost use mathlib.Core.Path.{_≡_};
-ghost use lib.ListN.{length};
+ghost use Rattle.lists.specs.Cleared.{Cleared};
 ghost use Rattle.text.specs.Writing.{Room, Wrote};
 ghost use Rattle.entries.specs.Entries.{entry, listBytes};
 
-// Room for any list.
+// Room for any list, cleared.
 pub fn empty_list() -> [u8; LIST_BYTES]
-    ensures { λ r. ⌜ listBytes ≡ length r ⌝ }
+    ensures { λ r. ⌜ Cleared listBytes r ⌝ }
 {
     [0; LIST_BYTES]
 }

@@ -9,8 +9,8 @@ use rules::unsound_fault;
 use soundness::is_sound;
 use study::Study;
 ghost use Prim.Native.Nat.{_≤_};
-ghost use mathlib.Core.Path.{_≡_};
 ghost use lib.ListN.{length};
+ghost use Rattle.lists.specs.Cleared.{Cleared};
 ghost use Rattle.rules.specs.Limits.{mostJointStates};
 ghost use Rattle.soundness.specs.Sound.{Sound};
 ghost use Rattle.meaning.specs.Sources.{meaningOf, ClassesPut, Judged};
@@ -23,7 +23,7 @@ pub enum Source {
 
 // A class table with every place cleared.
 pub fn no_classes() -> [Class; JOINT_STATE_PLACES]
-    ensures { λ r. ⌜ mostJointStates ≡ length r ⌝ }
+    ensures { λ r. ⌜ Cleared mostJointStates r ⌝ }
 {
     [0; JOINT_STATE_PLACES]
 }
