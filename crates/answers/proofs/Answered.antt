@@ -5,10 +5,10 @@ use mathlib.Core.Bool.{Bool, true, false, cond}
 use mathlib.Core.List.{List}
 use native.Mathlib.Omega.{arith}
 use lib.Dec.{eqb}
-use lib.ListN.{length, getD}
+use lib.ListN.{length, getD, take}
 use borrow.Author.Tests.{eq-eqb, ne-eqb, eqb-true}
 use Rattle.lists.specs.Rows.{put}
-use Rattle.lists.proofs.Fronts.{put-behind, getD-put}
+use Rattle.lists.proofs.Fronts.{put-behind, put-taken, getD-put}
 use Rattle.answers.specs.Answered.{answered, filled}
 use Rattle.answers.specs.Told.{Told, result, refusal, numberTold, tells}
 
@@ -73,6 +73,9 @@ module _ (breach : ℕ) (values slice : List ℕ) where
   pub filled-refused : (breach ≡ 0 → ⊥) → filled breach values slice ≡ slice
   unfolding filled
   filled-refused = answered-refused (λ (n : ℕ). slice) breach (put slice 0 values)
+
+  pub filled-taken : breach ≡ 0 → take (length values) (filled breach values slice) ≡ values
+  filled-taken none = ap (take (length values)) (filled-done none) ∙ put-taken slice values refl
 
   pub filled-front : breach ≡ 0 → (k : ℕ) → k < length values → getD (filled breach values slice) k 0 ≡ getD values k 0
   filled-front none k h = ap (λ (s : List ℕ). getD s k 0) (filled-done none) ∙ getD-put slice values k 0 h

@@ -1,7 +1,7 @@
 -- Opening refuses by the first breach from the left. What carries it: every reader is local, so that what a front part gives stands whatever
 -- bytes follow, unless the front part is too short.
 use Prim.Native.Nat.{ℕ, _*_}
-use mathlib.Core.Path.{_≡_, refl}
+use mathlib.Core.Path.{_≡_, refl, ap}
 use mathlib.Core.List.{List, [], _∷_, _++_}
 use mathlib.Core.Logic.{inl, inr}
 use lib.Dec.{eqb}
@@ -21,6 +21,8 @@ use Rattle.study.specs.declared.Component.{Component}
 use Rattle.study.specs.declared.Gate.{Gate}
 use Rattle.study.specs.declared.Load.{Load}
 use Rattle.answers.specs.declared.outcome.Outcome.the-variants.{Done, Refused}
+use Rattle.answers.specs.Told.{outcomeTold}
+use Rattle.answers.proofs.Told.{done-told, refused-told}
 use Rattle.study.specs.declared.Study.{Study}
 use Rattle.study.specs.Absent.{absentComponent, absentGate, absentLoad}
 use Rattle.gate_order.specs.Inputs.{inputCount}
@@ -140,7 +142,13 @@ pub first-breach : FirstBreach
 unfolding opened
 first-breach =
     record {
-      decided = λ front rest n is other. decides rest (study front) (study (front ++ rest)) (local-study .stands front rest) n is other;
-      too-short = λ front rest. shortens rest (study front) (study (front ++ rest)) (local-study .stands front rest);
-      left-over = λ front rest. leaves rest (study front) (study (front ++ rest)) (local-study .stands front rest);
+      decided =
+          λ front rest n told other.
+          ap outcomeTold (decides rest (study front) (study (front ++ rest)) (local-study .stands front rest) n (refused-told _ n told) other);
+      too-short =
+          λ front rest told some.
+          ap outcomeTold (shortens rest (study front) (study (front ++ rest)) (local-study .stands front rest) (done-told _ told) some);
+      left-over =
+          λ front rest told some.
+          ap outcomeTold (leaves rest (study front) (study (front ++ rest)) (local-study .stands front rest) (done-told _ told) some);
     }

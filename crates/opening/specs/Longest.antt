@@ -5,8 +5,7 @@ use mathlib.Core.List.{List, [], _∷_, _++_}
 use lib.ListN.{length, replicate}
 use Rattle.lists.specs.Rows.{joined}
 use Rattle.rules.specs.Limits.{longestStudy, mostGates, mostGateInputs, mostLoads, mostStates, mostTests}
-use Rattle.answers.specs.declared.outcome.Outcome.the-variants.{Done}
-use Rattle.opening.specs.Opening.{opened}
+use Rattle.opening.specs.Laws.{IsOpened}
 
 -- a component record: the map, the state count and three probabilities of 0
 unfoldable pub componentBytes : List ℕ
@@ -43,4 +42,4 @@ longestBytes =
 -- Some bytes as many as the longest study open.
 pub record LongestOpens : Type 0 where
   pub long : length longestBytes ≡ longestStudy
-  pub opens : opened longestBytes .outcome ≡ Done
+  pub opens : IsOpened longestBytes

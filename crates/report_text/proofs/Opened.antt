@@ -11,6 +11,7 @@ use Rattle.study.specs.declared.Study.{Study}
 use Rattle.answers.specs.declared.outcome.Outcome.{Outcome}
 use Rattle.answers.specs.declared.outcome.Outcome.the-variants.{Done, Refused}
 use Rattle.answers.specs.declared.outcome.StudyAnswer.{StudyAnswer}
+use Rattle.answers.specs.Told.{outcomeTold}
 use Rattle.soundness.specs.Sound.{Sound}
 use Rattle.opening.specs.Opening.{opened}
 use Rattle.opening.proofs.Opened.Study.{opened-sound}
@@ -41,7 +42,7 @@ module _ (bytes : List ℕ) {answer : StudyAnswer} (e : answer ≡ opened bytes)
 
   pub opened-study : answer .outcome ≡ Done → Sound (answer .study)
   opened-study done =
-      subst (λ (a : StudyAnswer). Sound (a .study)) (sym e) (opened-sound bytes (ap (λ (a : StudyAnswer). a .outcome) (sym e) ∙ done))
+      subst (λ (a : StudyAnswer). Sound (a .study)) (sym e) (opened-sound bytes (ap (λ (a : StudyAnswer). outcomeTold (a .outcome)) (sym e) ∙ ap outcomeTold done))
 
 pub table-text : {t : Study} {was : List ℕ} (table : List ℕ) → Sound t → mostJointStates ≤ length table → Tabled byGates t was table
     → modelText (modelBy t table) ≡ modelText (modelOf byGates t)

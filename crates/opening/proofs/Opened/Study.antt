@@ -15,6 +15,7 @@ use Rattle.rules.proofs.Kept.{range-kept}
 use Rattle.reading.specs.Reader.{Read, Reader, refused, got, byte, repeat}
 use Rattle.reading.proofs.Held.{Held, Gives, held, gives-then, gives-judge, gives-judged, gives-return, gives-repeat}
 use Rattle.answers.specs.Answered.{answered}
+use Rattle.answers.proofs.Told.{done-told}
 use Rattle.opening.specs.Opening.{count, componentAfter, componentRecord, gateRecord, loadRecord, placing, records, study, refusedOpening, answer, opened, given, asGiven}
 use Rattle.opening.proofs.Places.{joint-placed}
 use Rattle.study.specs.declared.Component.{Component}
@@ -27,7 +28,7 @@ use Rattle.study.specs.Places.{Shaped, ShapedGate, noGate}
 use Rattle.study.specs.Zero.{zeroComponent, zeroGate, zeroLoad, noComponents, noGates, noLoads, zeroStudy}
 use Rattle.gate_order.specs.Order.{ordered}
 use Rattle.soundness.specs.Sound.{SoundComponent, SoundGate, UnusedGate, SoundLoad, Sound}
-use Rattle.opening.specs.Laws.{OpenedSound, OpenedShaped}
+use Rattle.opening.specs.Laws.{IsOpened, OpenedSound, OpenedShaped}
 use Rattle.opening.proofs.Answers.{is-refused, left, left-over, not-both}
 use Rattle.opening.proofs.Opened.Component.{component-sound}
 use Rattle.opening.proofs.Opened.Gate.{WholeGate, gate-sound}
@@ -200,7 +201,7 @@ answer-sound (got t (b ∷ rest)) h e = absurd (not-both 15 (cc (left t b rest))
 
 pub opened-sound : OpenedSound
 unfolding opened
-opened-sound bytes done = answer-sound (study bytes) (held study-sound bytes) done
+opened-sound bytes told = answer-sound (study bytes) (held study-sound bytes) (done-told _ told)
 
 zero-shaped : Shaped zeroStudy
 unfolding zeroStudy noComponents noGates noLoads
@@ -223,9 +224,9 @@ unfolding answer given
 answer-given (refused n) h e = absurd (not-both n (cc (is-refused n)))
 answer-given (got t rest) h e = h .given
 
-pub opened-given : (bytes : List ℕ) → opened bytes .outcome ≡ Done → Given (asGiven bytes)
+pub opened-given : (bytes : List ℕ) → IsOpened bytes → Given (asGiven bytes)
 unfolding opened asGiven
-opened-given bytes done = answer-given (study bytes) (held study-sound bytes) done
+opened-given bytes told = answer-given (study bytes) (held study-sound bytes) (done-told _ told)
 
 answer-ordered : (r : Read Study) → answer r .outcome ≡ Done → answer r .study ≡ ordered (given r)
 unfolding answer given refuse answered
@@ -233,6 +234,6 @@ answer-ordered (refused n) e = absurd (not-both n (cc (is-refused n)))
 answer-ordered (got t []) e = refl
 answer-ordered (got t (b ∷ rest)) e = absurd (not-both 15 (cc (left t b rest)))
 
-pub opened-ordered : (bytes : List ℕ) → opened bytes .outcome ≡ Done → opened bytes .study ≡ ordered (asGiven bytes)
+pub opened-ordered : (bytes : List ℕ) → IsOpened bytes → opened bytes .study ≡ ordered (asGiven bytes)
 unfolding opened asGiven
-opened-ordered bytes done = answer-ordered (study bytes) done
+opened-ordered bytes told = answer-ordered (study bytes) (done-told _ told)

@@ -15,6 +15,7 @@ use Rattle.reading.proofs.Ends.{EndsIn, Ends, ends-then, ends-return, ends-weak
 use Rattle.reading.proofs.Local.{Stands}
 use Rattle.reading.proofs.Takes.{Refusal, Takes, ends-count, takes-return, takes-then, takes-repeat}
 use Rattle.answers.specs.declared.outcome.Outcome.the-variants.{Done, Refused}
+use Rattle.answers.proofs.Told.{done-told, refused-told}
 use Rattle.study.specs.declared.Study.{Study}
 use Rattle.study.specs.Joint.{states}
 use Rattle.study.specs.Zero.{noGates, noLoads}
@@ -73,7 +74,8 @@ answer-row n (got t (b ∷ rest)) h number e =
 
 pub opening-rows : OpeningRows
 unfolding opened
-opening-rows bytes number e = answer-row (length bytes) (study bytes) (study-taken (length bytes) (λ few. tt) .ends bytes refl) number e
+opening-rows bytes number told =
+    answer-row (length bytes) (study bytes) (study-taken (length bytes) (λ few. tt) .ends bytes refl) number (refused-told _ number told)
 
 -- bytes that open are all taken
 answer-most : (n : ℕ) (r : Read Study) → Ended (n ≤ longestStudy) n r → answer r .outcome ≡ Done → n ≤ longestStudy
@@ -103,6 +105,8 @@ pub longest-study : LongestStudy
 unfolding opened
 longest-study =
     record {
-      most = λ bytes. answer-most (length bytes) (study bytes) (study-taken (length bytes) (λ few. few) .ends bytes refl);
+      most =
+          λ bytes told.
+          answer-most (length bytes) (study bytes) (study-taken (length bytes) (λ few. few) .ends bytes refl) (done-told _ told);
       decides = λ bytes. take-decides bytes (decLe (length bytes) (longestStudy + 1));
     }
