@@ -1,3 +1,4 @@
+pub mod Bare
 pub mod BySums
 pub mod Carried
 pub mod Enclosed

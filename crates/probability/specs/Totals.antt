@@ -28,9 +28,16 @@ lowerClasses probabilities n entries = tabulate (λ (c : ℕ). lowerTotal probab
 abbrev pub upperClasses : List ℕ → ℕ → List (List ℕ) → List ℕ
 upperClasses probabilities n entries = tabulate (λ (c : ℕ). upperTotal probabilities n (λ (class : ℕ). eqb class c) entries) classPlaces
 
--- the bounds of each load: those of the classes that have its bit
+-- the bounds for the loss of load j: those of the classes that have its bit
+abbrev pub lowerLoss : List ℕ → ℕ → List (List ℕ) → ℕ → ℕ
+lowerLoss probabilities n entries j = lowerTotal probabilities n (λ (class : ℕ). bit class j) entries
+
+abbrev pub upperLoss : List ℕ → ℕ → List (List ℕ) → ℕ → ℕ
+upperLoss probabilities n entries j = upperTotal probabilities n (λ (class : ℕ). bit class j) entries
+
+-- and so of each load
 abbrev pub lowerLoads : List ℕ → ℕ → List (List ℕ) → List ℕ
-lowerLoads probabilities n entries = tabulate (λ (j : ℕ). lowerTotal probabilities n (λ (class : ℕ). bit class j) entries) mostLoads
+lowerLoads probabilities n entries = tabulate (lowerLoss probabilities n entries) mostLoads
 
 abbrev pub upperLoads : List ℕ → ℕ → List (List ℕ) → List ℕ
-upperLoads probabilities n entries = tabulate (λ (j : ℕ). upperTotal probabilities n (λ (class : ℕ). bit class j) entries) mostLoads
+upperLoads probabilities n entries = tabulate (upperLoss probabilities n entries) mostLoads
