@@ -5,13 +5,13 @@ use mathlib.Core.List.{List, []}
 use native.Mathlib.Nat.{mul-le-mul-right}
 use native.Mathlib.Omega.{arith}
 use lib.ListN.{length, getD, take, drop, length-drop}
-use lib.Seq.{length-take-le, take-append-le, drop-append-le, getD-take, getD-drop}
+use lib.Seq.{length-take-le, take-append-le, drop-append-le}
 use Rattle.lists.specs.Rows.{put, joined}
 use Rattle.lists.proofs.Elements.{Every}
 use Rattle.lists.proofs.Joined.{joined-long}
 use Rattle.lists.proofs.Rows.{row-at}
 use Rattle.lists.proofs.Tabulated.{length-tabulate, getD-tabulate, tabulated}
-use Rattle.entries.specs.Entries.{classPlaces, byteValues, entryBytes, classBorne, entryAt, entriesOf}
+use Rattle.entries.specs.Entries.{entryBytes, entryAt, entriesOf}
 use Rattle.entries.specs.Lists.{EntryIn, PathList}
 
 -- ---- the entries of a list
@@ -36,13 +36,6 @@ entries-long n paths list = length-tabulate (entryAt n list) paths
 pub entry-is : (n paths : ℕ) (list : List ℕ) (k : ℕ) → k < paths → getD (entriesOf n paths list) k [] ≡ entryAt n list k
 unfolding entriesOf
 entry-is n paths list k h = getD-tabulate (entryAt n list) paths k [] h
-
--- a class that stands among bytes is one of the classes
-pub class-small : (n : ℕ) (list : List ℕ) (k : ℕ) → ((i : ℕ) → getD list i 0 < byteValues) → classBorne n (entryAt n list k) < classPlaces
-unfolding classBorne
-class-small n list k bytes =
-    let from = k * entryBytes n in
-    rw (getD-take (entryBytes n) (drop from list) n 0 (omega arith), getD-drop from list n 0) (bytes (from + n))
 
 -- ---- entries put at the front of a buffer
 

@@ -17,7 +17,7 @@ use Rattle.study.specs.declared.Load.{Load}
 use Rattle.study.specs.Zero.{zeroLoad}
 use Rattle.fault_tree.specs.Classes.{lost, classBy}
 
-class-below : (truths : List Bool) (load : List Load) (n : ℕ) → classBy truths load n < 2 ^ n
+pub class-below : (truths : List Bool) (load : List Load) (n : ℕ) → classBy truths load n < 2 ^ n
 unfolding classBy
 class-below truths load n = bits-below (λ (j : ℕ). lost truths (getD load j zeroLoad)) n
 

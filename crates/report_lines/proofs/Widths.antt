@@ -1,19 +1,20 @@
 -- How long the lines of a report are at most.
 use Prim.Native.Nat.{ℕ, _*_, _^_, _<_, _≤_}
 use mathlib.Core.Bool.{Bool, true, false, cond}
-use mathlib.Core.List.{List, []}
+use mathlib.Core.List.{List, [], map}
 use native.Mathlib.Omega.{arith}
 use lib.Dec.{eqb}
-use lib.ListN.{length, getD}
+use lib.ListN.{length, getD, length-map}
 use Rattle.lists.specs.Counting.{sumOver}
+use Rattle.lists.proofs.Elements.{Every, every-map}
+use Rattle.lists.proofs.Joined.{joined-short}
 use Rattle.text.specs.Letters.{letters}
 use Rattle.text.specs.Lines.{itemLine}
 use Rattle.text.proofs.Short.{joined-length, field-short, ending-short, bounds-short, item-short, lines-short}
 use Rattle.units.specs.One.{one}
 use Rattle.units.specs.Rounding.{down, up}
 use Rattle.rules.specs.Limits.{mostComponents, mostLoads}
-use Rattle.entries.specs.Entries.{classBorne, classPlaces, byteValues, entryAt, entriesOf}
-use Rattle.entries.proofs.Entries.{class-small}
+use Rattle.entries.specs.Entries.{classBorne, classPlaces}
 use Rattle.probability.specs.Bounds.{pathBound}
 use Rattle.probability.specs.Probabilities.{AtMostOne}
 use Rattle.probability.proofs.Most.{path-most}
@@ -25,7 +26,6 @@ use Rattle.report_lines.specs.Classes.{classLine, classLines}
 use Rattle.report_lines.specs.Figures.{caidiLine, allFigures}
 use Rattle.report_lines.specs.Loads.{loadLine, loadLines}
 use Rattle.report_lines.specs.Paths.{entryLine, pathLine, pathLines}
-use Rattle.report_lines.proofs.Listed.{lineAt, lines-at}
 use Rattle.report_lines.proofs.Marked.{marks-long}
 
 -- ---- paths
@@ -42,16 +42,18 @@ entry-short n entry class lower upper few small low high =
       ending-short 10 (omega arith) lower upper (omega (arith, low)) (omega (arith, high)),
     ))
 
-pub path-lines-short : (probabilities : List ℕ) (n : ℕ) (list : List ℕ) (paths : ℕ) → AtMostOne probabilities
-    → n ≤ mostComponents → ((i : ℕ) → getD list i 0 < byteValues) → length (pathLines probabilities n (entriesOf n paths list)) ≤ paths * 41
-unfolding pathLine
-path-lines-short probabilities n list paths probability few bytes =
-    rw (lines-at probabilities n list paths) (lines-short (lineAt probabilities n list) paths 41 line)
+pub path-lines-short : (probabilities : List ℕ) (n : ℕ) (entries : List (List ℕ)) → AtMostOne probabilities → n ≤ mostComponents
+    → Every (λ (entry : List ℕ). classBorne n entry < classPlaces) [] entries → length (pathLines probabilities n entries) ≤ length entries * 41
+unfolding pathLines pathLine
+path-lines-short probabilities n entries probability few small =
+    let line = pathLine probabilities n in
+    let short = joined-short 41 (map line entries) (every-map line [] [] (λ (row : List ℕ). length row ≤ 41) entries each) in
+    rw (length-map entries line) at short
   where
-    line : (k : ℕ) → k < paths → length (lineAt probabilities n list k) ≤ 41
-    line k h =
-        let entry = entryAt n list k in
-        entry-short n entry (classBorne n entry) (pathBound down probabilities n entry) (pathBound up probabilities n entry) few (class-small n list k bytes)
+    each : Every (λ (entry : List ℕ). length (pathLine probabilities n entry) ≤ 41) [] entries
+    each k h =
+        let entry = getD entries k [] in
+        entry-short n entry (classBorne n entry) (pathBound down probabilities n entry) (pathBound up probabilities n entry) few (small k h)
         (path-most down (omega arith) probabilities probability n n entry)
         (path-most up (omega arith) probabilities probability n n entry)
 

@@ -1,6 +1,6 @@
--- `report_text::model_text::model_text` meets its contract: the buffer has room for it (`model-fits`), and its parts stand one behind the other
+-- `report_text::model_text::model_text` meets its contract: the buffer has room for it (`model-short`), and its parts stand one behind the other
 -- (`Pieces`).
-use Prim.Native.Nat.{ℕ}
+use Prim.Native.Nat.{ℕ, _<_}
 use mathlib.Core.Path.{sym, subst}
 use mathlib.Core.List.{List, [], _∷_}
 use native.Mathlib.Omega.{arith}
@@ -11,11 +11,14 @@ use Rattle.text.specs.Lines.{numberLine}
 use Rattle.text.specs.Writing.{Room, Wrote}
 use Rattle.text.proofs.Pieces.{Pieces, pieces-start, pieces-room, pieces-more, pieces-done}
 use Rattle.model.specs.Model.{Model, components, pathsOf, probabilityTable}
+use Rattle.joint_states.specs.JointStates.{numberOf}
+use Rattle.study.specs.Joint.{stateCounts}
+use Rattle.entries.specs.Entries.{classPlaces}
 use Rattle.study_model.specs.Model.{modelBy}
 use Rattle.evaluation.proofs.Bounding.{held-boundable, held-values}
 use Rattle.report_lines.specs.Paths.{pathLines}
 use Rattle.report_text.specs.Report.{classesText, lossesText, modelText}
-use Rattle.report_text.proofs.Fits.{model-fits}
+use Rattle.report_text.proofs.Fits.{has-room, model-short}
 use borrow.Author.Needs.{needs}
 use Rattle.report_text.proofs.model_text.model_text.Statement.{statement}
 use Rattle.report_text.proofs.model_text.model_text.Tie as tie
@@ -50,11 +53,17 @@ classed c = c .before .before .before .before
 
 -- ---- so many parts are written
 
+-- a class of the table is a byte
+class-byte : (c : tie.After-shared-slice-known) (x : List ℕ) → model (c .before) .class x < classPlaces
+unfolding modelBy
+class-byte c x = omega (arith, c .shared-slice-known .given (numberOf (stateCounts (c .before .args .t)) x))
+
 begun : (c : tie.After-number-line-arg2) → Pieces (parts (origin c)) (now (origin c .args .out)) 0 0 (now (origin c .args .out)) 0
 unfolding modelText
 begun c =
     let pre = origin c .pre .1 .1 in
-    pieces-start _ (model-fits (pre .0) (λ i. omega (arith, c .before .before .before .shared-slice-known3 .given i)) _ (pre .1))
+    let short = model-short (model (origin c)) (pre .0 .listed .good) (class-byte (c .before .before .before .before .before)) in
+    pieces-start _ (has-room _ _ short (pre .1))
 
 one : (c : tie.After-number-line)
     → Pieces (parts (start c)) (now (start c .args .out)) 0 1 (c .number-line .last .0) (c .number-line .result)

@@ -1,7 +1,7 @@
 -- `report_text::reporting::report_text` meets its contract: what opening answers decides which text it is.
 use mathlib.Core.Path.{sym}
 use native.Mathlib.Omega.{arith}
-use Rattle.report_text.proofs.Fits.{refused-fits}
+use Rattle.report_text.proofs.Fits.{has-room, refused-short}
 use Rattle.report_text.proofs.Opened.{text-done, text-refused, opened-study}
 use borrow.Author.Needs.{needs}
 use Rattle.report_text.proofs.reporting.report_text.Statement.{statement}
@@ -15,7 +15,7 @@ sound-text-requires c κs =
 refused-text-requires : tie.Need-refused-text-requires
 refused-text-requires c κs =
     let answer = c .before .before .before .before in
-    refused-fits _ _ (omega (arith, c .before .known-told .given)) (answer .before .before .before .pre)
+    has-room _ _ (refused-short _ (omega (arith, c .before .known-told .given))) (answer .before .before .before .pre)
 
 returns : tie.Need-returns
 returns c =
