@@ -1,18 +1,17 @@
 -- The bounds of paths, classes and loads enclose the exact probabilities: those of any good model do, and so do those that a call answered, since it
 -- answers only of a sound study, whose model is good, and fills the places with that model's bounds.
 use Prim.Native.Nat.{ℕ, _<_}
-use mathlib.Core.Path.{_≡_, sym, ap, _∙_}
+use mathlib.Core.Path.{_≡_, sym, subst, _∙_}
 use mathlib.Core.List.{List, [], _∷_}
 use native.Mathlib.Omega.{arith}
 use lib.Dec.{eqb}
-use lib.ListN.{length, length-map}
+use lib.ListN.{length, getD, length-map}
 use Rattle.lists.specs.Bits.{bit}
 use Rattle.lists.proofs.Maps.{getD-map-inside}
 use Rattle.lists.proofs.Tabulated.{getD-tabulate, length-tabulate}
 use Rattle.units.specs.Rounding.{down, up}
 use Rattle.study.specs.declared.Study.{Study}
-use Rattle.answers.specs.declared.outcome.Outcome.the-variants.{Done}
-use Rattle.answers.specs.Told.{outcomeTold, countTold, boundsTold, pairValues}
+use Rattle.answers.specs.Told.{result, pairValues}
 use Rattle.answers.proofs.Answered.{filled-front}
 use Rattle.entries.specs.Entries.{classPlaces}
 use Rattle.model.specs.Model.{Model, components, pathsOf, probabilityTable}
@@ -23,12 +22,14 @@ use Rattle.accuracy.proofs.Totals.{total-within}
 use Rattle.meaning.specs.Meaning.{Meaning, modelOf}
 use Rattle.meaning.proofs.Tables.{meant-good}
 use Rattle.evaluation.specs.Bounds.{lowerOf, upperOf, pathLowers, pathUppers, classLowers, classUppers}
-use Rattle.path_calls.specs.Bounds.{pairBreach, classesBounded, lowerOfClasses, upperOfClasses}
+use Rattle.path_calls.specs.Bounds.{pairBreach, lowerOfPaths, upperOfPaths, lowerOfClasses, upperOfClasses}
 use Rattle.loss_calls.specs.Bounds.{lossOf}
-use Rattle.demands.specs.Calls.{pathBounds as forPaths, classBounds as forClasses, loadBounds as forLoad}
-use Rattle.demands.specs.Demand2.{PathsWithin, ClassesWithin, LossesWithin}
-use Rattle.demands.specs.Demand2.{SameAt, PathBoundsAnswered, ClassBoundsAnswered, ClassBoundsAlike, LoadBoundsAnswered}
+use Rattle.demands.specs.Calls.{pathBounds as forPaths, classBounds as forClasses, loadBounds as forLoad, callTold}
+use Rattle.demands.specs.Within.{EntryWithin, PathsWithin, ClassesWithin, LossesWithin}
+use Rattle.demands.specs.Demand2.{SameAt, PathBoundsAnswered, PathBoundsOfList, ClassBoundsAnswered, ClassBoundsAlike, LoadBoundsAnswered}
 use Rattle.demands.proofs.Finished.{finished}
+use Rattle.demands.proofs.ListsEqual.{call-holds}
+use Rattle.demands.proofs.Paths.{are-paths}
 
 -- ---- any good model
 
@@ -54,18 +55,18 @@ losses-within m good j = total-within m good (λ (class : ℕ). bit class j)
 
 -- ---- what a call answered
 
-lowers-long : (m : Model) → length (pathLowers m) ≡ length (pathsOf m)
+pub lowers-long : (m : Model) → length (pathLowers m) ≡ length (pathsOf m)
 unfolding pathBounds
 lowers-long m = length-map (pathsOf m) (pathBound down (probabilityTable m) (components m))
 
-uppers-long : (m : Model) → length (pathUppers m) ≡ length (pathsOf m)
+pub uppers-long : (m : Model) → length (pathUppers m) ≡ length (pathsOf m)
 unfolding pathBounds
 uppers-long m = length-map (pathsOf m) (pathBound up (probabilityTable m) (components m))
 
 pub path-bounds-answered : PathBoundsAnswered
 unfolding pairBreach
 path-bounds-answered meaning t lower upper n answer i h =
-    let done = finished (forPaths meaning lower upper) t (n ∷ []) (ap countTold answer) in
+    let done = finished (forPaths meaning lower upper) t (n ∷ []) answer in
     let m = modelOf meaning t in
     let count : length (pathsOf m) ≡ n = cc in
     rw (
@@ -74,12 +75,25 @@ path-bounds-answered meaning t lower upper n answer i h =
     )
     (paths-within m (meant-good meaning t (done .is-sound)) i (omega (arith, count)))
 
+-- and those bounds are of the list that another call left
+pub path-bounds-of-list : PathBoundsOfList
+path-bounds-of-list m t d p lower upper n listed bounded =
+    let count : length (pathsOf (modelOf m t)) ≡ n = cc (finished (forPaths m lower upper) t (n ∷ []) bounded .are) in
+    record {
+      number = sym count ∙ sym (call-holds m t d p listed .number);
+      within =
+          λ i h.
+          subst
+          (λ (l : List (List ℕ)). EntryWithin (modelOf m t) (getD l i []) (getD (lowerOfPaths m t lower upper) i 0) (getD (upperOfPaths m t lower upper) i 0))
+          (are-paths m t d p listed) (path-bounds-answered m t lower upper n bounded i h);
+    }
+
 -- the places of classes then hold the bounds of the model
-classes-left : (meaning : Meaning) (t : Study) (lower upper : List ℕ) → classesBounded meaning t lower upper ≡ Done → (c : ℕ) → c < classPlaces
+pub classes-left : (meaning : Meaning) (t : Study) (lower upper : List ℕ) → callTold (forClasses meaning lower upper) t ≡ result [] → (c : ℕ) → c < classPlaces
     → SameAt c (lowerOfClasses meaning t lower upper) (upperOfClasses meaning t lower upper) (classLowers (modelOf meaning t)) (classUppers (modelOf meaning t))
 unfolding pairBreach
 classes-left meaning t lower upper answer c h =
-    let none = finished (forClasses meaning lower upper) t [] (ap outcomeTold answer) .none in
+    let none = finished (forClasses meaning lower upper) t [] answer .none in
     let m = modelOf meaning t in
     record {
       lowers =
@@ -90,7 +104,7 @@ classes-left meaning t lower upper answer c h =
 
 pub class-bounds-answered : ClassBoundsAnswered
 class-bounds-answered meaning t lower upper answer c h =
-    let done = finished (forClasses meaning lower upper) t [] (ap outcomeTold answer) in
+    let done = finished (forClasses meaning lower upper) t [] answer in
     let left = classes-left meaning t lower upper answer c h in
     rw (left .lowers, left .uppers) (classes-within (modelOf meaning t) (meant-good meaning t (done .is-sound)) c h)
 
@@ -102,7 +116,7 @@ class-bounds-alike meaning t lower upper lower′ upper′ answer answer′ c h 
 
 pub load-bounds-answered : LoadBoundsAnswered
 load-bounds-answered meaning t j pair answer =
-    let done = finished (forLoad meaning j) t (pairValues pair) (ap boundsTold answer) in
+    let done = finished (forLoad meaning j) t (pairValues pair) answer in
     let m = modelOf meaning t in
     let lower : lossOf m j .lower ≡ pair .lower = cc in
     let upper : lossOf m j .upper ≡ pair .upper = cc in

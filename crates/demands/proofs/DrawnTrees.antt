@@ -2,7 +2,7 @@
 use Rattle.drawn_tree.proofs.FirstBreach
 use Rattle.drawn_tree.proofs.Judged
 use Rattle.drawn_tree.proofs.ReadsBack
-use Rattle.demands.specs.Demand1.{DrawnReads}
+use Rattle.demands.specs.DrawnTrees.{DrawnReads}
 
 pub drawn-reads : DrawnReads
 drawn-reads =

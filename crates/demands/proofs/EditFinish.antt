@@ -1,13 +1,14 @@
 -- An edit whose item is there and whose result would be sound is done, so that one refused by 5, 6 or 14 would break a rule. What carries it: the
 -- rules of the edited field are rules of the edited study, read at the place that is anew.
 use Prim.Native.Nat.{ℕ, _<_}
-use mathlib.Core.Path.{_≡_, refl, sym, ap, subst, _∙_}
+use mathlib.Core.Path.{_≡_, sym, subst, _∙_}
 use mathlib.Core.Bool.{false≢true}
 use mathlib.Core.List.{[], _∷_}
 use native.Mathlib.Decide.{decLt}
 use native.Mathlib.Omega.{arith}
 use lib.ListN.{getD, set}
 use lib.Seq.{getD-set-same}
+use Rattle.lists.specs.OneOf.{OneOf}
 use Rattle.rules.specs.Breach.{firstBreach}
 use Rattle.rules.specs.Table.{unsoundFault, itemFault}
 use Rattle.rules.proofs.Kept.{list-none, none-none, front-kept, front-broken}
@@ -17,15 +18,15 @@ use Rattle.study.specs.declared.Study.{Study}
 use Rattle.study.specs.Edits.{withProbabilities, withCustomers, withMinutes}
 use Rattle.study.specs.Places.{componentAt, loadAt}
 use Rattle.study.specs.Zero.{zeroComponent, zeroLoad}
-use Rattle.answers.specs.Told.{outcomeTold}
-use Rattle.answers.specs.declared.outcome.Outcome.the-variants.{Done, Refused}
-use Rattle.answers.proofs.Answered.{breach-told, some-breach}
+use Rattle.answers.specs.Told.{refusal}
+use Rattle.answers.proofs.Answered.{breach-told, some-breach, tells-result}
+use Rattle.demands.specs.Calls.{anEdit, callTold}
 use Rattle.soundness.specs.Check.{sound}
 use Rattle.soundness.specs.Sound.{SoundComponent, SoundLoad, Sound}
 use Rattle.soundness.proofs.Checked.{probabilities-none, none-unsound}
-use Rattle.demands.specs.Demand1.{OneOf, EditsFinish}
-use Rattle.demands.specs.Edits.{Edit, probabilities, customers, minutes, edit, changed, HasItem, Reached}
-use Rattle.demands.proofs.Edited.{breach, either, edit-tells}
+use Rattle.demands.specs.Demand1.{EditsFinish}
+use Rattle.demands.specs.Edits.{Edit, probabilities, customers, minutes, changed, HasItem, Reached}
+use Rattle.demands.proofs.Edited.{breach, edit-tells}
 use Rattle.demands.proofs.OneOf.{one-among}
 use Rattle.demands.proofs.Reached.{reached-sound, component-inside, load-inside}
 
@@ -70,12 +71,9 @@ has-item (minutes j n) t = decLt j (t .loads)
 
 -- ---- the two directions
 
-would-break : (t : Study) → Reached t → (e : Edit) (n : ℕ) → edit e t .outcome ≡ Refused n → OneOf (5 ∷ 6 ∷ 14 ∷ []) n → Sound (changed e t) → ⊥
-would-break t r e n refused rule new = go (has-item e t)
+would-break : (t : Study) → Reached t → (e : Edit) (n : ℕ) → callTold (anEdit e) t ≡ refusal n → OneOf (5 ∷ 6 ∷ 14 ∷ []) n → Sound (changed e t) → ⊥
+would-break t r e n told rule new = go (has-item e t)
   where
-    told : outcomeTold (edit e t .outcome) ≡ outcomeTold (Refused n)
-    told = ap outcomeTold refused
-
     go : Dec (HasItem e t) → ⊥
     go (yes has) = some-breach _ [] n (edit-tells e t) told (finishes t r e has new)
     go (no lacks) =
@@ -84,7 +82,4 @@ would-break t r e n refused rule new = go (has-item e t)
 
 pub edits-finish : EditsFinish
 edits-finish =
-    record {
-      would-break = would-break;
-      done = λ t r e has new. either e t (λ a b. a .outcome ≡ Done) (λ none. refl) (λ some. absurd (some (finishes t r e has new)));
-    }
+    record { would-break = would-break; done = λ t r e has new. edit-tells e t ∙ tells-result _ [] (finishes t r e has new) }

@@ -21,7 +21,7 @@ use Rattle.study.specs.Edits.{withProbabilities, withCustomers, withMinutes, wi
 use Rattle.study.specs.Joint.{stateCounts}
 use Rattle.study.specs.Places.{componentAt, gateAt, loadAt}
 use Rattle.study.specs.Zero.{zeroComponent, zeroLoad}
-use Rattle.answers.specs.Told.{outcomeTold, tells}
+use Rattle.answers.specs.Told.{result, outcomeTold, tells}
 use Rattle.answers.specs.declared.outcome.Outcome.the-variants.{Done}
 use Rattle.answers.specs.declared.outcome.StudyAnswer.{StudyAnswer}
 use Rattle.answers.proofs.Answered.{answered-tells, no-breach}
@@ -73,8 +73,8 @@ pub edit-kept : (e : Edit) (t : Study) → (breach e t ≡ 0 → ⊥) → edit e
 edit-kept e t some = either e t (λ a b. a .study ≡ t) (λ none. absurd (some none)) (λ some. refl)
 
 -- done, it had no breach
-pub done-kept : (e : Edit) (t : Study) → edit e t .outcome ≡ Done → breach e t ≡ 0
-done-kept e t done = no-breach (breach e t) [] [] (edit-tells e t) (ap outcomeTold done)
+pub done-kept : (e : Edit) (t : Study) → outcomeTold (edit e t .outcome) ≡ result [] → breach e t ≡ 0
+done-kept e t told = no-breach (breach e t) [] [] (edit-tells e t) told
 
 -- ---- an edit that is done leaves a sound study
 
@@ -149,4 +149,4 @@ changed-sound (minutes j n) t none =
     load-edited t j (withMinutes n (loadAt t j)) (kept .is-sound) (kept .below) (record { gate = was .gate; customers = was .customers; minutes = kept .rule })
 
 pub edited-sound : EditedSound
-edited-sound e t done = either e t (λ a b. Sound (a .study)) (changed-sound e t) (λ some. absurd (some (done-kept e t done)))
+edited-sound e t told = either e t (λ a b. Sound (a .study)) (changed-sound e t) (λ some. absurd (some (done-kept e t told)))

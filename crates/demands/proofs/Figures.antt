@@ -1,6 +1,6 @@
 -- The figures enclose the quotients of the published formulas. What carries it: the bounds of each load enclose its exact probability, and the
 -- figures do so for any bounds that do; a call answers figures only of a sound study, whose model is good, and only where there are customers.
-use mathlib.Core.Path.{_≡_, refl, ap, subst}
+use mathlib.Core.Path.{refl, subst}
 use native.Mathlib.Nat.{one-le-pow}
 use native.Mathlib.Omega.{arith}
 use lib.ListN.{length}
@@ -16,17 +16,17 @@ use Rattle.indices.proofs.Enclosed.{saifi-encloses, saidi-encloses, caidi-enclo
 use Rattle.indices.proofs.Parted.{sums-parted}
 use Rattle.rules.proofs.Kept.{both-kept}
 use Rattle.rules.proofs.Rows.{customers-kept}
-use Rattle.answers.specs.Told.{figureValues, figuresTold}
-use Rattle.answers.specs.declared.figures.FiguresAnswer.the-variants.{Figures as Given, Refused}
-use Rattle.answers.proofs.Answered.{answered-done}
+use Rattle.answers.specs.Told.{figureValues}
+use Rattle.answers.proofs.Told.{figures-told}
 use Rattle.meaning.specs.Meaning.{meaningFault, modelOf}
 use Rattle.meaning.proofs.Tables.{meant-good}
 use Rattle.evaluation.specs.Bounds.{loadLowers, loadUppers}
 use Rattle.evaluation.specs.Figures.{modelFigures}
 use Rattle.evaluation.proofs.LossOrder.{lower-at, upper-at}
-use Rattle.loss_calls.specs.Figures.{customersOf, figuresFault, figuresGiven}
+use Rattle.loss_calls.specs.Figures.{customersOf, figuresFault}
 use Rattle.demands.specs.Calls.{figures as forFigures}
-use Rattle.demands.specs.Demand2.{exactLost, FiguresEnclose, ShortByMinutes, LossesParted, ModelFiguresEnclose, FiguresAnswered}
+use Rattle.demands.specs.Demand2.{FiguresAnswered}
+use Rattle.demands.specs.Within.{exactLost, FiguresEnclose, ShortByMinutes, LossesParted, ModelFiguresEnclose}
 use Rattle.demands.proofs.Bounds.{losses-within}
 use Rattle.demands.proofs.Finished.{finished}
 
@@ -56,11 +56,10 @@ unfolding lossSum
 losses-parted p loads = sums-parted (customersLost p) loads
 
 pub figures-answered : FiguresAnswered
-unfolding figuresGiven figuresFault modelOf
-figures-answered meaning t figures answer =
-    let done = finished (forFigures meaning) t (figureValues figures) (ap figuresTold answer) in
+unfolding figuresFault modelOf
+figures-answered meaning t values told =
+    let done = finished (forFigures meaning) t (figureValues values) told in
     let m = modelOf meaning t in
-    let given = answered-done Refused (figuresFault meaning t) (Given (modelFigures m)) (done .none) in
-    let same : modelFigures m ≡ figures = cc in
+    let same = figures-told (modelFigures m) values (done .are) in
     let customers = customers-kept (customersOf t) (both-kept (meaningFault meaning t) _ (done .none-behind) .right) in
     subst (FiguresEnclose m) same (model-figures-enclose m (meant-good meaning t (done .is-sound)) customers)

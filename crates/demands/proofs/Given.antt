@@ -18,6 +18,7 @@ use Rattle.answers.specs.declared.counts.CountAnswer.the-variants.{Count, Refus
 use Rattle.answers.specs.declared.counts.Listing.the-variants.{Refused as NotListed}
 use Rattle.answers.specs.declared.outcome.Outcome.the-variants.{Done, Refused}
 use Rattle.answers.specs.declared.outcome.StudyAnswer.{StudyAnswer}
+use Rattle.answers.specs.Told.{outcomeTold}
 use Rattle.answers.proofs.Answered.{answered-done, filled-done}
 use Rattle.soundness.specs.Check.{sound}
 use Rattle.soundness.specs.Sound.{Sound}
@@ -59,7 +60,7 @@ module _ (m : Meaning) (t : Study) (s : Sound t) (kept : meaningFault m t ≡ 0)
   pair-none need lower upper low high =
       none-of _ (list-none _ _ (room-none need (length lower) low) (list-none _ [] (room-none need (length upper) high) none-none))
 
-  the-list : ListIs m t (pathList m t)
+  pub the-list : ListIs m t (pathList m t)
   unfolding pathsListed bufferListed listFault
   the-list =
       record {
@@ -67,7 +68,7 @@ module _ (m : Meaning) (t : Study) (s : Sound t) (kept : meaningFault m t ≡ 0)
         written = λ buffer room. filled-done _ (joined (pathList m t)) buffer (none-of _ (room-none _ (length buffer) room));
       }
 
-  the-paths : PairIs (pathsBounded m t) (lowerOfPaths m t) (upperOfPaths m t) (Count (length (pathList m t))) (length (pathList m t)) (pathLowers (modelOf m t))
+  pub the-paths : PairIs (pathsBounded m t) (lowerOfPaths m t) (upperOfPaths m t) (Count (length (pathList m t))) (length (pathList m t)) (pathLowers (modelOf m t))
       (pathUppers (modelOf m t))
   unfolding pathsBounded
   the-paths =
@@ -77,7 +78,7 @@ module _ (m : Meaning) (t : Study) (s : Sound t) (kept : meaningFault m t ≡ 0)
         upper-written = λ lower upper low high. filled-done _ _ upper (pair-none _ lower upper low high);
       }
 
-  the-classes : PairIs (classesBounded m t) (lowerOfClasses m t) (upperOfClasses m t) Done classPlaces (classLowers (modelOf m t)) (classUppers (modelOf m t))
+  pub the-classes : PairIs (classesBounded m t) (lowerOfClasses m t) (upperOfClasses m t) Done classPlaces (classLowers (modelOf m t)) (classUppers (modelOf m t))
   unfolding classesBounded
   the-classes =
       record {
@@ -86,12 +87,12 @@ module _ (m : Meaning) (t : Study) (s : Sound t) (kept : meaningFault m t ≡ 0)
         upper-written = λ lower upper low high. filled-done _ _ upper (pair-none _ lower upper low high);
       }
 
-  a-load : (j : ℕ) → j < t .loads → loadBounded m t j ≡ Bounded (lossOf (modelOf m t) j)
+  pub a-load : (j : ℕ) → j < t .loads → loadBounded m t j ≡ Bounded (lossOf (modelOf m t) j)
   unfolding loadBounded lossFault
   a-load j below =
       answered-done NoBounds _ _ (list-none _ _ (none-unsound t s) (list-none _ _ (item-none (t .loads) j below) (list-none _ [] kept none-none)))
 
-  the-figures : figuresGiven m t ≡ figuresBy (loadLowers (modelOf m t)) (loadUppers (modelOf m t)) (modelOf m t .loads)
+  pub the-figures : figuresGiven m t ≡ figuresBy (loadLowers (modelOf m t)) (loadUppers (modelOf m t)) (modelOf m t .loads)
   unfolding figuresGiven figuresFault figuresBy modelOf
   the-figures = rw (front-kept _ _ (none-unsound t s), front-kept _ _ kept, list-last)
 
@@ -110,4 +111,4 @@ module _ (m : Meaning) (t : Study) (s : Sound t) (kept : meaningFault m t ≡ 0)
 -- what opening answers is sound where it is done
 pub answer-sound : (bytes : List ℕ) {a : StudyAnswer} → opened bytes ≡ a → a .outcome ≡ Done → Sound (a .study)
 answer-sound bytes opens done =
-    subst (λ (a : StudyAnswer). Sound (a .study)) opens (opened-sound bytes (ap (λ (a : StudyAnswer). a .outcome) opens ∙ done))
+    subst (λ (a : StudyAnswer). Sound (a .study)) opens (opened-sound bytes (ap (λ (a : StudyAnswer). outcomeTold (a .outcome)) opens ∙ ap outcomeTold done))

@@ -1,6 +1,7 @@
 pub mod Bounds
 pub mod CaseA
 pub mod Checked
+pub mod DrawnAccepted
 pub mod DrawnExamples
 pub mod DrawnTrees
 pub mod EditFinish
@@ -18,12 +19,14 @@ pub mod Reached
 pub mod Refusals
 pub mod RefusedOpening
 pub mod Repeats
+pub mod Report
 pub mod SameGates
 pub mod Saved
 pub mod SavedAlike
 pub mod SharedComponent
 pub mod Sorted
 pub mod Survival
+pub mod TreeReplaces
 pub mod TruthKept
 pub mod Unsound
 pub mod WorkedExamples

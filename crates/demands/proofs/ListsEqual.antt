@@ -17,7 +17,6 @@ use Rattle.rules.specs.Table.{roomFault}
 use Rattle.rules.proofs.Kept.{both-kept}
 use Rattle.rules.proofs.Rows.{room-kept}
 use Rattle.study.specs.declared.Study.{Study}
-use Rattle.answers.specs.Told.{listingTold}
 use Rattle.answers.proofs.Answered.{filled-done}
 use Rattle.entries.specs.Entries.{entryBytes, entryAt, entriesOf}
 use Rattle.entries.proofs.Entries.{entries-put}
@@ -111,7 +110,7 @@ put-holds m good {p} d list number room e =
 pub call-holds : (m : Meaning) (t : Study) (d : List ℕ) (p : ℕ) → ListedBy m t d p → Holds (modelOf m t) p (bufferListed m t d)
 unfolding bufferListed listFault
 call-holds m t d p answer =
-    let done = finished (listPaths m d) t (p ∷ []) (ap listingTold answer) in
+    let done = finished (listPaths m d) t (p ∷ []) answer in
     let count : length (pathList m t) ≡ p = cc in
     let need = length (joined (pathList m t)) in
     put-holds (modelOf m t) (meant-good m t (done .is-sound)) d (bufferListed m t d) (sym count)

@@ -32,16 +32,24 @@ use Rattle.paths.specs.Words.{fits}
 use Rattle.fault_tree.specs.Truth.{trueOnce, trueTests, trueGates, gateTrue, withTruth, gateTruths}
 use Rattle.fault_tree.proofs.GateTruths.{truths-long}
 use Rattle.fault_tree.specs.Classes.{lost, classBy, classOf}
+use Rattle.rules.specs.Table.{itemFault}
 use Rattle.rules.proofs.Kept.{list-kept}
-use Rattle.answers.specs.Told.{listingTold}
+use Rattle.rules.proofs.Rows.{item-kept}
 use Rattle.joint_states.specs.JointStates.{JointState}
+use Rattle.answers.specs.Told.{pairValues}
+use Rattle.probability.proofs.Exact.{exact-alike}
+use Rattle.accuracy.specs.Accuracy.{exactOf}
+use Rattle.study_model.specs.Model.{probabilitiesOf}
 use Rattle.drawn_tree.proofs.Judged.{no-load-beyond}
 use Rattle.drawn_tree.proofs.Leaves.{one-leaf-each}
 use Rattle.meaning.specs.Meaning.{Meaning, byGates, byTree, meaningFault, classMeant, modelOf}
 use Rattle.path_calls.specs.Listing.{bufferListed}
-use Rattle.demands.specs.Calls.{listPaths}
-use Rattle.demands.specs.Demand2.{isTrue, GatesAgree, LossGateTrue, LostIff, Tells, DrawnLostIff, ListedLosses}
+use Rattle.demands.specs.Calls.{listPaths, loadBounds}
+use Rattle.demands.specs.Demand2.{LossesMeant}
+use Rattle.demands.specs.Losses.{isTrue, GatesAgree, LossGateTrue, LostIff, Tells, DrawnLostIff, ListedLosses, SaysLoss}
 use Rattle.demands.specs.Listed.{pathsIn}
+use Rattle.demands.specs.Within.{exactLost, LossesWithinOf}
+use Rattle.demands.proofs.Bounds.{load-bounds-answered}
 use Rattle.demands.proofs.Finished.{finished}
 use Rattle.demands.proofs.Paths.{one-path}
 use Rattle.lists.proofs.Those.{only-one}
@@ -143,9 +151,48 @@ class-tells (byTree tree) t x kept joint = drawn-lost-iff t tree x kept joint
 
 pub listed-losses : ListedLosses
 listed-losses m t d p answer i h x j fits-path =
-    let done = finished (listPaths m d) t (p ∷ []) (ap listingTold answer) in
+    let done = finished (listPaths m d) t (p ∷ []) answer in
     let kept = list-kept (meaningFault m t) _ (done .none-behind) .left in
     let one = one-path m t d p answer x j in
     let inside : i < length (pathsIn m t d p) = omega (arith, entries-long (length (stateCounts t)) p (bufferListed m t d)) in
     let is = only-one (fits x) [] (pathsIn m t d p) (one .path) (one .only) i inside fits-path in
     subst (Tells m t x) (sym (ap (classBorne (length (stateCounts t))) is ∙ one .bears)) (class-tells m t x kept j)
+
+-- ---- over what the loss gate or the leaf says
+
+-- two truth values, each true where the other is
+both-ways : (a b : Bool) → (a ≡ true → b ≡ true) → (b ≡ true → a ≡ true) → a ≡ b
+both-ways true b there back = sym (there refl)
+both-ways false true there back = back refl
+both-ways false false there back = refl
+
+-- a test that says whether a load is lost agrees with its bit in the class
+says-bit : (m : Meaning) (t : Study) (j : ℕ) (test : List ℕ → Bool) → j < t .loads → meaningFault m t ≡ 0 → SaysLoss m t j test
+    → (x : List ℕ) → JointState (stateCounts t) x → bit (classMeant m t x) j ≡ test x
+unfolding modelOf
+says-bit byGates t j test inside kept says x joint =
+    let class = lost-iff t x in
+    both-ways _ (test x) (λ stands. says x joint .stands (class .lost j inside stands)) (λ told. class .stands j inside (says x joint .lost told))
+says-bit (byTree tree) t j test inside kept says x joint =
+    let leaf = drawn-lost-iff t tree x kept joint .leaf in
+    sym (says x joint (leaf .branch) _ (leaf .reaches))
+
+-- so both are over the same joint states
+exactly-lost : (m : Meaning) (t : Study) (j : ℕ) → j < t .loads → meaningFault m t ≡ 0 → (test : List ℕ → Bool) → SaysLoss m t j test
+    → exactLost (modelOf m t) j ≡ exactOf (modelOf m t) test
+unfolding modelOf
+exactly-lost m t j inside kept test says =
+    exact-alike (probabilitiesOf t) (stateCounts t) (λ (x : List ℕ). bit (classMeant m t x) j) test (says-bit m t j test inside kept says)
+
+pub losses-meant : LossesMeant
+losses-meant =
+    record {
+      exactly = exactly-lost;
+      within =
+          λ m t j pair told test says.
+          let behind = list-kept (itemFault (t .loads) j) _ (finished (loadBounds m j) t (pairValues pair) told .none-behind) in
+          let inside = item-kept (t .loads) j (behind .left) in
+          let kept = list-kept (meaningFault m t) [] (behind .right) .left in
+          subst (LossesWithinOf (modelOf m t) j (pair .lower) (pair .upper)) (exactly-lost m t j inside kept test says)
+          (load-bounds-answered m t j pair told);
+    }

@@ -1,13 +1,13 @@
 -- Which numbers a first breach can be: each row of the refusal table is its number or none, and the first of several is one of them.
 use Prim.Native.Nat.{ℕ}
 use mathlib.Core.Path.{_≡_, refl}
-use mathlib.Core.Bool.{Bool, true, false, _||_, cond}
+use mathlib.Core.Bool.{Bool, true, false, _||_, cond, or-true}
 use mathlib.Core.List.{List, [], _∷_, _++_}
 use mathlib.Core.Logic.{inl, inr}
 use lib.Dec.{eqb}
 use borrow.Author.Tests.{eq-eqb}
+use Rattle.lists.specs.OneOf.{OneOf}
 use Rattle.rules.specs.Breach.{refuse, first, firstBreach, unlessAbsent}
-use Rattle.demands.specs.Demand1.{OneOf}
 
 -- none, or one of these numbers
 abbrev pub NoneOr : List ℕ → ℕ → Type 0
@@ -50,10 +50,6 @@ among (k ∷ ks) n = eqb n k || among ks n
 pub one-among : (numbers : List ℕ) (n : ℕ) → OneOf numbers n → among numbers n ≡ true
 one-among (k ∷ ks) n (inl here) = rw (eq-eqb n k here)
 one-among (k ∷ ks) n (inr there) = rw (one-among ks n there) (or-true (eqb n k))
-  where
-    or-true : (b : Bool) → (b || true) ≡ true
-    or-true true = refl
-    or-true false = refl
 
 -- one of the numbers of a part is one of all
 pub one-left : (front behind : List ℕ) (n : ℕ) → OneOf front n → OneOf (front ++ behind) n

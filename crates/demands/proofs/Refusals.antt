@@ -3,7 +3,7 @@
 use Prim.Native.Nat.{ℕ}
 use mathlib.Core.Path.{_≡_, refl, ap, _∙_}
 use mathlib.Core.List.{List, [], _∷_}
-use lib.ListN.{getD}
+use lib.ListN.{length, getD, take}
 use Rattle.rules.specs.Breach.{firstBreach}
 use Rattle.study.specs.declared.Study.{Study}
 use Rattle.answers.specs.Answered.{filled}
@@ -13,7 +13,7 @@ use Rattle.answers.specs.declared.counts.CountAnswer.the-variants.{Refused as N
 use Rattle.answers.specs.declared.counts.Listing.the-variants.{Refused as NotListed}
 use Rattle.answers.specs.declared.figures.FiguresAnswer.the-variants.{Refused as NoFigures}
 use Rattle.answers.specs.declared.outcome.Outcome.the-variants.{Refused}
-use Rattle.answers.proofs.Answered.{answered-tells, some-breach, filled-refused, filled-behind}
+use Rattle.answers.proofs.Answered.{answered-tells, no-breach, some-breach, filled-refused, filled-taken, filled-behind}
 use Rattle.writing.specs.Saving.{writeFault, studyWritten, bufferWritten}
 use Rattle.path_calls.specs.Bounds.{pairBreach, pathsBounded, classesBounded}
 use Rattle.path_calls.specs.Listing.{listFault, pathsListed, bufferListed}
@@ -25,7 +25,7 @@ use Rattle.words.specs.Words.{refusalWord}
 use Rattle.report_text.specs.Report.{reportText}
 use Rattle.demands.specs.Calls.{Call, anEdit, listPaths, pathBounds, classBounds, loadBounds, figures, writeStudy}
 use Rattle.demands.specs.Calls.{callTold, callBreaches, callValues, studyAfter, Lent, callLent}
-use Rattle.demands.specs.Demand1.{OfEach, Kept, KeptBehind, Refuses, CallsRefuse, TextRefuses, TextsRefuse}
+use Rattle.demands.specs.Demand1.{OfEach, Kept, FrontFilled, KeptBehind, Refuses, CallsRefuse, TextRefuses, TextsRefuse}
 use Rattle.demands.proofs.Edited.{edit-tells, edit-kept}
 
 -- ---- any call
@@ -38,12 +38,17 @@ of-each : (P Q : Lent → Type 0) → ((l : Lent) → P l → Q l) → (ls : Lis
 of-each P Q on [] h = tt
 of-each P Q on (l ∷ ls) h = (on l (h .0), of-each P Q on ls (h .1))
 
+-- without one its front is the result
+front-of : {breach : ℕ} (l : Lent) → FilledBy breach l → breach ≡ 0 → FrontFilled l
+front-of {breach} l fill none = ap (take (length (l .result))) fill ∙ filled-taken breach (l .result) (l .before) none
+
 pub refuses : {told : Told} (breaches values : List ℕ) (lent : List Lent) → told ≡ tells (firstBreach breaches) values
     → OfEach (FilledBy (firstBreach breaches)) lent → Refuses told breaches values lent
 refuses breaches values lent is fills =
     record {
       answer = is;
       kept = λ n refused. of-each _ Kept (λ l fill. fill ∙ filled-refused _ (l .result) (l .before) (some-breach _ values n is refused)) lent fills;
+      front = λ others done. of-each _ FrontFilled (λ l fill. front-of l fill (no-breach _ values others is done)) lent fills;
       behind = of-each _ KeptBehind (λ l fill k h. ap (λ (s : List ℕ). getD s k 0) fill ∙ filled-behind _ (l .result) (l .before) k h) lent fills;
     }
 

@@ -12,6 +12,7 @@ use Rattle.study.specs.Zero.{zeroStudy}
 use Rattle.gate_order.specs.Order.{ordered}
 use Rattle.answers.specs.Answered.{answered}
 use Rattle.answers.specs.declared.outcome.Outcome.the-variants.{Done, Refused}
+use Rattle.answers.proofs.Told.{refused-told}
 use Rattle.reading.specs.Reader.{Read, refused, got}
 use Rattle.soundness.specs.Sound.{Sound}
 use Rattle.opening.specs.Opening.{study, refusedOpening, answer, opened}
@@ -36,4 +37,4 @@ no-components s = omega (arith, s .components)
 
 pub refused-opening : RefusedOpening
 unfolding opened
-refused-opening = record { zeros = λ bytes n is. refused-zeros (study bytes) n is; unsound = no-components }
+refused-opening = record { zeros = λ bytes n told. refused-zeros (study bytes) n (refused-told _ n told); unsound = no-components }

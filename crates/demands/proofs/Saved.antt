@@ -1,10 +1,9 @@
--- What is written opens to that very study, and nothing shorter does. What carries it: the reader gives back the study whose bytes it is handed and takes no
+-- What is written saves that very study, and nothing shorter opens to it. What carries it: the reader gives back the study whose bytes it is handed and takes no
 -- fewer bytes than are written (`round_trip`); a sound study is in order already; and order changes no length.
 use Prim.Native.Nat.{ℕ, suc, _+_, _<_, _≤_}
 use mathlib.Core.Path.{_≡_, refl, sym, ap, subst, _∙_}
 use mathlib.Core.Bool.{Bool, true, false, cond}
 use mathlib.Core.List.{List, [], _∷_, _++_, append-nil}
-use native.Mathlib.Decide.{decLt}
 use native.Mathlib.Omega.{arith}
 use lib.Dec.{eqb}
 use lib.ListN.{length, take, length-map, length-append}
@@ -23,39 +22,37 @@ use Rattle.study.specs.Places.{Shaped, noGate, gateAt}
 use Rattle.study_bytes.specs.Written.{field, recordBytes, testBytes, inputBytes, testsBytes, inputsBytes, gateFields, gateBytes}
 use Rattle.study_bytes.specs.Written.{componentsBytes, gatesBytes, loadsBytes, studyBytes}
 use Rattle.gate_order.specs.Order.{inOrder, ordered}
-use Rattle.gate_order.proofs.Checked.{none-ordered}
 use Rattle.gate_order.proofs.InOrder.{in-order-still}
 use Rattle.answers.specs.Answered.{answered}
-use Rattle.answers.specs.Told.{countTold}
-use Rattle.answers.specs.declared.counts.CountAnswer.the-variants.{Count}
+use Rattle.answers.specs.Told.{result, outcomeTold}
 use Rattle.answers.specs.declared.outcome.Outcome.the-variants.{Done}
 use Rattle.answers.specs.declared.outcome.StudyAnswer.{StudyAnswer}
 use Rattle.answers.proofs.Answered.{filled-done}
+use Rattle.answers.proofs.Told.{done-told}
 use Rattle.reading.specs.Reader.{Read, refused, got}
 use Rattle.soundness.specs.Sound.{Sound}
 use Rattle.soundness.proofs.Ranges.{gates-most}
+use Rattle.opening.specs.Laws.{IsOpened}
 use Rattle.opening.specs.Opening.{study, given, asGiven, answer, opened}
 use Rattle.opening.proofs.Answers.{is-refused, left, not-both}
 use Rattle.opening.proofs.Opened.Order.{Given, ordered-gate}
-use Rattle.opening.proofs.Opened.Study.{opened-sound, opened-shaped, opened-given, opened-ordered}
+use Rattle.opening.proofs.Opened.Study.{opened-sound, opened-given, opened-ordered}
 use Rattle.round_trip.proofs.Back.Study.{study-back}
 use Rattle.round_trip.proofs.Costs.Study.{study-costs}
-use Rattle.writing.specs.Saving.{writeFault, studyWritten, bufferWritten}
+use Rattle.writing.specs.Saving.{writeFault, bufferWritten}
 use Rattle.writing.proofs.Longest.{study-size}
-use Rattle.demands.specs.Calls.{writeStudy}
-use Rattle.demands.specs.Saving.{OpensTo, WrittenOpens, SoundIffOpens, Shortest}
+use Rattle.demands.specs.Calls.{writeStudy, callTold}
+use Rattle.demands.specs.Edits.{Reached, opened as is-opened}
+use Rattle.demands.specs.Saving.{AllInOrder, Saves, WrittenOpens, ReachedIffOpens, Shortest, AllPlaces}
 use Rattle.demands.proofs.Finished.{finished}
 use Rattle.demands.proofs.Reached.{reached-sound, reached-shaped}
-use Rattle.demands.proofs.Sorted.{sound-given, sound-fits, opened-same}
+use Rattle.demands.proofs.Sorted.{sound-given, sound-fits, sound-in-order, opened-same, only-sorted}
 
 -- ---- a sound study is in order already
 
 module _ (t : Study) (shaped : Shaped t) (s : Sound t) where
-  gate-still : (i : ℕ) → i < mostGates → Dec (i < t .gates) → inOrder (gateAt t i) ≡ gateAt t i
-  gate-still i inside (yes used) = in-order-still (gateAt t i) (sound-fits t s shaped i inside) (s .order i used)
-  gate-still i inside (no unused) =
-      let u = s .no-gate i (omega arith) inside in
-      in-order-still (gateAt t i) (sound-fits t s shaped i inside) (none-ordered (gateAt t i) (u .tests) (u .gates))
+  gate-still : (i : ℕ) → i < mostGates → inOrder (gateAt t i) ≡ gateAt t i
+  gate-still i inside = in-order-still (gateAt t i) (sound-fits t s shaped i inside) (sound-in-order t s shaped i inside .0)
 
   still : ordered t ≡ t
   unfolding ordered
@@ -64,50 +61,63 @@ module _ (t : Study) (shaped : Shaped t) (s : Sound t) where
       ext-getD noGate (ordered t .gate) (t .gate) (length-map (t .gate) inOrder)
       (λ i h.
       let inside : i < mostGates = omega (arith, h, length-map (t .gate) inOrder, shaped .gates) in
-      ordered-gate t (sound-given t s shaped) i inside ∙ gate-still i inside (decLt i (t .gates))) in
+      ordered-gate t (sound-given t s shaped) i inside ∙ gate-still i inside) in
       λ i.
       record { components = t .components; gates = t .gates; loads = t .loads; component = t .component; gate = gate i; load = t .load }
 
-  -- so its bytes, read back whole, open to it
-  bytes-open : OpensTo (studyBytes t) t
+  -- so its bytes, which are read back whole, save it
+  read-back : study (studyBytes t) ≡ got t []
+  read-back = ap study (sym (append-nil (studyBytes t))) ∙ study-back t shaped s []
+
+  bytes-open : opened (studyBytes t) ≡ record { outcome = Done; study = t }
   unfolding opened answer answered refuse
-  bytes-open =
-      ap (λ (bytes : List ℕ). opened bytes) (sym (append-nil (studyBytes t)))
-      ∙ ap answer (study-back t shaped s [])
-      ∙ ap (λ (u : Study). record { outcome = Done; study = u }) still
+  bytes-open = ap answer read-back ∙ ap (λ (u : Study). record { outcome = Done; study = u }) still
+
+  bytes-give : asGiven (studyBytes t) ≡ t
+  unfolding asGiven given
+  bytes-give = ap given read-back
+
+  bytes-save : Saves (studyBytes t) t
+  bytes-save =
+      record {
+        opens =
+            record {
+              told = ap (λ (a : StudyAnswer). outcomeTold (a .outcome)) bytes-open;
+              study = ap (λ (a : StudyAnswer). a .study) bytes-open;
+            };
+        as-given = bytes-give;
+        in-order = subst AllInOrder (sym bytes-give) (sound-in-order t s shaped);
+      }
 
 -- what a call that was not refused left in the buffer
-written-front : (t : Study) (buffer : List ℕ) (n : ℕ) → studyWritten t buffer ≡ Count n → take n (bufferWritten t buffer) ≡ studyBytes t
+written-front : (t : Study) (buffer : List ℕ) (n : ℕ) → callTold (writeStudy buffer) t ≡ result (n ∷ []) → take n (bufferWritten t buffer) ≡ studyBytes t
 unfolding bufferWritten writeFault put
 written-front t buffer n told =
-    let done = finished (writeStudy buffer) t (n ∷ []) (ap countTold told) in
+    let done = finished (writeStudy buffer) t (n ∷ []) told in
     let long : length (studyBytes t) ≡ n = cc (done .are) in
     ap (take n) (filled-done _ (studyBytes t) buffer (done .none)) ∙ take-at (studyBytes t) _ n long
+
+-- saves it too
+written-save : (t : Study) → Shaped t → (buffer : List ℕ) (n : ℕ) → callTold (writeStudy buffer) t ≡ result (n ∷ []) → Saves (take n (bufferWritten t buffer)) t
+written-save t shaped buffer n told =
+    subst (λ (bytes : List ℕ). Saves bytes t) (sym (written-front t buffer n told))
+    (bytes-save t shaped (finished (writeStudy buffer) t (n ∷ []) told .is-sound))
 
 pub written-opens : WrittenOpens
 written-opens =
     record {
-      due = bytes-open;
-      written =
-          λ t shaped buffer n told.
-          ap opened (written-front t buffer n told) ∙ bytes-open t shaped (finished (writeStudy buffer) t (n ∷ []) (ap countTold told) .is-sound);
-      reached = λ t reached. bytes-open t (reached-shaped t reached) (reached-sound t reached);
+      due = λ t reached. bytes-save t (reached-shaped t reached) (reached-sound t reached);
+      written = λ t reached. written-save t (reached-shaped t reached);
     }
 
--- ---- sound exactly when some bytes open to it
+pub all-places : AllPlaces
+all-places = record { reached = reached-shaped; saves = bytes-save; written = written-save; sorted = only-sorted }
 
-is-done : (bytes : List ℕ) {t : Study} → OpensTo bytes t → opened bytes .outcome ≡ Done
-is-done bytes opens = ap (λ (a : StudyAnswer). a .outcome) opens
-
-is-study : (bytes : List ℕ) {t : Study} → OpensTo bytes t → opened bytes .study ≡ t
-is-study bytes opens = ap (λ (a : StudyAnswer). a .study) opens
-
-pub sound-iff-opens : SoundIffOpens
-sound-iff-opens =
+pub reached-iff-opens : ReachedIffOpens
+reached-iff-opens =
     record {
-      opens = λ t shaped s. record { bytes = studyBytes t; opens = bytes-open t shaped s };
-      is-sound = λ t o. subst Sound (is-study (o .bytes) (o .opens)) (opened-sound (o .bytes) (is-done (o .bytes) (o .opens)));
-      is-shaped = λ t o. subst Shaped (is-study (o .bytes) (o .opens)) (opened-shaped (o .bytes));
+      opens = λ t reached. record { bytes = studyBytes t; opens = written-opens .due t reached .opens };
+      reached = λ t o. subst Reached (o .opens .study) (is-opened (o .bytes) (o .opens .told));
     }
 
 -- ---- no fewer bytes
@@ -163,18 +173,18 @@ read-whole (refused n) done = absurd (not-both n (cc (is-refused n)))
 read-whole (got t []) done = refl
 read-whole (got t (b ∷ rest)) done = absurd (not-both 15 (cc (left t b rest)))
 
-fewest : (bytes : List ℕ) → opened bytes .outcome ≡ Done → length (studyBytes (opened bytes .study)) ≤ length bytes
+fewest : (bytes : List ℕ) → IsOpened bytes → length (studyBytes (opened bytes .study)) ≤ length bytes
 unfolding opened asGiven
 fewest bytes done =
     let t = asGiven bytes in
     let few : t .gates ≤ mostGates = omega (arith, opened-same bytes done .gates, gates-most (opened bytes .study) (opened-sound bytes done)) in
-    let costs = study-costs bytes t [] (read-whole (study bytes) done) in
+    let costs = study-costs bytes t [] (read-whole (study bytes) (done-told _ done)) in
     let long = ap (λ (u : Study). length (studyBytes u)) (opened-ordered bytes done) ∙ ordered-long t (opened-given bytes done) few in
     omega (arith, costs, long)
 
 pub shortest : Shortest
 shortest =
     record {
-      fewest = λ bytes t opens. subst (λ (u : Study). length (studyBytes u) ≤ length bytes) (is-study bytes opens) (fewest bytes (is-done bytes opens));
+      fewest = λ bytes t opens. subst (λ (u : Study). length (studyBytes u) ≤ length bytes) (opens .study) (fewest bytes (opens .told));
       longest = study-size;
     }

@@ -5,24 +5,24 @@ use mathlib.Core.List.{List}
 use Prim.Native.Nat.{ℕ}
 use Rattle.study.specs.declared.Study.{Study}
 use Rattle.study_bytes.specs.Written.{studyBytes}
-use Rattle.answers.specs.declared.outcome.Outcome.the-variants.{Done}
-use Rattle.answers.specs.declared.outcome.StudyAnswer.{StudyAnswer}
+use Rattle.opening.specs.Laws.{IsOpened}
 use Rattle.opening.specs.Opening.{asGiven, opened}
-use Rattle.opening.proofs.Opened.Study.{opened-sound, opened-shaped}
+use Rattle.opening.proofs.Opened.Study.{opened-shaped}
+use Rattle.demands.specs.Edits.{opened as is-opened}
 use Rattle.demands.specs.Saving.{SameButOrder, SavesAlike}
 use Rattle.demands.proofs.Saved.{written-opens}
-use Rattle.demands.proofs.Sorted.{opened-sorted, opened-same, opened-in-order, but-order-sym, but-order-trans}
+use Rattle.demands.proofs.Sorted.{opened-same, opened-in-order, but-order-sym, but-order-trans, only-sorted}
 
-module _ (a b : List ℕ) (done : opened a .outcome ≡ Done) (done′ : opened b .outcome ≡ Done) where
+module _ (a b : List ℕ) (done : IsOpened a) (done′ : IsOpened b) where
   same-study : SameButOrder (asGiven a) (asGiven b) → opened a .study ≡ opened b .study
   same-study same =
-      opened-sorted b done′ .no-other (opened a .study) (opened-shaped a) (but-order-trans (opened-same a done) same) (opened-in-order a done)
+      only-sorted b done′ (opened a .study) (opened-shaped a) (but-order-trans (opened-same a done) same) (opened-in-order a done)
 
   no-others : studyBytes (opened a .study) ≡ studyBytes (opened b .study) → SameButOrder (asGiven a) (asGiven b)
   no-others alike =
-      let back = written-opens .due (opened a .study) (opened-shaped a) (opened-sound a done) in
-      let back′ = written-opens .due (opened b .study) (opened-shaped b) (opened-sound b done′) in
-      let one : opened a .study ≡ opened b .study = ap (λ (r : StudyAnswer). r .study) (sym back ∙ ap opened alike ∙ back′) in
+      let back = written-opens .due (opened a .study) (is-opened a done) .opens .study in
+      let back′ = written-opens .due (opened b .study) (is-opened b done′) .opens .study in
+      let one : opened a .study ≡ opened b .study = sym back ∙ ap (λ (bytes : List ℕ). opened bytes .study) alike ∙ back′ in
       but-order-trans (but-order-sym (opened-same a done))
       (subst (λ (t : Study). SameButOrder t (asGiven b)) (sym one) (opened-same b done′))
 

@@ -19,15 +19,17 @@ use Rattle.study.specs.Joint.{stateCounts}
 use Rattle.study.specs.Places.{Shaped, noGate, gateAt}
 use Rattle.gate_order.specs.Inputs.{testsOf, gateInputsOf}
 use Rattle.gate_order.specs.Order.{InOrder, inOrder, ordered}
+use Rattle.gate_order.proofs.Checked.{none-ordered}
 use Rattle.gate_order.proofs.InOrder.{Fits, unmasked-none, tests-long, tests-alike, gate-inputs-alike}
 use Rattle.gate_order.proofs.Kept.{test-at}
-use Rattle.answers.specs.declared.outcome.Outcome.the-variants.{Done}
 use Rattle.soundness.specs.Sound.{ZeroBehind, Sound}
 use Rattle.soundness.proofs.Ranges.{counts-few, count-most, test-component}
+use Rattle.opening.specs.Laws.{IsOpened}
 use Rattle.opening.specs.Opening.{asGiven, opened}
-use Rattle.opening.proofs.Opened.Order.{Given, gate-fits, ordered-gate, ordered-order}
+use Rattle.opening.proofs.Opened.Order.{Given, gate-fits, ordered-gate}
 use Rattle.opening.proofs.Opened.Study.{opened-sound, opened-shaped, opened-given, opened-ordered}
 use Rattle.demands.specs.Saving.{SameInputs, SameButOrder, AllInOrder, OpenedSorted}
+use Rattle.demands.proofs.Reached.{reached-shaped}
 use Rattle.demands.proofs.SameGates.{same-gate}
 
 -- ---- the same inputs
@@ -77,6 +79,19 @@ module _ (t : Study) (s : Sound t) (shaped : Shaped t) where
       go : Dec (i < t .gates) → ZeroBehind (gateAt t i)
       go (yes used) = s .gate i used .behind
       go (no unused) = s .no-gate i (omega arith) inside .behind
+
+  -- each gate stands in order: one in use by its rule, and any other since it has no inputs
+  gate-in-order : (i : ℕ) → i < mostGates → InOrder (gateAt t i)
+  gate-in-order i inside = go (decLt i (t .gates))
+    where
+      go : Dec (i < t .gates) → InOrder (gateAt t i)
+      go (yes used) = s .order i used
+      go (no unused) =
+          let u = s .no-gate i (omega arith) inside in
+          none-ordered (gateAt t i) (u .tests) (u .gates)
+
+  pub sound-in-order : AllInOrder t
+  sound-in-order i inside = (gate-in-order i inside, zero-behind i inside)
 
   -- the mask of a test has a bit for each of four states at most
   mask-byte : (i : ℕ) → i < t .gates → (j : ℕ) → j < gateAt t i .tests → getD (gateAt t i .mask) j 0 < 256
@@ -138,7 +153,7 @@ module _ (t : Study) (s : Sound t) (shaped : Shaped t) where
 
 -- ---- opening
 
-module _ (bytes : List ℕ) (done : opened bytes .outcome ≡ Done) where
+module _ (bytes : List ℕ) (done : IsOpened bytes) where
   given-fits : (i : ℕ) → i < mostGates → Fits (gateAt (asGiven bytes) i)
   given-fits = gate-fits (asGiven bytes) (opened-given bytes done)
 
@@ -162,12 +177,7 @@ module _ (bytes : List ℕ) (done : opened bytes .outcome ≡ Done) where
       }
 
   pub opened-in-order : AllInOrder (opened bytes .study)
-  opened-in-order i inside =
-      let t = opened bytes .study in
-      let s = opened-sound bytes done in (
-        subst (λ (u : Study). InOrder (gateAt u i)) (sym (opened-ordered bytes done)) (ordered-order (asGiven bytes) (opened-given bytes done) i inside),
-        zero-behind t s (opened-shaped bytes) i inside,
-      )
+  opened-in-order = sound-in-order (opened bytes .study) (opened-sound bytes done) (opened-shaped bytes)
 
 -- two studies that are the same but for order as a third is
 pub but-order-sym : {t u : Study} → SameButOrder t u → SameButOrder u t
@@ -192,13 +202,16 @@ but-order-trans s r =
       gate = λ i inside. inputs-trans (s .gate i inside) (r .gate i inside);
     }
 
+-- no other study is in order and the same but for order, of any shape that a study can have
+pub only-sorted : (bytes : List ℕ) → IsOpened bytes → (t : Study) → Shaped t → SameButOrder t (asGiven bytes) → AllInOrder t → t ≡ opened bytes .study
+only-sorted bytes done t shaped same order =
+    same-study (opened bytes .study) (opened-sound bytes done) (opened-shaped bytes) (opened-in-order bytes done) t shaped order
+    (but-order-trans same (but-order-sym (opened-same bytes done)))
+
 pub opened-sorted : OpenedSorted
 opened-sorted bytes done =
     record {
       same = opened-same bytes done;
       in-order = opened-in-order bytes done;
-      no-other =
-          λ t shaped same order.
-          same-study (opened bytes .study) (opened-sound bytes done) (opened-shaped bytes) (opened-in-order bytes done) t shaped order
-          (but-order-trans same (but-order-sym (opened-same bytes done)));
+      no-other = λ t reached. only-sorted bytes done t (reached-shaped t reached);
     }

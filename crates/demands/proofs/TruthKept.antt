@@ -1,6 +1,5 @@
 -- Order changes no truth: opening keeps the inputs of each gate (`opened-sorted`), and so their set, by which a gate votes (`repeats-count-once`).
 use Prim.Native.Nat.{ℕ, _<_}
-use mathlib.Core.Path.{_≡_}
 use mathlib.Core.List.{List}
 use native.Mathlib.Omega.{arith}
 use Rattle.ordering.proofs.Sets.{alike-set}
@@ -8,7 +7,7 @@ use Rattle.rules.specs.Limits.{mostGates}
 use Rattle.study.specs.declared.Gate.{Gate}
 use Rattle.study.specs.Places.{gateAt}
 use Rattle.soundness.proofs.Ranges.{gates-most}
-use Rattle.answers.specs.declared.outcome.Outcome.the-variants.{Done}
+use Rattle.opening.specs.Laws.{IsOpened}
 use Rattle.opening.specs.Opening.{asGiven, opened}
 use Rattle.opening.proofs.Opened.Study.{opened-sound}
 use Rattle.demands.specs.Repeats.{SameVote, SameButRepeats}
@@ -20,7 +19,7 @@ use Rattle.demands.proofs.Sorted.{opened-same}
 inputs-vote : (g h : Gate) → SameInputs g h → SameVote g h
 inputs-vote g h same = record { threshold = same .threshold; tests = alike-set _ _ (same .same-tests); gate-inputs = alike-set _ _ (same .same-gate-inputs) }
 
-module _ (bytes : List ℕ) (done : opened bytes .outcome ≡ Done) where
+module _ (bytes : List ℕ) (done : IsOpened bytes) where
   gate-votes : (i : ℕ) → i < mostGates → SameVote (gateAt (opened bytes .study) i) (gateAt (asGiven bytes) i)
   gate-votes i inside = inputs-vote _ _ (opened-same bytes done .gate i inside)
 

@@ -8,6 +8,7 @@ use mathlib.Core.Logic.{inl, inr}
 use native.Mathlib.Omega.{arith}
 use lib.Dec.{eqb}
 use borrow.Author.Tests.{eqb-true, eqb-false}
+use Rattle.lists.specs.OneOf.{OneOf}
 use Rattle.rules.specs.Breach.{refuse, firstBreach}
 use Rattle.rules.specs.Table.{unsoundFault}
 use Rattle.rules.proofs.Kept.{front-kept, front-broken}
@@ -24,9 +25,9 @@ use Rattle.meaning.specs.Meaning.{Meaning, byGates, byTree, meaningFault}
 use Rattle.path_calls.specs.Bounds.{pairFault}
 use Rattle.demands.specs.Calls.{Call, anEdit, listPaths, pathBounds, classBounds, loadBounds, figures, writeStudy}
 use Rattle.demands.specs.Calls.{callTold, callBreaches, callValues, meaningNumbers, numbersBehind}
-use Rattle.demands.specs.Demand1.{OneOf, UnsoundRefused, NumbersListed}
+use Rattle.demands.specs.Demand1.{UnsoundRefused, NumbersListed}
 use Rattle.demands.specs.Edits.{probabilities, customers, minutes}
-use Rattle.demands.proofs.Finished.{behind, headed}
+use Rattle.demands.proofs.Finished.{behind, headed, finished}
 use Rattle.demands.proofs.OneOf.{NoneOr, of-refuse, of-unless, of-none, of-more, among, one-among, one-right, more-left, more-before}
 use Rattle.demands.proofs.Refusals.{calls-refuse}
 
@@ -51,7 +52,7 @@ of-item n lacks broken =
     of-more numbers _ _ (of-refuse numbers 17 lacks (inl refl)) (of-more numbers _ [] (of-refuse numbers n broken (inr (inl refl))) (of-none numbers))
 
 -- 18 for either of two slices
-of-pair : (numbers : List ℕ) (need lower upper : ℕ) → OneOf numbers 18 → NoneOr numbers (pairFault need lower upper)
+pub of-pair : (numbers : List ℕ) (need lower upper : ℕ) → OneOf numbers 18 → NoneOr numbers (pairFault need lower upper)
 unfolding pairFault
 of-pair numbers need lower upper here =
     of-more numbers _ _ (of-refuse numbers 18 _ here) (of-more numbers _ [] (of-refuse numbers 18 _ here) (of-none numbers))
@@ -142,7 +143,7 @@ no-other c t told s =
     not-sixteen c (subst (OneOf (0 ∷ numbersBehind c)) behind-it (numbers-behind c t))
 
 pub unsound-refused : UnsoundRefused
-unsound-refused = record { sixteen = sixteen; no-other = no-other }
+unsound-refused = record { sixteen = sixteen; no-other = no-other; told-sound = λ c t values told. finished c t values told .is-sound }
 
 -- ---- the numbers of each call
 

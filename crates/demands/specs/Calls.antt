@@ -29,6 +29,22 @@ pub data Call : Type 0 where
   figures : Meaning → Call
   writeStudy : List ℕ → Call
 
+-- what can be asked under a meaning, by gates or by a drawn tree alike: the list, with a buffer; the bounds of paths and of classes, with two slices; those
+-- of a load; the figures
+pub data Question : Type 0 where
+  paths : List ℕ → Question
+  boundsOfPaths : List ℕ → List ℕ → Question
+  boundsOfClasses : List ℕ → List ℕ → Question
+  boundsOfLoad : ℕ → Question
+  allFigures : Question
+
+abbrev pub ask : Meaning → Question → Call
+ask m (paths buffer) = listPaths m buffer
+ask m (boundsOfPaths lower upper) = pathBounds m lower upper
+ask m (boundsOfClasses lower upper) = classBounds m lower upper
+ask m (boundsOfLoad j) = loadBounds m j
+ask m allFigures = figures m
+
 -- what its answer tells
 abbrev pub callTold : Call → Study → Told
 callTold (anEdit e) t = outcomeTold (edit e t .outcome)

@@ -1,24 +1,23 @@
 -- Demand 1, refusals: what is refused and what is not, over the definitions that the contracts of the public calls cite.
-use Prim.Native.Nat.{ℕ, _+_, _≤_}
+use Prim.Native.Nat.{ℕ, _≤_}
 use mathlib.Core.Path.{_≡_}
 use mathlib.Core.Bool.{true}
 use mathlib.Core.List.{List, [], _∷_}
-use mathlib.Core.Logic.{_⊎_}
 use lib.ListN.{length, getD, take}
+use Rattle.lists.specs.OneOf.{OneOf}
 use Rattle.rules.specs.Breach.{firstBreach}
-use Rattle.rules.specs.Limits.{longestStudy}
 use Rattle.rules.specs.Table.{roomFault}
-use Rattle.answers.specs.Told.{Told, refusal, tells, countTold}
-use Rattle.answers.specs.declared.outcome.Outcome.the-variants.{Done, Refused}
+use Rattle.answers.specs.Told.{Told, result, refusal, tells, countTold}
 use Rattle.study.specs.declared.Study.{Study}
 use Rattle.study.specs.Zero.{zeroStudy}
 use Rattle.soundness.specs.Sound.{Sound}
 use Rattle.soundness.specs.Check.{sound}
+use Rattle.opening.specs.Laws.{IsRefused}
 use Rattle.opening.specs.Opening.{opened}
 use Rattle.lent_text.specs.Lent.{reported, written}
 use Rattle.words.specs.Words.{refusalWord}
 use Rattle.report_text.specs.Report.{reportText}
-use Rattle.demands.specs.Calls.{Call, callTold, callBreaches, callValues, numbersBehind, studyAfter, Lent, callLent}
+use Rattle.demands.specs.Calls.{Call, anEdit, callTold, callBreaches, callValues, numbersBehind, studyAfter, Lent, callLent}
 use Rattle.demands.specs.Edits.{Edit, edit, changed, HasItem, Reached, after, tableOf, tableAfter, othersOf}
 
 -- ---- opening
@@ -30,7 +29,7 @@ pub record CheckDecides : Type 0 where
 
 -- A refused opening returns a study of zeros, which is itself unsound.
 pub record RefusedOpening : Type 0 where
-  pub zeros : (bytes : List ℕ) (n : ℕ) → opened bytes .outcome ≡ Refused n → opened bytes .study ≡ zeroStudy
+  pub zeros : (bytes : List ℕ) (n : ℕ) → IsRefused bytes n → opened bytes .study ≡ zeroStudy
   pub unsound : Sound zeroStudy → ⊥
 
 -- An opening that is not refused returns a sound study.
@@ -50,19 +49,6 @@ pub record LongestStudy : Type 0 where
   pub law : Rattle.opening.specs.Laws.LongestStudy
   pub reached : Rattle.opening.specs.Longest.LongestOpens
 
--- So the report of an input is that of its first 2,024 bytes, and a program need read no more.
-abbrev pub InputCut : Type 0
-InputCut = (bytes : List ℕ) → reportText (take (longestStudy + 1) bytes) ≡ reportText bytes
-
--- ---- drawn trees
-
--- A drawn tree is refused by the first breach met from the left, by the numbers 20 to 22 and by no other; one that is not refused has the bytes that were
--- given, all of them.
-pub record DrawnReads : Type 0 where
-  pub first-breach : Rattle.drawn_tree.specs.Laws.DrawnReads
-  pub numbers : Rattle.drawn_tree.specs.Laws.DrawnRows
-  pub bytes : Rattle.drawn_tree.specs.Laws.ReadsBack
-
 -- ---- every call
 
 -- P holds of everything that was lent
@@ -73,15 +59,20 @@ OfEach P (l ∷ ls) = P l × OfEach P ls
 abbrev pub Kept : Lent → Type 0
 Kept l = l .after ≡ l .before
 
+-- its front is the result
+abbrev pub FrontFilled : Lent → Type 0
+FrontFilled l = take (length (l .result)) (l .after) ≡ l .result
+
 -- nothing changes behind what fills its front
 abbrev pub KeptBehind : Lent → Type 0
 KeptBehind l = (k : ℕ) → length (l .result) ≤ k → getD (l .after) k 0 ≡ getD (l .before) k 0
 
 -- A call with these breaches and these values tells the number of the first breach, exactly, or where there is none the values; refused, every lent
--- place holds what it held; refused or not, nothing changes behind what it writes.
+-- place holds what it held; not refused, the front of each lent slice is its result; refused or not, nothing changes behind what it writes.
 pub record Refuses (told : Told) (breaches values : List ℕ) (lent : List Lent) : Type 0 where
   pub answer : told ≡ tells (firstBreach breaches) values
   pub kept : (n : ℕ) → told ≡ refusal n → OfEach Kept lent
+  pub front : (others : List ℕ) → told ≡ result others → OfEach FrontFilled lent
   pub behind : OfEach KeptBehind lent
 
 -- So it is of every later call; and refused, the caller has the study that was handed in.
@@ -100,15 +91,11 @@ pub record TextsRefuse : Type 0 where
   pub report : (bytes buffer : List ℕ) → TextRefuses (reportText bytes) buffer
   pub word : (number : ℕ) (buffer : List ℕ) → TextRefuses (refusalWord number) buffer
 
--- Every later call refuses a study that is not sound by 16, and by 16 no other.
+-- Every later call refuses a study that is not sound by 16, and by 16 no other; so one that told values had a sound study.
 pub record UnsoundRefused : Type 0 where
   pub sixteen : (c : Call) (t : Study) → (Sound t → ⊥) → callTold c t ≡ refusal 16
   pub no-other : (c : Call) (t : Study) → callTold c t ≡ refusal 16 → Sound t → ⊥
-
--- n is one of a list of numbers
-abbrev pub OneOf : List ℕ → ℕ → Type 0
-OneOf [] n = ⊥
-OneOf (k ∷ ks) n = (n ≡ k) ⊎ OneOf ks n
+  pub told-sound : (c : Call) (t : Study) (values : List ℕ) → callTold c t ≡ result values → Sound t
 
 -- A later call is refused by the numbers that documents 01 and 02 list for it, and by no other.
 abbrev pub NumbersListed : Type 0
@@ -118,7 +105,7 @@ NumbersListed = (c : Call) (t : Study) (n : ℕ) → callTold c t ≡ refusal n 
 
 -- An edit that is not refused returns a sound study.
 abbrev pub EditedSound : Type 0
-EditedSound = (e : Edit) (t : Study) → edit e t .outcome ≡ Done → Sound (edit e t .study)
+EditedSound = (e : Edit) (t : Study) → callTold (anEdit e) t ≡ result [] → Sound (edit e t .study)
 
 -- So every study that the calls hand out is sound.
 abbrev pub ReachedSound : Type 0
@@ -127,8 +114,9 @@ ReachedSound = (t : Study) → Reached t → Sound t
 -- An edit is refused by 5, 6 or 14 only where the edited study would break a rule; where the item is there and the edited study would be
 -- sound, it is done.
 pub record EditsFinish : Type 0 where
-  pub would-break : (t : Study) → Reached t → (e : Edit) (n : ℕ) → edit e t .outcome ≡ Refused n → OneOf (5 ∷ 6 ∷ 14 ∷ []) n → Sound (changed e t) → ⊥
-  pub done : (t : Study) → Reached t → (e : Edit) → HasItem e t → Sound (changed e t) → edit e t .outcome ≡ Done
+  pub would-break : (t : Study) → Reached t → (e : Edit) (n : ℕ) → callTold (anEdit e) t ≡ refusal n → OneOf (5 ∷ 6 ∷ 14 ∷ []) n
+      → Sound (changed e t) → ⊥
+  pub done : (t : Study) → Reached t → (e : Edit) → HasItem e t → Sound (changed e t) → callTold (anEdit e) t ≡ result []
 
 -- A row of edits leaves what a plain table of fields would hold, and changes nothing else.
 pub record EditFields : Type 0 where

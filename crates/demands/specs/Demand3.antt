@@ -9,7 +9,7 @@ use Rattle.joint_states.specs.JointStates.{JointState}
 use Rattle.study.specs.declared.Study.{Study}
 use Rattle.study.specs.Joint.{stateCounts}
 use Rattle.entries.specs.Entries.{entryBytes}
-use Rattle.paths.specs.Words.{OnePath, Ascending, BlankIff}
+use Rattle.paths.specs.Words.{IsEntry, OnePath, Ascending, BlankIff}
 use Rattle.model.specs.Held.{Listed as Holds}
 use Rattle.model.specs.Model.{Model, components}
 use Rattle.drawn_tree.specs.Drawn.{drawnTree}
@@ -62,6 +62,12 @@ pub record Redrawn : Type 0 where
       → ReachAlike counts (asking counts i (λ (s : ℕ). asking counts k (below s))) (asking counts k (λ (r : ℕ). asking counts i (λ (s : ℕ). below s r)))
 
 -- ---- each list that was answered
+
+-- Each entry has a mark for each component and a class, a settled mark is a state that its component has, and some joint state fits it.
+abbrev pub EachIsEntry : Type 0
+EachIsEntry =
+    (m : Meaning) (t : Study) (d : List ℕ) (p : ℕ) → ListedBy m t d p
+    → (i : ℕ) → i < p → IsEntry (stateCounts t) (classMeant m t) (pathIn m t d p i)
 
 -- Every joint state fits one path and only one, and that path bears the joint state's class.
 abbrev pub OnePathEach : Type 0

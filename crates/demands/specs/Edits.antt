@@ -1,6 +1,5 @@
 -- The edits: what each would leave, a row of them, and the plain table of fields that a row is held against.
 use Prim.Native.Nat.{ℕ, _<_}
-use mathlib.Core.Path.{_≡_}
 use mathlib.Core.Bool.{cond}
 use mathlib.Core.List.{List, [], _∷_, map}
 use lib.Dec.{eqb}
@@ -10,11 +9,11 @@ use Rattle.rules.specs.Table.{itemFault, sizeFault}
 use Rattle.study.specs.declared.Component.{Component}
 use Rattle.study.specs.declared.Load.{Load}
 use Rattle.study.specs.declared.Study.{Study}
-use Rattle.answers.specs.declared.outcome.Outcome.the-variants.{Done}
 use Rattle.answers.specs.declared.outcome.StudyAnswer.{StudyAnswer}
 use Rattle.study.specs.Edits.{withProbabilities, withCustomers, withMinutes, withComponent, withLoad}
 use Rattle.study.specs.Places.{componentAt, loadAt}
 use Rattle.soundness.specs.Check.{probabilitiesFault}
+use Rattle.opening.specs.Laws.{IsOpened}
 use Rattle.opening.specs.Opening
 use Rattle.editing.specs.Edits.{componentEditBreaches, probabilitiesSet, loadEditBreaches, customersSet, minutesSet}
 
@@ -50,7 +49,7 @@ HasItem (minutes j n) t = j < t .loads
 
 -- a study that the calls hand out: opened, then edited any number of times
 pub data Reached : Study → Type 0 where
-  opened : (bytes : List ℕ) → Rattle.opening.specs.Opening.opened bytes .outcome ≡ Done → Reached (Rattle.opening.specs.Opening.opened bytes .study)
+  opened : (bytes : List ℕ) → IsOpened bytes → Reached (Rattle.opening.specs.Opening.opened bytes .study)
   edited : (e : Edit) (t : Study) → Reached t → Reached (edit e t .study)
 
 -- the study after a row of edits, each on what the one before left

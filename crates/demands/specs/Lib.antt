@@ -4,10 +4,14 @@ pub mod Demand1
 pub mod Demand2
 pub mod Demand3
 pub mod DrawnExamples
+pub mod DrawnTrees
 pub mod Edits
 pub mod Listed
+pub mod Losses
 pub mod Repeats
+pub mod Report
 pub mod Saving
 pub mod SharedComponent
 pub mod Survival
+pub mod Within
 pub mod WorkedExamples
