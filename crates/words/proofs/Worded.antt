@@ -1,19 +1,26 @@
--- The word of a number that is known, that a number which the table lacks has none, and that no word is longer than the longest.
+-- Laws of the words of the refusal table: which of them stands where in a row of all, that a number which the table lacks has none, and how long they are.
 use Prim.Native.Nat.{ℕ, zero, suc, max, _≤_, _<_}
-use mathlib.Core.Path.{_≡_, refl, sym}
-use mathlib.Core.List.{List, [], _∷_}
+use mathlib.Core.Path.{_≡_, refl, sym, ap, _∙_}
+use mathlib.Core.List.{List, [], _∷_, _++_}
 use native.Mathlib.Omega.{arith}
 use lib.ListN.{length, getD, List·getD-eq-default}
-use Rattle.text.specs.Writing.{Room, Wrote}
+use Rattle.text.specs.Writing.{Room}
 use Rattle.words.specs.Words.{refusalWords, lastRefusal, refusalWord, wordBytes}
 
--- where the number is k, whose word is known
-module _ {d word : List ℕ} {at n k : ℕ} (number : n ≡ k) (spelt : refusalWord k ≡ word) where
-  pub word-room : Room d at (refusalWord n) → Room d at word
-  word-room room = rw (number, spelt) at room
+-- ---- words in a row
 
-  pub word-wrote : {d′ : List ℕ} {next : ℕ} → Wrote d at word d′ next → Wrote d at (refusalWord n) d′ next
-  word-wrote wrote = rw (number, spelt) wrote
+past-the-end : (rows : List (List ℕ)) (n : ℕ) → getD (rows ++ ([] ∷ [])) n [] ≡ getD rows n []
+past-the-end [] zero = refl
+past-the-end [] (suc n) = refl
+past-the-end (row ∷ rows) zero = refl
+past-the-end (row ∷ rows) (suc n) = past-the-end rows n
+
+-- where the table's words from number 1 on stand in a row, with an empty one behind them, the word of number k + 1 stands at place k
+pub word-at : (words : List (List ℕ)) → [] ∷ words ≡ refusalWords ++ ([] ∷ []) → (k : ℕ) → getD words k [] ≡ refusalWord (suc k)
+unfolding refusalWord
+word-at words all k = ap (λ (rows : List (List ℕ)). getD rows (suc k) []) all ∙ past-the-end refusalWords (suc k)
+
+-- ---- numbers without a word
 
 -- n is none of 1 to k
 abbrev pub NoneOf : ℕ → ℕ → Type 0
@@ -24,11 +31,17 @@ beyond : (n k : ℕ) → NoneOf n k → 1 ≤ n → k < n
 beyond n zero none some = some
 beyond n (suc k) none some = omega (arith, beyond n k (none .0) some, none .1)
 
--- a number that has no word
-pub no-word : (n : ℕ) → NoneOf n lastRefusal → [] ≡ refusalWord n
+wordless : (n : ℕ) → lastRefusal < n → refusalWord n ≡ []
 unfolding refusalWord refusalWords
-no-word zero none = refl
-no-word (suc n) none = sym (List·getD-eq-default refusalWords [] {n = suc n} (beyond (suc n) lastRefusal none (omega arith)))
+wordless n h = List·getD-eq-default refusalWords [] h
+
+-- a number that is none of the table's has the word of any number behind the table
+pub no-word : (n k : ℕ) → lastRefusal ≤ k → NoneOf n k → refusalWord (suc k) ≡ refusalWord n
+unfolding refusalWord refusalWords
+no-word zero k last none = wordless (suc k) (omega (arith, last))
+no-word (suc n) k last none = wordless (suc k) (omega (arith, last)) ∙ sym (wordless (suc n) (omega (arith, last, beyond (suc n) k none (omega arith))))
+
+-- ---- the longest word
 
 -- the length of the longest row
 unfoldable longest : List (List ℕ) → ℕ
