@@ -3,7 +3,7 @@ use answers::CountAnswer;
 use lent_text::hand_over;
 use text::copy;
 ghost use mathlib.Core.Path.{_≡_};
-ghost use lib.ListN.{length};
+ghost use lib.ListN.{replicate};
 ghost use Rattle.text.specs.Writing.{Room, Wrote};
 ghost use Rattle.lent_text.specs.Lent.{reported, written};
 ghost use Rattle.words.specs.Words.{wordBytes, refusalWord};
@@ -45,9 +45,9 @@ pub fn write_word(out: &mut [u8], at: usize, refusal: u8) -> usize
     copy(out, at, word)
 }
 
-// A buffer with room for any word.
+// A cleared buffer with room for any word.
 fn empty_word() -> [u8; WORD_BYTES]
-    ensures { λ r. ⌜ wordBytes ≡ length r ⌝ }
+    ensures { λ r. ⌜ r ≡ replicate wordBytes 0 ⌝ }
 {
     [0; WORD_BYTES]
 }
