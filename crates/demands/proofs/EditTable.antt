@@ -1,4 +1,4 @@
--- A row of edits leaves what a plain table of fields would hold, and changes nothing else. What carries it: once a study is sound, an edit's breach is
+-- Edits come to what the same edits do to a plain table of fields, and change nothing else. What carries it: once a study is sound, an edit's breach is
 -- that of the table; and a list with one element anew differs at that place alone.
 use Prim.Native.Nat.{ℕ}
 use mathlib.Core.Path.{_≡_, refl, ap, fun-ext, _∙_}

@@ -118,7 +118,7 @@ pub record EditsFinish : Type 0 where
       → Sound (changed e t) → ⊥
   pub done : (t : Study) → Reached t → (e : Edit) → HasItem e t → Sound (changed e t) → callTold (anEdit e) t ≡ result []
 
--- A row of edits leaves what a plain table of fields would hold, and changes nothing else.
+-- After a row of edits the fields are those of a plain table that had the same edits, and all else is as it was.
 pub record EditFields : Type 0 where
   pub fields : (t : Study) → Reached t → (es : List Edit) → tableOf (after es t) ≡ tableAfter es (tableOf t)
   pub others : (t : Study) (es : List Edit) → othersOf (after es t) ≡ othersOf t

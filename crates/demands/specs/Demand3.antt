@@ -25,7 +25,7 @@ use Rattle.demands.specs.Listed.{ListedBy, pathsIn, pathIn}
 abbrev pub LoseAlike : Model → Model → Type 0
 LoseAlike m n = (x : List ℕ) → JointState (m .counts) x → (j : ℕ) → bit (m .class x) j ≡ bit (n .class x) j
 
--- "equal": as many paths, p in buffer d and q in buffer e, and their entries agree byte for byte; what stands behind them is not compared
+-- "equal": as many paths, p in buffer d and q in buffer e, and the same bytes in all their entries, whatever either buffer holds behind
 pub record ListsEqual (components p q : ℕ) (d e : List ℕ) : Type 0 where
   pub number : p ≡ q
   pub bytes : take (p * entryBytes components) d ≡ take (q * entryBytes components) e
@@ -35,12 +35,12 @@ pub record EqualIffAlike (m n : Model) (p q : ℕ) (d e : List ℕ) : Type 0 whe
   pub same-losses : ListsEqual (components m) p q d e → LoseAlike m n
   pub same-lists : LoseAlike m n → ListsEqual (components m) p q d e
 
--- So it is for any two good models whose components have the same state counts in the same order, and whose lists two buffers hold.
+-- So it is for any two good models over the same row of state counts, whose lists two buffers hold.
 abbrev pub ModelListsEqualIff : Type 0
 ModelListsEqualIff = (m n : Model) (p q : ℕ) (d e : List ℕ) → m .counts ≡ n .counts → Holds m p d → Holds n q e → EqualIffAlike m n p q d e
 
--- For any two studies whose components have the same state counts in the same order, each by its gates or by a drawn tree, whatever the lent buffers held,
--- and calls that were not refused: their lists are equal exactly when they lose the same loads in every joint state.
+-- For any two studies over the same row of state counts, each by its gates or by a drawn tree, whatever the lent buffers held, and calls that were not
+-- refused: their lists are equal exactly when they lose the same loads in every joint state.
 abbrev pub ListsEqualIff : Type 0
 ListsEqualIff =
     (m n : Meaning) (t u : Study) (p q : ℕ) (d e : List ℕ) → ListedBy m t d p → ListedBy n u e q → stateCounts t ≡ stateCounts u
@@ -69,7 +69,7 @@ EachIsEntry =
     (m : Meaning) (t : Study) (d : List ℕ) (p : ℕ) → ListedBy m t d p
     → (i : ℕ) → i < p → IsEntry (stateCounts t) (classMeant m t) (pathIn m t d p i)
 
--- Every joint state fits one path and only one, and that path bears the joint state's class.
+-- A joint state fits one path of the list and no other, and has the class that this path bears.
 abbrev pub OnePathEach : Type 0
 OnePathEach =
     (m : Meaning) (t : Study) (d : List ℕ) (p : ℕ) → ListedBy m t d p
@@ -79,7 +79,7 @@ OnePathEach =
 abbrev pub PathsAscend : Type 0
 PathsAscend = (m : Meaning) (t : Study) (d : List ℕ) (p : ℕ) → ListedBy m t d p → Ascending (length (stateCounts t)) (pathsIn m t d p)
 
--- A component is blank on a path exactly when, with the states settled before it, its own state changes no loss whatever the states of the others.
+-- Blank on a path are exactly the components whose own state changes no loss there, once those in front that are settled have their states.
 abbrev pub BlankExactly : Type 0
 BlankExactly =
     (m : Meaning) (t : Study) (d : List ℕ) (p : ℕ) → ListedBy m t d p

@@ -1,4 +1,4 @@
--- Demand 2, what is lost: a load is lost in a joint state just when its fault tree, or the leaf of a drawn tree, says so.
+-- Demand 2, what is lost: a joint state loses the loads that the fault tree says, or the leaf that it reaches in a drawn tree.
 use Prim.Native.Nat.{ℕ, _<_, _≤_}
 use mathlib.Core.Path.{_≡_}
 use mathlib.Core.Bool.{Bool, true, false}
