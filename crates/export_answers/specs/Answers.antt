@@ -4,7 +4,7 @@ use mathlib.Core.Path.{_≡_}
 use mathlib.Core.List.{List}
 use lib.IntN.{ℤ, pos, negℤ}
 use lib.ListN.{length, getD}
-use Rattle.lists.specs.Rows.{put}
+use Rattle.answers.specs.declared.bounds.Enclosure.{Enclosure}
 use Rattle.answers.specs.Told.{Told, result, refusal}
 
 -- ---- the answer
@@ -32,15 +32,15 @@ pairs values = length values / 2
 
 -- ---- what is left of what was lent
 
--- a slice whose front the values of a result fill; a refusal leaves it as it was
-abbrev pub leftBy : Told → List ℕ → List ℕ
-leftBy (result values) slice = put slice 0 values
-leftBy (refusal number) slice = slice
+-- two numbers, for a lower and an upper bound
+abbrev pub two : ℕ → ℕ → Enclosure
+two lower upper = record { lower = lower; upper = upper }
 
--- a number that takes the value at a place of a result; a refusal leaves it as it was
-abbrev pub takenBy : Told → ℕ → ℕ → ℕ
-takenBy (result values) place was = getD values place 0
-takenBy (refusal number) place was = was
+-- two numbers that were lent for a pair: they take the values of a result; where it has none, or the call is refused,
+-- they hold what they held
+abbrev pub leftBy : Told → Enclosure → Enclosure
+leftBy (result values) was = two (getD values 0 (was .lower)) (getD values 1 (was .upper))
+leftBy (refusal number) was = was
 
 -- a call for bounds in two slices: what is due as its answer and in each slice, and what it answers and leaves
 pub record FillsPair (due : ℤ) (lower-due upper-due lower upper : List ℕ) (answer : ℤ) : Type 0 where

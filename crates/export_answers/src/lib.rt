@@ -1,15 +1,12 @@
-// What a call answers in C: a count or 0, or the number of its refusal below 0; and a pair of bounds in its places.
+// What a call answers in C: a count or 0, or the number of its refusal below 0; and a pair of bounds in two numbers.
 use answers::CountAnswer;
 use answers::Enclosure;
 use answers::Listing;
 use answers::Outcome;
-ghost use Prim.Native.Nat.{_+_, _≤_};
 ghost use mathlib.Core.Path.{_≡_};
 ghost use lib.IntN.{pos};
-ghost use lib.ListN.{length};
-ghost use Rattle.lists.specs.Rows.{put};
-ghost use Rattle.answers.specs.Told.{pairValues, outcomeTold, listingTold, countTold};
-ghost use Rattle.export_answers.specs.Answers.{below, answeredBy, done, count};
+ghost use Rattle.answers.specs.Told.{outcomeTold, listingTold, countTold};
+ghost use Rattle.export_answers.specs.Answers.{below, answeredBy, done, count, two};
 
 // A count.
 pub fn counted(number: u32) -> i64
@@ -55,11 +52,10 @@ pub fn answer_count(answer: CountAnswer) -> i64
     }
 }
 
-// Writes a pair of bounds at a place.
-pub fn write_pair(pair: Enclosure, places: &mut [u64], at: usize)
-    requires { ⌜ at + 2 ≤ length (now places) ⌝ }
-    ensures { λ r. ⌜ now (places .exit) ≡ put (now (places .entry)) at (pairValues pair) ⌝ }
+// Hands a pair of bounds over, in two numbers.
+pub fn hand_pair(pair: Enclosure, lower: &mut u64, upper: &mut u64)
+    ensures { λ r. ⌜ two (now (lower .exit)) (now (upper .exit)) ≡ pair ⌝ }
 {
-    places[at] = pair.lower;
-    places[at + 1] = pair.upper;
+    *lower = pair.lower;
+    *upper = pair.upper;
 }

@@ -1,105 +1,134 @@
-// The figures of an opened study for C, by its gates or by a drawn tree, a pair of places each.
+// The figures of an opened study for C, by its gates or by a drawn tree, each in two numbers.
 use answers::Caidi;
-use answers::Figures;
 use answers::FiguresAnswer;
-use evaluation::study_figures;
 use export_answers::counted;
+use export_answers::hand_pair;
 use export_answers::refused;
-use export_answers::write_pair;
-use meaning::Source;
-use meaning::judged_classes;
-use meaning::no_classes;
-use rules::first;
-use rules::room_fault;
 use study_image::read_image;
-ghost use Prim.Native.Nat.{_+_, _≤_};
+ghost use Prim.Native.Nat.{_+_};
 ghost use mathlib.Core.Path.{_≡_};
-ghost use lib.ListN.{length};
-ghost use Rattle.lists.specs.Rows.{put};
-ghost use Rattle.answers.specs.Told.{caidiValues, figureValues};
+ghost use Rattle.answers.specs.Told.{result, caidiValues};
 ghost use Rattle.meaning.specs.Meaning.{byGates, byTree};
-ghost use Rattle.meaning.specs.Sources.{meaningOf};
-ghost use Rattle.export_answers.specs.Answers.{pairs};
-ghost use Rattle.export_figures.specs.Figures.{figurePlaces, caidiAt, placesWith, PlacesFigures, GivesFigures};
+ghost use Rattle.export_answers.specs.Answers.{pairs, two, leftBy};
+ghost use Rattle.export_figures.specs.Figures.{TakesFigures, GivesFigures};
 
-// Where the pair of each figure stands.
-const SAIFI_AT: usize = 0;
-
-const SAIDI_AT: usize = 2;
-
-const CAIDI_AT: usize = 4;
-
-const MAIFI_AT: usize = 6;
-
-// The places of them all.
-const FIGURE_PLACES: usize = 8;
-
-// Writes CAIDI where it is stated; answers how many figures are stated, the three others among them.
-fn write_caidi(caidi: Caidi, places: &mut [u64]) -> u32
-    requires { ⌜ figurePlaces ≤ length (now places) ⌝ }
+// Hands CAIDI over where it is stated; answers how many figures are stated, the three others among them.
+fn hand_caidi(caidi: Caidi, lower: &mut u64, upper: &mut u64) -> u32
     ensures { λ r. ⌜ r ≡ 3 + pairs (caidiValues caidi) ⌝ }
-    ensures { λ r. ⌜ now (places .exit) ≡ put (now (places .entry)) caidiAt (caidiValues caidi) ⌝ }
+    ensures { λ r. ⌜ two (now (lower .exit)) (now (upper .exit))
+        ≡ leftBy (result (caidiValues caidi)) (two (now (lower .entry)) (now (upper .entry))) ⌝ }
 {
     match caidi {
         Caidi::Bounds(pair) => {
-            write_pair(pair, places, CAIDI_AT);
+            hand_pair(pair, lower, upper);
             4
         }
         Caidi::NotStated => 3,
     }
 }
 
-// Writes the figures; answers how many are stated.
-fn write_figures(figures: Figures, places: &mut [u64]) -> u32
-    requires { ⌜ figurePlaces ≤ length (now places) ⌝ }
-    ensures { λ r. ⌜ r ≡ pairs (figureValues figures) ⌝ }
-    ensures { λ r. ⌜ now (places .exit) ≡ placesWith figures (now (places .entry)) ⌝ }
-{
-    let caidi = figures.caidi;
-    write_pair(figures.saifi, places, SAIFI_AT);
-    write_pair(figures.saidi, places, SAIDI_AT);
-    let stated = write_caidi(caidi, places);
-    write_pair(figures.maifi, places, MAIFI_AT);
-    stated
-}
-
 // Hands on the figures that a call answered.
-fn hand_on(answer: FiguresAnswer, places: &mut [u64]) -> i64
-    requires { ⌜ figurePlaces ≤ length (now places) ⌝ }
-    ensures { λ r. ⌜ PlacesFigures answer (now (places .entry)) (now (places .exit)) r ⌝ }
+fn hand_figures(
+    answer: FiguresAnswer,
+    saifi_lower: &mut u64,
+    saifi_upper: &mut u64,
+    saidi_lower: &mut u64,
+    saidi_upper: &mut u64,
+    caidi_lower: &mut u64,
+    caidi_upper: &mut u64,
+    maifi_lower: &mut u64,
+    maifi_upper: &mut u64,
+) -> i64
+    ensures { λ r. ⌜ TakesFigures answer
+        (two (now («saifi_lower» .entry)) (now («saifi_upper» .entry)))
+        (two (now («saidi_lower» .entry)) (now («saidi_upper» .entry)))
+        (two (now («caidi_lower» .entry)) (now («caidi_upper» .entry)))
+        (two (now («maifi_lower» .entry)) (now («maifi_upper» .entry)))
+        (two (now («saifi_lower» .exit)) (now («saifi_upper» .exit)))
+        (two (now («saidi_lower» .exit)) (now («saidi_upper» .exit)))
+        (two (now («caidi_lower» .exit)) (now («caidi_upper» .exit)))
+        (two (now («maifi_lower» .exit)) (now («maifi_upper» .exit))) r ⌝ }
 {
     match answer {
-        FiguresAnswer::Figures(figures) => counted(write_figures(figures, places)),
+        FiguresAnswer::Figures(figures) => {
+            let caidi = figures.caidi;
+            hand_pair(figures.saifi, saifi_lower, saifi_upper);
+            hand_pair(figures.saidi, saidi_lower, saidi_upper);
+            hand_pair(figures.maifi, maifi_lower, maifi_upper);
+            counted(hand_caidi(caidi, caidi_lower, caidi_upper))
+        }
         FiguresAnswer::Refused(number) => refused(number),
     }
 }
 
-// The figures under either meaning, in their places. The room is judged behind the study and its meaning, and before the customers.
-fn figures_meant(source: Source, study: &[u8], tree: &[u8], places: &mut [u64]) -> i64
-    ensures { λ r. ⌜ GivesFigures (meaningOf source (now (tree .entry))) (now (study .entry)) (now (places .entry)) (now (places .exit)) r ⌝ }
+// SAIFI, SAIDI, CAIDI and MAIFI, lower and upper bound of each in a number of its own; answers how many are stated,
+// since CAIDI may not be. Refused by 16, 19, in this order.
+pub fn figures(
+    study: &[u8],
+    saifi_lower: &mut u64,
+    saifi_upper: &mut u64,
+    saidi_lower: &mut u64,
+    saidi_upper: &mut u64,
+    caidi_lower: &mut u64,
+    caidi_upper: &mut u64,
+    maifi_lower: &mut u64,
+    maifi_upper: &mut u64,
+) -> i64
+    ensures { λ r. ⌜ GivesFigures byGates (now (study .entry))
+        (two (now («saifi_lower» .entry)) (now («saifi_upper» .entry)))
+        (two (now («saidi_lower» .entry)) (now («saidi_upper» .entry)))
+        (two (now («caidi_lower» .entry)) (now («caidi_upper» .entry)))
+        (two (now («maifi_lower» .entry)) (now («maifi_upper» .entry)))
+        (two (now («saifi_lower» .exit)) (now («saifi_upper» .exit)))
+        (two (now («saidi_lower» .exit)) (now («saidi_upper» .exit)))
+        (two (now («caidi_lower» .exit)) (now («caidi_upper» .exit)))
+        (two (now («maifi_lower» .exit)) (now («maifi_upper» .exit))) r ⌝ }
 {
-    let t = read_image(study);
-    let mut classes = no_classes();
-    let judged = judged_classes(source, t, tree, &mut classes);
-    let room = room_fault(FIGURE_PLACES, places.len());
-    let fault = first(judged, room);
-    if fault != 0 {
-        return refused(fault);
-    }
-    hand_on(study_figures(t, &classes), places)
+    hand_figures(
+        loss_calls::figures(read_image(study)),
+        saifi_lower,
+        saifi_upper,
+        saidi_lower,
+        saidi_upper,
+        caidi_lower,
+        caidi_upper,
+        maifi_lower,
+        maifi_upper,
+    )
 }
 
-// SAIFI, SAIDI, CAIDI and MAIFI, lower and upper bound of each in its two of eight places; answers how many are stated, since CAIDI may not be.
-// Refused by 16, 18, 19, in this order.
-pub fn figures(study: &[u8], places: &mut [u64]) -> i64
-    ensures { λ r. ⌜ GivesFigures byGates (now (study .entry)) (now (places .entry)) (now (places .exit)) r ⌝ }
+// The same by a drawn tree in place of the study's gates. Refused by 16, then 20, 21 or 22, then 19.
+pub fn drawn_figures(
+    study: &[u8],
+    tree: &[u8],
+    saifi_lower: &mut u64,
+    saifi_upper: &mut u64,
+    saidi_lower: &mut u64,
+    saidi_upper: &mut u64,
+    caidi_lower: &mut u64,
+    caidi_upper: &mut u64,
+    maifi_lower: &mut u64,
+    maifi_upper: &mut u64,
+) -> i64
+    ensures { λ r. ⌜ GivesFigures (byTree (now (tree .entry))) (now (study .entry))
+        (two (now («saifi_lower» .entry)) (now («saifi_upper» .entry)))
+        (two (now («saidi_lower» .entry)) (now («saidi_upper» .entry)))
+        (two (now («caidi_lower» .entry)) (now («caidi_upper» .entry)))
+        (two (now («maifi_lower» .entry)) (now («maifi_upper» .entry)))
+        (two (now («saifi_lower» .exit)) (now («saifi_upper» .exit)))
+        (two (now («saidi_lower» .exit)) (now («saidi_upper» .exit)))
+        (two (now («caidi_lower» .exit)) (now («caidi_upper» .exit)))
+        (two (now («maifi_lower» .exit)) (now («maifi_upper» .exit))) r ⌝ }
 {
-    figures_meant(Source::Gates, study, &[], places)
-}
-
-// The same by a drawn tree in place of the study's gates. Refused by 16, then 20, 21 or 22, then 18, 19.
-pub fn drawn_figures(study: &[u8], tree: &[u8], places: &mut [u64]) -> i64
-    ensures { λ r. ⌜ GivesFigures (byTree (now (tree .entry))) (now (study .entry)) (now (places .entry)) (now (places .exit)) r ⌝ }
-{
-    figures_meant(Source::Tree, study, tree, places)
+    hand_figures(
+        loss_calls::drawn_figures(read_image(study), tree),
+        saifi_lower,
+        saifi_upper,
+        saidi_lower,
+        saidi_upper,
+        caidi_lower,
+        caidi_upper,
+        maifi_lower,
+        maifi_upper,
+    )
 }

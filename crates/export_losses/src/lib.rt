@@ -2,34 +2,38 @@
 use answers::BoundsAnswer;
 use export_answers::answer_outcome;
 use export_answers::counted;
+use export_answers::hand_pair;
 use export_answers::refused;
 use study_image::read_image;
 ghost use Rattle.answers.specs.Told.{boundsTold};
 ghost use Rattle.meaning.specs.Meaning.{byGates, byTree};
+ghost use Rattle.export_answers.specs.Answers.{two};
 ghost use Rattle.export_losses.specs.Losses.{BoundsClasses, TakesPair, BoundsLoad, CountsLost};
 
 // Bounds for the classes of a study, at places 0 to 255 of two slices. Refused by 16, 18, in this order.
 pub fn class_bounds(study: &[u8], lower: &mut [u64], upper: &mut [u64]) -> i64
-    ensures { λ r. ⌜ BoundsClasses byGates (now (study .entry)) (now (lower .entry)) (now (upper .entry)) (now (lower .exit)) (now (upper .exit)) r ⌝ }
+    ensures { λ r. ⌜ BoundsClasses byGates (now (study .entry))
+        (now (lower .entry)) (now (upper .entry)) (now (lower .exit)) (now (upper .exit)) r ⌝ }
 {
     answer_outcome(path_calls::class_bounds(read_image(study), lower, upper))
 }
 
 // The same by a drawn tree in place of the study's gates. Refused by 16, then 20, 21 or 22, then 18.
 pub fn drawn_class_bounds(study: &[u8], tree: &[u8], lower: &mut [u64], upper: &mut [u64]) -> i64
-    ensures { λ r. ⌜ BoundsClasses (byTree (now (tree .entry))) (now (study .entry)) (now (lower .entry)) (now (upper .entry)) (now (lower .exit)) (now (upper .exit)) r ⌝ }
+    ensures { λ r. ⌜ BoundsClasses (byTree (now (tree .entry))) (now (study .entry))
+        (now (lower .entry)) (now (upper .entry)) (now (lower .exit)) (now (upper .exit)) r ⌝ }
 {
     answer_outcome(path_calls::drawn_class_bounds(read_image(study), tree, lower, upper))
 }
 
 // Hands on the bounds that a call answered.
 fn hand_bounds(answer: BoundsAnswer, lower: &mut u64, upper: &mut u64) -> i64
-    ensures { λ r. ⌜ TakesPair (boundsTold answer) (now (lower .entry)) (now (upper .entry)) (now (lower .exit)) (now (upper .exit)) r ⌝ }
+    ensures { λ r. ⌜ TakesPair (boundsTold answer)
+        (two (now (lower .entry)) (now (upper .entry))) (two (now (lower .exit)) (now (upper .exit))) r ⌝ }
 {
     match answer {
         BoundsAnswer::Bounds(pair) => {
-            *lower = pair.lower;
-            *upper = pair.upper;
+            hand_pair(pair, lower, upper);
             0
         }
         BoundsAnswer::Refused(number) => refused(number),
@@ -38,7 +42,8 @@ fn hand_bounds(answer: BoundsAnswer, lower: &mut u64, upper: &mut u64) -> i64
 
 // Bounds for the loss of a load, in two numbers. Refused by 16, 17, in this order.
 pub fn load_bounds(study: &[u8], load: usize, lower: &mut u64, upper: &mut u64) -> i64
-    ensures { λ r. ⌜ BoundsLoad byGates (now (study .entry)) load (now (lower .entry)) (now (upper .entry)) (now (lower .exit)) (now (upper .exit)) r ⌝ }
+    ensures { λ r. ⌜ BoundsLoad byGates (now (study .entry)) load
+        (two (now (lower .entry)) (now (upper .entry))) (two (now (lower .exit)) (now (upper .exit))) r ⌝ }
 {
     hand_bounds(
         loss_calls::load_bounds(read_image(study), load),
@@ -55,7 +60,8 @@ pub fn drawn_load_bounds(
     lower: &mut u64,
     upper: &mut u64,
 ) -> i64
-    ensures { λ r. ⌜ BoundsLoad (byTree (now (tree .entry))) (now (study .entry)) load (now (lower .entry)) (now (upper .entry)) (now (lower .exit)) (now (upper .exit)) r ⌝ }
+    ensures { λ r. ⌜ BoundsLoad (byTree (now (tree .entry))) (now (study .entry)) load
+        (two (now (lower .entry)) (now (upper .entry))) (two (now (lower .exit)) (now (upper .exit))) r ⌝ }
 {
     hand_bounds(
         loss_calls::drawn_load_bounds(read_image(study), tree, load),

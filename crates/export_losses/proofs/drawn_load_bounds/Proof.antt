@@ -9,7 +9,7 @@ returns : tie.Need-returns
 returns c =
     let asked = c .before .before .before in
     let bounded = rw (asked .before .read-image .ensures) at (asked .drawn-load-bounds .ensures) in
-    handed-on (TakesPair _ _ _ _ _) (c .hand-bounds .ok) (rw bounded at (c .hand-bounds .ensures))
+    handed-on (TakesPair _ _ _) (c .hand-bounds .ok) (rw bounded at (c .hand-bounds .ensures))
 
 pub drawn-load-bounds-spec : {M : Type 1} → statement M
 drawn-load-bounds-spec = tie.close (tie.spec (λ c κs. search needs) (λ c κs. search needs) (λ c κs. search needs) returns)

@@ -6,12 +6,21 @@ use Rattle.export_losses.proofs.hand_bounds.Statement.{statement}
 use Rattle.export_losses.proofs.hand_bounds.Tie as tie
 
 returns : tie.Need-returns
-returns c = rw (c .before .answer .given .1) (record { answered = refl; lower-left = refl; upper-left = refl })
+returns c =
+    rw (c .before .before .before .before .answer .given .1) (record { answered = refl; pair-left = c .hand-pair .ensures })
 
 returns-2 : tie.Need-returns-2
 returns-2 c =
     rw (c .before .before .answer2 .given .1)
-    (record { answered = handed _ (c .refused .ok) ∙ c .refused .ensures; lower-left = refl; upper-left = refl })
+    (record { answered = handed _ (c .refused .ok) ∙ c .refused .ensures; pair-left = refl })
 
 pub hand-bounds-spec : {M : Type 1} → statement M
-hand-bounds-spec = tie.close (tie.spec (λ c. search needs) (λ c. search needs) (λ c κs. search needs) returns returns-2)
+hand-bounds-spec =
+    tie.close
+    (tie.spec
+    (λ c. search needs)
+    (λ c κs. search needs)
+    (λ c. search needs)
+    (λ c κs. search needs)
+    returns
+    returns-2)

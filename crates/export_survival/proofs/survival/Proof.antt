@@ -1,24 +1,22 @@
--- `export_survival::survival` meets its contract: each kind of answer by its own clause, with the room judged behind it.
+-- `export_survival::survival` meets its contract: each kind of answer by its own clause.
 use mathlib.Core.Path.{refl, sym, _∙_}
-use Rattle.export_answers.proofs.Signed.{handed, handed-on}
-use Rattle.export_survival.specs.Chances.{PlacesChances}
-use Rattle.export_survival.proofs.Roomed.{given-in, refused-in}
+use Rattle.export_answers.proofs.Signed.{handed}
 use borrow.Author.Needs.{needs}
 use Rattle.export_survival.proofs.survival.Statement.{statement}
 use Rattle.export_survival.proofs.survival.Tie as tie
 
 returns : tie.Need-returns
 returns c =
-    let handing = c .before .before in
-    let matched = handing .before .before .before in
-    let answered = sym (matched .before .before .survival .ensures .given) ∙ matched .chances .given .1 in
-    rw (← given-in _ _ _ answered) (handed-on (PlacesChances _ _ _) (handing .hand-chances .ok) (handing .hand-chances .ensures))
+    let surviving = c .before .before .before in
+    let matched = surviving .before .before .before .before in
+    rw (sym (matched .before .before .survival .ensures .given) ∙ matched .chances .given .1)
+    (record { answered = refl; survival-left = surviving .hand-pair .ensures; failure-left = c .hand-pair2 .ensures })
 
 returns-2 : tie.Need-returns-2
 returns-2 c =
     let matched = c .before .before in
-    let answered = sym (matched .before .before .survival .ensures .given) ∙ matched .number .given .1 in
-    rw (← refused-in _ _ _ answered) (record { answered = handed _ (c .refused .ok) ∙ c .refused .ensures; left = refl })
+    rw (sym (matched .before .before .survival .ensures .given) ∙ matched .number .given .1)
+    (record { answered = handed _ (c .refused .ok) ∙ c .refused .ensures; survival-left = refl; failure-left = refl })
 
 pub survival-spec : {M : Type 1} → statement M
 survival-spec =
@@ -27,8 +25,8 @@ survival-spec =
     (λ c κs. search needs)
     (λ c. search needs)
     (λ c κs. search needs)
-    (λ c. search needs)
     (λ c κs. search needs)
     (λ c. search needs)
+    (λ c κs. search needs)
     returns
     returns-2)
