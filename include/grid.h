@@ -1,7 +1,8 @@
 /* The calls of the planning package for C. Link target/staticlib/libexports.a.
  *
- * A slice is a pointer and its length in elements. A call answers a count or 0, or a refusal as its number below 0; the numbers are those of
- * the refusal table. Where a call is refused, nothing lent is touched. No call keeps a pointer, and lent slices must not overlap.
+ * A slice is a pointer and its length in elements; a bound that is asked for is a pointer to one number, or with a name that ends in `_of` a field of a
+ * struct. A call answers a count or 0, or a refusal as its number below 0; the numbers are those of the refusal table. Where a call is refused,
+ * nothing lent is touched. No call keeps a pointer, and what is lent must not overlap.
  *
  * A drawn tree is a row of bytes beside a study: a component's number and behind it a subtree for each of its states, from state 0 on; or 255 and
  * behind it a class. Each branch may ask components in an order of its own, but none twice. For that one call the tree stands in for the gates and
@@ -33,11 +34,25 @@
 /* The places that class bounds need in each slice. */
 #define GRID_CLASS_PLACES 256
 
-/* The places that the figures need. */
-#define GRID_FIGURE_PLACES 8
+/* A lower and an upper bound. */
+struct grid_bounds {
+    uint64_t lower;
+    uint64_t upper;
+};
 
-/* The places that the chances of surviving and of failure need. */
-#define GRID_SURVIVAL_PLACES 4
+/* The interruption figures: SAIFI in units, SAIDI in billionths of a minute, CAIDI in whole minutes, MAIFI in units. */
+struct grid_figures {
+    struct grid_bounds saifi;
+    struct grid_bounds saidi;
+    struct grid_bounds caidi;
+    struct grid_bounds maifi;
+};
+
+/* The chances of surviving and of failure, in units. */
+struct grid_chances {
+    struct grid_bounds survival;
+    struct grid_bounds failure;
+};
 
 #ifdef __cplusplus
 extern "C" {
@@ -91,20 +106,22 @@ int64_t grid_load_bounds(const uint8_t *study, size_t study_len, size_t load, ui
 int64_t grid_drawn_load_bounds(const uint8_t *study, size_t study_len, const uint8_t *tree, size_t tree_len, size_t load,
                                uint64_t *lower, uint64_t *upper);
 
-/* Writes the lower and the upper bound of SAIFI (units), SAIDI (billionths of a minute), CAIDI (minutes) and MAIFI (units) at places 0 to 7.
+/* Writes the lower and the upper bound of SAIFI (units), SAIDI (billionths of a minute), CAIDI (minutes) and MAIFI (units).
  * Loads with a restore time of 5 minutes or less count in MAIFI alone, all others in the first three.
- * Answers 4, or 3 where CAIDI is not stated and places 4 and 5 keep what they held. Refused by 16, 18, 19. */
-int64_t grid_figures(const uint8_t *study, size_t study_len, uint64_t *figures, size_t figures_len);
+ * Answers 4, or 3 where CAIDI is not stated and its two numbers keep what they held. Refused by 16, 19. */
+int64_t grid_figures(const uint8_t *study, size_t study_len, uint64_t *saifi_lower, uint64_t *saifi_upper, uint64_t *saidi_lower,
+                     uint64_t *saidi_upper, uint64_t *caidi_lower, uint64_t *caidi_upper, uint64_t *maifi_lower, uint64_t *maifi_upper);
 
-/* The same by a drawn tree. Answers 4, or 3 where CAIDI is not stated. Refused by 16, 20 to 22, 18, 19. */
-int64_t grid_drawn_figures(const uint8_t *study, size_t study_len, const uint8_t *tree, size_t tree_len, uint64_t *figures,
-                           size_t figures_len);
+/* The same by a drawn tree. Answers 4, or 3 where CAIDI is not stated. Refused by 16, 20 to 22, 19. */
+int64_t grid_drawn_figures(const uint8_t *study, size_t study_len, const uint8_t *tree, size_t tree_len, uint64_t *saifi_lower,
+                           uint64_t *saifi_upper, uint64_t *saidi_lower, uint64_t *saidi_upper, uint64_t *caidi_lower,
+                           uint64_t *caidi_upper, uint64_t *maifi_lower, uint64_t *maifi_upper);
 
 /* Writes bounds, in units of a billionth, for the chance that something which fails at a rate of `fit` failures per thousand million hours survives
- * so many hours, lower and upper at places 0 and 1, and for the chance that it fails in them, at places 2 and 3: one less each, swapped. Any number
- * between two of them can be set as a probability. No study is needed. Answers 0. Refused by 23 where FIT times hours is above 20,000,000,000, then
- * 18. */
-int64_t grid_survival(uint32_t fit, uint32_t hours, uint64_t *bounds, size_t bounds_len);
+ * so many hours, and for the chance that it fails in them: one less each, swapped. Any number between two of them can be set as a probability. No
+ * study is needed. Answers 0. Refused by 23 alone, where FIT times hours is above 20,000,000,000. */
+int64_t grid_survival(uint32_t fit, uint32_t hours, uint64_t *survival_lower, uint64_t *survival_upper, uint64_t *failure_lower,
+                      uint64_t *failure_upper);
 
 /* How many loads are lost in a class: the ones of its byte. */
 int64_t grid_loads_lost(uint8_t class_);
@@ -115,6 +132,38 @@ int64_t grid_report(const uint8_t *bytes, size_t bytes_len, uint8_t *text, size_
 
 /* Writes the word of a refusal, with no 0 behind it. Answers its number of bytes: 0 for a number that the table lacks. Refused by 18 alone. */
 int64_t grid_refusal_word(uint8_t number, uint8_t *text, size_t text_len);
+
+/* The calls for a load, for the figures and for the chances, in structs: each answers, and is refused, as the call that it passes on to. */
+
+static inline int64_t grid_load_bounds_of(const uint8_t *study, size_t study_len, size_t load, struct grid_bounds *bounds)
+{
+    return grid_load_bounds(study, study_len, load, &bounds->lower, &bounds->upper);
+}
+
+static inline int64_t grid_drawn_load_bounds_of(const uint8_t *study, size_t study_len, const uint8_t *tree, size_t tree_len, size_t load,
+                                                struct grid_bounds *bounds)
+{
+    return grid_drawn_load_bounds(study, study_len, tree, tree_len, load, &bounds->lower, &bounds->upper);
+}
+
+static inline int64_t grid_figures_of(const uint8_t *study, size_t study_len, struct grid_figures *figures)
+{
+    return grid_figures(study, study_len, &figures->saifi.lower, &figures->saifi.upper, &figures->saidi.lower, &figures->saidi.upper,
+                        &figures->caidi.lower, &figures->caidi.upper, &figures->maifi.lower, &figures->maifi.upper);
+}
+
+static inline int64_t grid_drawn_figures_of(const uint8_t *study, size_t study_len, const uint8_t *tree, size_t tree_len,
+                                            struct grid_figures *figures)
+{
+    return grid_drawn_figures(study, study_len, tree, tree_len, &figures->saifi.lower, &figures->saifi.upper, &figures->saidi.lower,
+                              &figures->saidi.upper, &figures->caidi.lower, &figures->caidi.upper, &figures->maifi.lower,
+                              &figures->maifi.upper);
+}
+
+static inline int64_t grid_chances_of(uint32_t fit, uint32_t hours, struct grid_chances *chances)
+{
+    return grid_survival(fit, hours, &chances->survival.lower, &chances->survival.upper, &chances->failure.lower, &chances->failure.upper);
+}
 
 #ifdef __cplusplus
 }

@@ -1,5 +1,5 @@
-/* Calls the library from C: opens a study of two components, prints its SAIFI and MAIFI, what an edit and a study are refused by, the paths and the
- * SAIFI of a drawn tree, the chance of failure from a rate and hours, and the bytes of the study once edited. */
+/* Calls the library from C: opens a study of two components, prints the loss of its load and its figures, what an edit and a study are refused by,
+ * the paths, loss and SAIFI of a drawn tree, the chances from a rate and hours, and the bytes of the study once edited. */
 #include "grid.h"
 
 #include <inttypes.h>
@@ -32,16 +32,22 @@ static void print_refusal(int64_t answer)
     printf("REFUSED %" PRId64 " %.*s\n", -answer, (int)size, (const char *)word);
 }
 
+/* Prints a lower and an upper bound behind their name. */
+static void print_bounds(const char *name, struct grid_bounds bounds)
+{
+    printf("%s %" PRIu64 " %" PRIu64 "\n", name, bounds.lower, bounds.upper);
+}
+
 /* Prints the bounds for the chance that a component of 1,000 FIT fails within a year, and what a rate that is too high is refused by. */
 static int print_chances(void)
 {
-    uint64_t bounds[GRID_SURVIVAL_PLACES];
+    struct grid_chances chances;
 
-    if (grid_survival(1000, 8760, bounds, GRID_SURVIVAL_PLACES) != 0)
+    if (grid_chances_of(1000, 8760, &chances) != 0)
         return 1;
-    printf("SURVIVES %" PRIu64 " %" PRIu64 "\n", bounds[0], bounds[1]);
-    printf("FAILS %" PRIu64 " %" PRIu64 "\n", bounds[2], bounds[3]);
-    print_refusal(grid_survival(4000000000, 6, bounds, GRID_SURVIVAL_PLACES));
+    print_bounds("SURVIVES", chances.survival);
+    print_bounds("FAILS", chances.failure);
+    print_refusal(grid_chances_of(4000000000, 6, &chances));
     return 0;
 }
 
@@ -69,29 +75,39 @@ static int print_edited(uint8_t *study, size_t study_len)
 static int print_drawn(const uint8_t *study, size_t study_len)
 {
     uint8_t list[GRID_LIST_BYTES];
-    uint64_t figures[GRID_FIGURE_PLACES];
+    struct grid_bounds load;
+    struct grid_figures figures;
     int64_t paths = grid_drawn_list_paths(study, study_len, tree, sizeof tree, list, sizeof list);
 
     for (int64_t k = 0; k < paths; k++)
         printf("PATH %d %d CLASS %d\n", list[3 * k], list[3 * k + 1], list[3 * k + 2]);
-    if (grid_drawn_figures(study, study_len, tree, sizeof tree, figures, GRID_FIGURE_PLACES) != 4)
+    if (grid_drawn_load_bounds_of(study, study_len, tree, sizeof tree, 0, &load) != 0)
         return 1;
-    printf("SAIFI %" PRIu64 " %" PRIu64 "\n", figures[0], figures[1]);
-    print_refusal(grid_drawn_figures(study, study_len, tree, sizeof tree - 1, figures, GRID_FIGURE_PLACES));
+    print_bounds("LOAD 0", load);
+    if (grid_drawn_figures_of(study, study_len, tree, sizeof tree, &figures) != 4)
+        return 1;
+    print_bounds("SAIFI", figures.saifi);
+    print_refusal(grid_drawn_figures_of(study, study_len, tree, sizeof tree - 1, &figures));
     return 0;
 }
 
 int main(void)
 {
     uint8_t study[GRID_STUDY_BYTES];
-    uint64_t figures[GRID_FIGURE_PLACES];
+    struct grid_bounds load;
+    struct grid_figures figures;
 
     if (grid_open(bytes, sizeof bytes, study, sizeof study) != 0)
         return 1;
-    if (grid_figures(study, sizeof study, figures, GRID_FIGURE_PLACES) != 4)
+    if (grid_load_bounds_of(study, sizeof study, 0, &load) != 0)
         return 1;
-    printf("SAIFI %" PRIu64 " %" PRIu64 "\n", figures[0], figures[1]);
-    printf("MAIFI %" PRIu64 " %" PRIu64 "\n", figures[6], figures[7]);
+    print_bounds("LOAD 0", load);
+    if (grid_figures_of(study, sizeof study, &figures) != 4)
+        return 1;
+    print_bounds("SAIFI", figures.saifi);
+    print_bounds("SAIDI", figures.saidi);
+    print_bounds("CAIDI", figures.caidi);
+    print_bounds("MAIFI", figures.maifi);
     print_refusal(grid_set_probabilities(study, sizeof study, 0, 1000000001, 0, 0));
     print_refusal(grid_open(bytes, sizeof bytes - 1, study, sizeof study));
     if (print_drawn(study, sizeof study) != 0)

@@ -45,7 +45,7 @@ static size_t tree_len;
 static uint8_t list[GRID_LIST_BYTES];
 static uint64_t lower[MOST_PATHS];
 static uint64_t upper[MOST_PATHS];
-static uint64_t figures[GRID_FIGURE_PLACES];
+static struct grid_figures figures;
 static uint8_t text[GRID_REPORT_BYTES];
 
 static int64_t call_nothing(void)
@@ -80,7 +80,7 @@ static int64_t call_load_bounds(void)
 
 static int64_t call_figures(void)
 {
-    return grid_figures(study, sizeof study, figures, GRID_FIGURE_PLACES);
+    return grid_figures_of(study, sizeof study, &figures);
 }
 
 static int64_t call_drawn_list_paths(void)
@@ -105,7 +105,7 @@ static int64_t call_drawn_load_bounds(void)
 
 static int64_t call_drawn_figures(void)
 {
-    return grid_drawn_figures(study, sizeof study, tree, tree_len, figures, GRID_FIGURE_PLACES);
+    return grid_drawn_figures_of(study, sizeof study, tree, tree_len, &figures);
 }
 
 static int64_t call_report(void)
