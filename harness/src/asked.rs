@@ -1,5 +1,5 @@
 //! What the library can be asked of a study, by its gates or by a tree that is drawn in their place.
-use crate::library::{self, Answer, CLASS_PLACES, FIGURE_PLACES, LIST_BYTES};
+use crate::library::{self, Answer, Figures, CLASS_PLACES, LIST_BYTES};
 
 /// A study, and what says which of its loads are lost.
 #[derive(Clone, Copy)]
@@ -40,7 +40,7 @@ impl Asked<'_> {
         }
     }
 
-    pub fn figures(&self, figures: &mut [u64]) -> Answer<usize> {
+    pub fn figures(&self, figures: &mut Figures) -> Answer<usize> {
         match self.tree {
             None => library::figures(self.image, figures),
             Some(tree) => library::drawn_figures(self.image, tree, figures),
@@ -55,7 +55,7 @@ pub struct Everything {
     paths: (Answer<usize>, [Vec<u64>; 2]),
     classes: (Answer<usize>, [Vec<u64>; 2]),
     loads: Vec<(Answer<usize>, [u64; 2])>,
-    figures: (Answer<usize>, [u64; FIGURE_PLACES]),
+    figures: (Answer<usize>, Figures),
 }
 
 impl Asked<'_> {
@@ -73,7 +73,7 @@ impl Asked<'_> {
             let answer = self.load_bounds(load, &mut lower, &mut upper);
             (answer, [lower, upper])
         });
-        let mut figures = [0; FIGURE_PLACES];
+        let mut figures = Figures::default();
         let stated = self.figures(&mut figures);
         Everything {
             list: (listed, list),

@@ -15,11 +15,35 @@ pub const REPORT_BYTES: usize = 180_224;
 /// The places that class bounds need in each slice.
 pub const CLASS_PLACES: usize = 256;
 
-/// The places that the figures need.
-pub const FIGURE_PLACES: usize = 8;
+/// A lower and an upper bound.
+#[derive(Clone, Copy, Debug, Default, PartialEq)]
+pub struct Bounds {
+    pub lower: u64,
+    pub upper: u64,
+}
 
-/// The places that the chances of surviving and of failure need.
-pub const SURVIVAL_PLACES: usize = 4;
+/// The lower one first.
+impl From<[u64; 2]> for Bounds {
+    fn from([lower, upper]: [u64; 2]) -> Bounds {
+        Bounds { lower, upper }
+    }
+}
+
+/// SAIFI in units, SAIDI in billionths of a minute, CAIDI in whole minutes, MAIFI in units.
+#[derive(Clone, Copy, Debug, Default, PartialEq)]
+pub struct Figures {
+    pub saifi: Bounds,
+    pub saidi: Bounds,
+    pub caidi: Bounds,
+    pub maifi: Bounds,
+}
+
+/// The chances of surviving and of failure, in units.
+#[derive(Clone, Copy, Debug, Default, PartialEq)]
+pub struct Chances {
+    pub survival: Bounds,
+    pub failure: Bounds,
+}
 
 /// A result, or the number of the refusal table by which the call was refused.
 pub type Answer<T> = Result<T, u8>;
@@ -61,7 +85,18 @@ extern "C" {
         lower: *mut u64,
         upper: *mut u64,
     ) -> i64;
-    fn grid_figures(study: *const u8, size: usize, figures: *mut u64, room: usize) -> i64;
+    fn grid_figures(
+        study: *const u8,
+        size: usize,
+        saifi_lower: *mut u64,
+        saifi_upper: *mut u64,
+        saidi_lower: *mut u64,
+        saidi_upper: *mut u64,
+        caidi_lower: *mut u64,
+        caidi_upper: *mut u64,
+        maifi_lower: *mut u64,
+        maifi_upper: *mut u64,
+    ) -> i64;
     fn grid_drawn_list_paths(
         study: *const u8,
         size: usize,
@@ -104,10 +139,23 @@ extern "C" {
         size: usize,
         tree: *const u8,
         tree_size: usize,
-        figures: *mut u64,
-        room: usize,
+        saifi_lower: *mut u64,
+        saifi_upper: *mut u64,
+        saidi_lower: *mut u64,
+        saidi_upper: *mut u64,
+        caidi_lower: *mut u64,
+        caidi_upper: *mut u64,
+        maifi_lower: *mut u64,
+        maifi_upper: *mut u64,
     ) -> i64;
-    fn grid_survival(fit: u32, hours: u32, bounds: *mut u64, room: usize) -> i64;
+    fn grid_survival(
+        fit: u32,
+        hours: u32,
+        survival_lower: *mut u64,
+        survival_upper: *mut u64,
+        failure_lower: *mut u64,
+        failure_upper: *mut u64,
+    ) -> i64;
     fn grid_loads_lost(class: u8) -> i64;
     fn grid_report(bytes: *const u8, size: usize, text: *mut u8, room: usize) -> i64;
     fn grid_refusal_word(number: u8, text: *mut u8, room: usize) -> i64;
@@ -121,7 +169,7 @@ fn answer(number: i64) -> Answer<usize> {
     }
 }
 
-// Each pointer below stands beside the length of the slice that it is taken from, and a slice lent to be written is borrowed alone.
+// Each pointer below stands beside the length of the slice that it is taken from, or points to one number; what is lent to be written is borrowed alone.
 
 /// Opens the bytes of a study and writes its image. Refused by 1 to 15, then 18.
 pub fn open(bytes: &[u8], study: &mut [u8]) -> Answer<usize> {
@@ -192,14 +240,20 @@ pub fn load_bounds(study: &[u8], load: usize, lower: &mut u64, upper: &mut u64) 
     answer(unsafe { grid_load_bounds(study.as_ptr(), study.len(), load, lower, upper) })
 }
 
-/// Writes SAIFI, SAIDI, CAIDI and MAIFI, lower before upper, and answers how many are stated: 4, or 3 without CAIDI. Refused by 16, 18, 19.
-pub fn figures(study: &[u8], figures: &mut [u64]) -> Answer<usize> {
+/// Writes the figures, and answers how many are stated: 4, or 3 without CAIDI, whose bounds then stay. Refused by 16, 19.
+pub fn figures(study: &[u8], figures: &mut Figures) -> Answer<usize> {
     answer(unsafe {
         grid_figures(
             study.as_ptr(),
             study.len(),
-            figures.as_mut_ptr(),
-            figures.len(),
+            &mut figures.saifi.lower,
+            &mut figures.saifi.upper,
+            &mut figures.saidi.lower,
+            &mut figures.saidi.upper,
+            &mut figures.caidi.lower,
+            &mut figures.caidi.upper,
+            &mut figures.maifi.lower,
+            &mut figures.maifi.upper,
         )
     })
 }
@@ -292,23 +346,39 @@ pub fn drawn_load_bounds(
     })
 }
 
-/// Writes the figures by a drawn tree, and answers how many are stated. Refused by 16, 20 to 22, 18, 19.
-pub fn drawn_figures(study: &[u8], tree: &[u8], figures: &mut [u64]) -> Answer<usize> {
+/// Writes the figures by a drawn tree, and answers how many are stated. Refused by 16, 20 to 22, 19.
+pub fn drawn_figures(study: &[u8], tree: &[u8], figures: &mut Figures) -> Answer<usize> {
     answer(unsafe {
         grid_drawn_figures(
             study.as_ptr(),
             study.len(),
             tree.as_ptr(),
             tree.len(),
-            figures.as_mut_ptr(),
-            figures.len(),
+            &mut figures.saifi.lower,
+            &mut figures.saifi.upper,
+            &mut figures.saidi.lower,
+            &mut figures.saidi.upper,
+            &mut figures.caidi.lower,
+            &mut figures.caidi.upper,
+            &mut figures.maifi.lower,
+            &mut figures.maifi.upper,
         )
     })
 }
 
-/// Writes the bounds for the chance of surviving so many hours at a rate in FIT, then those for a failure in them. Refused by 23, 18.
-pub fn survival(fit: u32, hours: u32, bounds: &mut [u64]) -> Answer<usize> {
-    answer(unsafe { grid_survival(fit, hours, bounds.as_mut_ptr(), bounds.len()) })
+/// Writes the bounds for the chance of surviving so many hours at a rate in FIT, and those for a failure in them. Refused by 23.
+pub fn survival(fit: u32, hours: u32, chances: &mut Chances) -> Answer<usize> {
+    let Chances { survival, failure } = chances;
+    answer(unsafe {
+        grid_survival(
+            fit,
+            hours,
+            &mut survival.lower,
+            &mut survival.upper,
+            &mut failure.lower,
+            &mut failure.upper,
+        )
+    })
 }
 
 /// How many loads are lost in a class. Never refused.

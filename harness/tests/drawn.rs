@@ -1,7 +1,7 @@
 //! Drawn trees, with answers worked out by hand: what a tree means, by which number a wrong one is refused, and in which order.
 use harness::asked::Asked;
-use harness::generate::{drawn, Random, Style};
-use harness::library::{self, Answer, CLASS_PLACES, FIGURE_PLACES, LIST_BYTES, STUDY_BYTES};
+use harness::generate::{self, drawn, Random, Style};
+use harness::library::{self, Answer, Figures, CLASS_PLACES, LIST_BYTES, STUDY_BYTES};
 use harness::reference::{calls as reference, opening};
 use harness::studies::{from_hexadecimal, to_hexadecimal, CASE_A};
 
@@ -69,12 +69,17 @@ fn load_bounds(image: &[u8], tree: &str, load: usize) -> (Answer<usize>, [u64; 2
     )
 }
 
-fn figures(image: &[u8], tree: &str, room: usize) -> (Answer<usize>, Vec<u64>) {
+/// What the numbers for the figures hold before a call.
+fn lent_figures() -> Figures {
+    generate::figures(&mut Random::new(0))
+}
+
+fn figures(image: &[u8], tree: &str) -> (Answer<usize>, Figures) {
     let tree = &from_hexadecimal(tree);
     agreed(
-        vec![LENT_NUMBER; room],
-        |places| library::drawn_figures(image, tree, places),
-        |places| reference::figures(image, Some(tree), places),
+        lent_figures(),
+        |lent| library::drawn_figures(image, tree, lent),
+        |lent| reference::figures(image, Some(tree), lent),
     )
 }
 
@@ -104,10 +109,13 @@ fn a_tree_replaces_the_gates() {
     assert_eq!((answer, &lower), (Ok(0), &upper));
     assert_eq!(lower[..3], [980_000_000, 20_000_000, 0]);
     assert_eq!(load_bounds(&image, BOTH, 0), (Ok(0), [20_000_000; 2]));
-    let (stated, places) = figures(&image, BOTH, FIGURE_PLACES);
-    assert_eq!(stated, Ok(4));
-    let (saifi, saidi) = (20_000_000, 1_200_000_000);
-    assert_eq!(places, [saifi, saifi, saidi, saidi, 60, 60, 0, 0]);
+    let due = Figures {
+        saifi: [20_000_000; 2].into(),
+        saidi: [1_200_000_000; 2].into(),
+        caidi: [60; 2].into(),
+        maifi: [0; 2].into(),
+    };
+    assert_eq!(figures(&image, BOTH), (Ok(4), due));
 }
 
 #[test]
@@ -188,16 +196,17 @@ fn classes_of_loads_that_the_study_lacks() {
     assert_eq!((paths, entries), (Ok(2), vec![0, 255, 1, 128]));
 }
 
-/// Each call beside a tree, with too little room, for load 1, which case A lacks.
+/// Each call beside a tree, with too little room, for load 1, which case A lacks; that for the figures last.
 fn refused_by(image: &[u8], tree: &str) -> [Answer<usize>; 5] {
     let (listed, buffer) = list(image, tree, 8);
     let (bounded, paths) = path_bounds(image, tree, [2, 3]);
     let (totalled, classes) = class_bounds(image, tree, [CLASS_PLACES, CLASS_PLACES - 1]);
     let (lost, load) = load_bounds(image, tree, 1);
-    let (stated, places) = figures(image, tree, FIGURE_PLACES - 1);
+    let (stated, given) = figures(image, tree);
     assert!(buffer.iter().all(|&byte| byte == LENT_BYTE));
-    let slices = [&paths[..], &classes[..], &[load.to_vec(), places]].concat();
+    let slices = [&paths[..], &classes[..], &[load.to_vec()]].concat();
     assert!(slices.iter().flatten().all(|&n| n == LENT_NUMBER));
+    assert!(stated.is_ok() || given == lent_figures());
     [listed, bounded, totalled, lost, stated]
 }
 
@@ -213,22 +222,17 @@ fn refusals_in_their_order() {
         unsound[159] = 3;
         assert_eq!(refused_by(&unsound, tree), [Err(16); 5]);
     }
+    // Figures need no room that could be too little.
     let by = Err(18);
-    assert_eq!(refused_by(&image, BOTH), [by, by, by, Err(17), by]);
+    assert_eq!(refused_by(&image, BOTH), [by, by, by, Err(17), Ok(4)]);
 }
 
 #[test]
 fn no_customers_come_last() {
     let mut image = image_of(CASE_A);
     assert_eq!(library::set_customers(&mut image, 0, 0), Ok(0));
-    for (tree, room, number) in [
-        ("FF02", 7, 22),
-        (BOTH, 7, 18),
-        ("FF02", 8, 22),
-        (BOTH, 8, 19),
-    ] {
-        let untouched = vec![LENT_NUMBER; room];
-        assert_eq!(figures(&image, tree, room), (Err(number), untouched));
+    for (tree, number) in [("02", 20), ("", 21), ("FF02", 22), (BOTH, 19)] {
+        assert_eq!(figures(&image, tree), (Err(number), lent_figures()));
     }
 }
 

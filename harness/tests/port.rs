@@ -1,9 +1,7 @@
 //! The port that the benchmark times must be right as well: its reports, images, written studies and bounds of classes by a drawn tree agree with the
 //! second implementation's, and its bounds of classes and loads by gates and its chances of surviving with the library's.
 use harness::generate::{self, Random};
-use harness::library::{
-    self, CLASS_PLACES, LONGEST_STUDY, REPORT_BYTES, STUDY_BYTES, SURVIVAL_PLACES,
-};
+use harness::library::{self, CLASS_PLACES, LONGEST_STUDY, REPORT_BYTES, STUDY_BYTES};
 use harness::port;
 use harness::reference::calls as reference;
 use harness::reference::image;
@@ -124,20 +122,17 @@ fn port_agrees() {
     }
 }
 
-/// Chances of surviving, in too few places and then in enough, of which the answer is handed back.
-fn compare_survival(fit: u32, hours: u32) -> Answer {
-    let in_room = |room| {
-        let made = [port::survival, library::survival].map(|call| {
-            let mut bounds = vec![LENT_NUMBER; room];
-            let answer = call(fit, hours, &mut bounds);
-            (answer, bounds)
-        });
-        assert_same(&made, &[fit, hours].map(u32::to_le_bytes).concat());
-        let [(answer, _), _] = made;
-        answer
-    };
-    let _ = in_room(SURVIVAL_PLACES - 1);
-    in_room(SURVIVAL_PLACES)
+/// Chances of surviving, in numbers that hold anything; what is answered is handed back.
+fn compare_survival(random: &mut Random, fit: u32, hours: u32) -> Answer {
+    let held = generate::chances(random);
+    let made = [port::survival, library::survival].map(|call| {
+        let mut chances = held;
+        let answer = call(fit, hours, &mut chances);
+        (answer, chances)
+    });
+    assert_same(&made, &[fit, hours].map(u32::to_le_bytes).concat());
+    let [(answer, _), _] = made;
+    answer
 }
 
 #[test]
@@ -147,7 +142,8 @@ fn port_survives() {
     for _ in 0..100_000 {
         // Products of up to 35 bits, some of them too far.
         let bits = random.between(0, 29);
-        let answer = compare_survival(random.word() >> bits, random.word() >> (29 - bits));
+        let [fit, hours] = [random.word() >> bits, random.word() >> (29 - bits)];
+        let answer = compare_survival(random, fit, hours);
         far += usize::from(answer == Err(23));
     }
     assert!((300..99_700).contains(&far), "{far} too far");

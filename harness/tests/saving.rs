@@ -1,5 +1,5 @@
 //! Opened studies written out as bytes: what is written, worked out by hand, and studies that save alike.
-use harness::generate::{twins, Random};
+use harness::generate::{self, twins, Random};
 use harness::library::{self, LONGEST_STUDY, REPORT_BYTES, STUDY_BYTES};
 use harness::reference::calls as reference;
 use harness::reference::image::read_in_any_order;
@@ -91,24 +91,26 @@ fn assert_unsound(image: &[u8]) {
     let (bytes, places) = (&mut [7; LONGEST_STUDY], &mut [7; 256]);
     let (lower, upper) = places.split_at_mut(128);
     let (study, tree) = (&mut image.to_vec(), &[255, 0]);
+    let held = generate::figures(&mut Random::new(0));
+    let mut figures = held;
     let answers = [
         library::write(image, bytes),
         library::list_paths(image, bytes),
         library::path_bounds(image, lower, upper),
         library::class_bounds(image, lower, upper),
         library::load_bounds(image, 0, &mut lower[0], &mut upper[0]),
-        library::figures(image, lower),
+        library::figures(image, &mut figures),
         library::drawn_list_paths(image, tree, bytes),
         library::drawn_path_bounds(image, tree, lower, upper),
         library::drawn_class_bounds(image, tree, lower, upper),
         library::drawn_load_bounds(image, tree, 0, &mut lower[0], &mut upper[0]),
-        library::drawn_figures(image, tree, lower),
+        library::drawn_figures(image, tree, &mut figures),
         library::set_probabilities(study, 0, [0; 3]),
         library::set_customers(study, 0, 1),
         library::set_minutes(study, 0, 1),
     ];
     assert_eq!(answers, [Err(16); 14]);
-    assert_eq!(study, image);
+    assert_eq!((&study[..], figures), (image, held));
     assert_eq!((&*bytes, &*places), (&[7; LONGEST_STUDY], &[7; 256]));
 }
 

@@ -1,6 +1,6 @@
 //! The judge of the chance of surviving, on values whose digits are published: e^-1 = 0.36787944117.., e^-20 = 0.00000000206115.., and what follows
 //! from both for the bounds that the library gives.
-use harness::library::{self, STUDY_BYTES, SURVIVAL_PLACES};
+use harness::library::{self, Chances, STUDY_BYTES};
 use harness::reference::survival::{broken, exponent, is_lower, is_upper, ONE};
 use harness::studies::{from_hexadecimal, CASE_A};
 
@@ -43,6 +43,14 @@ fn only_23() {
     assert_eq!(exponent(u32::MAX, u32::MAX), Err(23));
 }
 
+/// Bounds of surviving, then those of failure.
+fn chances([lower, upper, failure_lower, failure_upper]: [u64; 4]) -> Chances {
+    Chances {
+        survival: [lower, upper].into(),
+        failure: [failure_lower, failure_upper].into(),
+    }
+}
+
 #[test]
 fn what_is_promised() {
     let kept = [
@@ -51,7 +59,7 @@ fn what_is_promised() {
         ONE - 367_879_450,
         ONE - 367_879_440,
     ];
-    assert_eq!(broken(ONE, kept), None);
+    assert_eq!(broken(ONE, chances(kept)), None);
     let [lower, upper, failure_lower, failure_upper] = kept;
     for (wrong, what) in [
         (
@@ -83,9 +91,9 @@ fn what_is_promised() {
             "not in order from 0 to one",
         ),
     ] {
-        assert_eq!(broken(ONE, wrong), Some(what), "{wrong:?}");
+        assert_eq!(broken(ONE, chances(wrong)), Some(what), "{wrong:?}");
     }
-    let uncertain = broken(0, [ONE - 1, ONE, 0, 1]);
+    let uncertain = broken(0, chances([ONE - 1, ONE, 0, 1]));
     assert_eq!(uncertain, Some("an exponent of 0 is certain"));
 }
 
@@ -98,21 +106,22 @@ fn the_library_keeps_it() {
         (4_000_000_000, 5),
         (1, 8_760),
     ] {
-        let mut bounds = [0; SURVIVAL_PLACES];
-        assert_eq!(library::survival(fit, hours, &mut bounds), Ok(0));
-        assert_eq!(broken(u64::from(fit) * u64::from(hours), bounds), None);
+        let mut given = Chances::default();
+        assert_eq!(library::survival(fit, hours, &mut given), Ok(0));
+        assert_eq!(broken(u64::from(fit) * u64::from(hours), given), None);
     }
 }
 
 /// Case A with the chance of failure of 1,000 FIT over a year for component 0. Its load is lost at 8,721,747 + 991,278,253 × 0.2, which ends in .6.
 #[test]
 fn from_a_rate_to_a_study() {
-    let mut bounds = [0; SURVIVAL_PLACES];
-    assert_eq!(library::survival(1000, 8_760, &mut bounds), Ok(0));
-    assert_eq!(bounds, [991_278_253, 991_278_263, 8_721_737, 8_721_747]);
+    let mut given = Chances::default();
+    assert_eq!(library::survival(1000, 8_760, &mut given), Ok(0));
+    let due = chances([991_278_253, 991_278_263, 8_721_737, 8_721_747]);
+    assert_eq!(given, due);
     let mut study = [0; STUDY_BYTES];
     assert_eq!(library::open(&from_hexadecimal(CASE_A), &mut study), Ok(0));
-    let failed = u32::try_from(bounds[3]).expect("at most one");
+    let failed = u32::try_from(given.failure.upper).expect("at most one");
     let edited = library::set_probabilities(&mut study, 0, [failed, 0, 0]);
     assert_eq!(edited, Ok(0));
     let [mut lower, mut upper] = [0; 2];

@@ -1,5 +1,6 @@
 //! The worked examples and the places where opening is easily got wrong, with answers worked out by hand.
-use harness::library::{self, Answer, STUDY_BYTES};
+use harness::generate::{self, Random};
+use harness::library::{self, Answer, Figures, STUDY_BYTES};
 use harness::reference::{calls as reference, report};
 use harness::studies::{from_hexadecimal, CASE_A};
 
@@ -33,8 +34,8 @@ fn second_list(image: &[u8], list: &mut [u8]) -> Answer<usize> {
     reference::list_paths(image, None, list)
 }
 
-fn second_figures(image: &[u8], places: &mut [u64]) -> Answer<usize> {
-    reference::figures(image, None, places)
+fn second_figures(image: &[u8], figures: &mut Figures) -> Answer<usize> {
+    reference::figures(image, None, figures)
 }
 
 #[test]
@@ -235,10 +236,10 @@ fn m_no_customers() {
     let mut image = image_of(CASE_A);
     assert_eq!(library::set_customers(&mut image, 0, 0), Ok(0));
     for call in [library::figures, second_figures] {
-        let mut places = [7; 8];
-        assert_eq!(call(&image, &mut places), Err(19));
-        assert_eq!(places, [7; 8]);
-        assert_eq!(call(&image, &mut places[..7]), Err(18));
+        let held = generate::figures(&mut Random::new(0));
+        let mut figures = held;
+        assert_eq!(call(&image, &mut figures), Err(19));
+        assert_eq!(figures, held);
     }
     let nobody = "02 01 01  02 00E1F505  02 00C2EB0B  02 02 0002 0102  05 00 3C000000";
     assert!(report_of(nobody).ends_with("L 0 280000000 280000000\nINDICES 19\n"));
@@ -304,12 +305,19 @@ fn five_minutes_are_short_and_six_are_not() {
 }
 
 #[test]
-fn places_of_caidi_keep_what_they_held() {
+fn numbers_of_caidi_keep_what_they_held() {
     let short = "02 01 01  02 00E1F505  02 00C2EB0B  02 02 0002 0102  07 00 64000000 05000000";
     let image = image_of(short);
     for call in [library::figures, second_figures] {
-        let mut places = [7; 9];
-        assert_eq!(call(&image, &mut places), Ok(3));
-        assert_eq!(places, [0, 0, 0, 0, 7, 7, 280_000_000, 280_000_000, 7]);
+        let held = generate::figures(&mut Random::new(0));
+        let mut figures = held;
+        assert_eq!(call(&image, &mut figures), Ok(3));
+        let due = Figures {
+            saifi: [0; 2].into(),
+            saidi: [0; 2].into(),
+            caidi: held.caidi,
+            maifi: [280_000_000; 2].into(),
+        };
+        assert_eq!(figures, due);
     }
 }

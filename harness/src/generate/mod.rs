@@ -1,8 +1,10 @@
-//! Inputs for the comparison, from a seed: sound studies, twins of them, damaged ones, altered images, and trees that are drawn beside a study.
+//! Inputs for the comparison, from a seed: sound studies, twins of them, damaged ones, altered images, trees that are drawn beside a study, and what
+//! lent numbers hold.
 mod altered;
 mod damaged;
 mod damaged_trees;
 mod draft;
+mod numbers;
 mod random;
 mod sound;
 mod trees;
@@ -10,6 +12,7 @@ mod twins;
 
 pub use altered::altered;
 pub use damaged_trees::{damaged_tree, tree_noise};
+pub use numbers::{chances, figures};
 pub use random::Random;
 pub use trees::{drawn, tree, Style};
 pub use twins::twins;

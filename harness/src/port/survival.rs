@@ -1,4 +1,5 @@
 //! The chance of surviving from a rate and hours.
+use crate::library::{Bounds, Chances};
 
 const ONE: u64 = 1_000_000_000;
 
@@ -34,7 +35,7 @@ const FACTORS: [u64; 21] = [
 ];
 
 /// A lower and an upper bound for the exponential of minus an exponent.
-fn bounds(exponent: u64) -> [u64; 2] {
+fn bounds(exponent: u64) -> Bounds {
     let mut lower = ONE - exponent % GRAIN;
     let mut upper = ONE.min(lower + 1);
     let mut bits = exponent / GRAIN;
@@ -45,17 +46,23 @@ fn bounds(exponent: u64) -> [u64; 2] {
         }
         bits /= 2;
     }
-    [lower, ONE.min(upper + 1)]
+    Bounds {
+        lower,
+        upper: ONE.min(upper + 1),
+    }
 }
 
-/// Writes the bounds for the chance of surviving, then those for a failure. Refused by 23, 18.
-pub fn survival(fit: u32, hours: u32, places: &mut [u64]) -> Result<usize, u8> {
+/// Writes the bounds for the chance of surviving, and those for a failure. Refused by 23.
+pub fn survival(fit: u32, hours: u32, chances: &mut Chances) -> Result<usize, u8> {
     let exponent = u64::from(fit) * u64::from(hours);
     if exponent > FARTHEST {
         return Err(23);
     }
-    let places: &mut [u64; 4] = places.first_chunk_mut().ok_or(18)?;
-    let [lower, upper] = bounds(exponent);
-    *places = [lower, upper, ONE - upper, ONE - lower];
+    let survival = bounds(exponent);
+    let failure = Bounds {
+        lower: ONE - survival.upper,
+        upper: ONE - survival.lower,
+    };
+    *chances = Chances { survival, failure };
     Ok(0)
 }

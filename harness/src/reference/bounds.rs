@@ -4,12 +4,8 @@ use super::paths::{paths, Path};
 use super::study::{Study, ONE};
 use std::collections::BTreeMap;
 
-/// A lower and an upper bound.
-#[derive(Clone, Copy, Debug, PartialEq)]
-pub struct Bounds {
-    pub lower: u64,
-    pub upper: u64,
-}
+/// A lower and an upper bound, as they are lent.
+pub use crate::library::Bounds;
 
 /// A study's paths under a meaning, each with its bounds.
 pub fn bounded_paths(study: &Study, meaning: &Meaning) -> Vec<(Path, Bounds)> {

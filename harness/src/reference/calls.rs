@@ -1,7 +1,7 @@
 //! The library's calls over lent bytes, in the same form: a count or a refusal, and nothing lent touched where refused. A call that takes a tree goes
 //! by the gates where it is given none.
 use super::bounds::{bounded_paths, class_bounds as by_class, load_bounds as of_load, Bounds};
-use super::figures::{figures as figures_of, Figures};
+use super::figures::figures as figures_of;
 use super::image::{self, IMAGE_BYTES};
 use super::losses::{Losses, Meaning};
 use super::opening;
@@ -10,6 +10,7 @@ use super::refusals::*;
 use super::report::report as report_of;
 use super::study::*;
 use super::writing;
+use crate::library::Figures as LentFigures;
 
 type Answer = Result<usize, u8>;
 
@@ -131,25 +132,17 @@ pub fn load_bounds(
     Ok(0)
 }
 
-pub fn figures(image: &[u8], tree: Option<&[u8]>, places: &mut [u64]) -> Answer {
+pub fn figures(image: &[u8], tree: Option<&[u8]>, lent: &mut LentFigures) -> Answer {
     let study = sound(image)?;
     let meaning = Meaning::of(&study, tree)?;
-    unless(places.len() >= 8, NO_ROOM)?;
-    let Figures {
-        saifi,
-        saidi,
-        caidi,
-        maifi,
-    } = figures_of(&study, &bounded_paths(&study, &meaning))?;
-    let stated = [Some(saifi), Some(saidi), caidi, Some(maifi)];
-    // Each figure has two places of its own, whether or not the others are stated.
-    for (figure, pair) in stated.iter().zip(places.chunks_mut(2)) {
-        if let Some(bounds) = figure {
-            pair[0] = bounds.lower;
-            pair[1] = bounds.upper;
-        }
-    }
-    Ok(stated.iter().flatten().count())
+    let given = figures_of(&study, &bounded_paths(&study, &meaning))?;
+    *lent = LentFigures {
+        saifi: given.saifi,
+        saidi: given.saidi,
+        caidi: given.caidi.unwrap_or(lent.caidi),
+        maifi: given.maifi,
+    };
+    Ok(3 + usize::from(given.caidi.is_some()))
 }
 
 pub fn loads_lost(class: u8) -> Answer {

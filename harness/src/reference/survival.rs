@@ -3,6 +3,7 @@
 use super::big::Big;
 use super::refusals::{unless, TOO_FAR};
 use super::study;
+use crate::library::{Bounds, Chances};
 use std::iter;
 
 /// Certainty, in units.
@@ -99,8 +100,9 @@ pub fn is_upper(exponent: u64, units: u64) -> bool {
 }
 
 /// What bounds for surviving and for failure break of what is promised at an exponent.
-pub fn broken(exponent: u64, bounds: [u64; 4]) -> Option<&'static str> {
-    let [lower, upper, failure_lower, failure_upper] = bounds;
+pub fn broken(exponent: u64, chances: Chances) -> Option<&'static str> {
+    let Chances { survival, failure } = chances;
+    let Bounds { lower, upper } = survival;
     if lower > upper || upper > ONE {
         return Some("not in order from 0 to one");
     }
@@ -108,8 +110,8 @@ pub fn broken(exponent: u64, bounds: [u64; 4]) -> Option<&'static str> {
         (upper - lower <= WIDEST, "too far apart"),
         (is_lower(exponent, lower), "the lower bound is above"),
         (is_upper(exponent, upper), "the upper bound is below"),
-        (failure_lower == ONE - upper, "failure's lower bound"),
-        (failure_upper == ONE - lower, "failure's upper bound"),
+        (failure.lower == ONE - upper, "failure's lower bound"),
+        (failure.upper == ONE - lower, "failure's upper bound"),
         (exponent > 0 || lower == ONE, "an exponent of 0 is certain"),
     ];
     let first = promised.iter().find(|(kept, _)| !kept);

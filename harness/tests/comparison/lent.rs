@@ -17,6 +17,16 @@ impl<T: Copy> Lent<T> {
         Lent { places, room }
     }
 
+    /// One place, which holds what is drawn for it, as the margins do.
+    pub fn one(random: &mut Random, any: fn(&mut Random) -> T) -> Lent<T> {
+        Lent::around((0..1 + 2 * MARGIN).map(|_| any(random)).collect())
+    }
+
+    /// The first of the lent places.
+    pub fn first(&mut self) -> &mut T {
+        &mut self.room()[0]
+    }
+
     pub fn room(&mut self) -> &mut [T] {
         &mut self.places[MARGIN..MARGIN + self.room]
     }
@@ -28,11 +38,11 @@ impl<T: Copy> Lent<T> {
 }
 
 /// The lent places in hexadecimal, between their margins.
-impl<T: Copy + fmt::LowerHex> fmt::Debug for Lent<T> {
+impl<T: Copy + fmt::Debug> fmt::Debug for Lent<T> {
     fn fmt(&self, line: &mut fmt::Formatter) -> fmt::Result {
         for (k, place) in self.places.iter().enumerate() {
             let border = k == MARGIN || k == MARGIN + self.room;
-            write!(line, "{}{place:02x}", if border { " | " } else { " " })?;
+            write!(line, "{}{place:02x?}", if border { " | " } else { " " })?;
         }
         Ok(())
     }

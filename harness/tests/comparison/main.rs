@@ -175,10 +175,6 @@ fn assert_enough(tally: &Tally) {
     often(tally.drawn_gates, "trees drawn from gates");
     often(tally.survival.given, "chances of surviving");
     often(
-        tally.survival.refused[18],
-        "chances of surviving, refused by 18",
-    );
-    often(
         tally.survival.refused[23],
         "chances of surviving, refused by 23",
     );

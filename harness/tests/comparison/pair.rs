@@ -8,8 +8,8 @@ use crate::questions::Question;
 use crate::shown::{shown, Shown};
 use crate::tally::Tally;
 use harness::asked::Asked;
-use harness::generate::Random;
-use harness::library::{self, FIGURE_PLACES, STUDY_BYTES};
+use harness::generate::{self, Random};
+use harness::library::{self, STUDY_BYTES};
 use harness::reference::calls as reference;
 use harness::reference::{opening, report};
 use harness::studies::to_hexadecimal;
@@ -249,18 +249,15 @@ impl<'a> Pair<'a> {
     }
 
     pub fn figures(&mut self, random: &mut Random, asked: Asked) {
-        let shown = Shown::of(random, asked);
-        for room in [room(random, FIGURE_PLACES), FIGURE_PLACES] {
-            let both = self.ask(
-                Question::Figures,
-                shown.clone(),
-                Lent::words(random, room),
-                |shown, lent| shown.asked().figures(lent.room()),
-                |shown, lent| reference::figures(shown.image(), shown.tree(), lent.room()),
-            );
-            if let Ok(stated) = both.answer {
-                self.tally.count_figures(stated, both.lent.held());
-            }
+        let both = self.ask(
+            Question::Figures,
+            Shown::of(random, asked),
+            Lent::one(random, generate::figures),
+            |shown, lent| shown.asked().figures(lent.first()),
+            |shown, lent| reference::figures(shown.image(), shown.tree(), lent.first()),
+        );
+        if let Ok(stated) = both.answer {
+            self.tally.count_figures(stated, &both.lent.held()[0]);
         }
     }
 

@@ -27,7 +27,7 @@ impl Question {
                 &[16, 18, 20, 21, 22]
             }
             Question::LoadBounds => &[16, 17, 20, 21, 22],
-            Question::Figures => &[16, 18, 19, 20, 21, 22],
+            Question::Figures => &[16, 19, 20, 21, 22],
         }
     }
 }

@@ -1,9 +1,8 @@
-//! The chance of surviving: refusals and lent places compared, and bounds judged by what is promised, since which pair is given is the library's choice.
-use crate::lent::{room, Lent};
+//! The chance of surviving: refusals and lent numbers compared, and bounds judged by what is promised, since which pair is given is the library's choice.
+use crate::lent::Lent;
 use crate::tally::Tally;
-use harness::generate::Random;
-use harness::library::{self, SURVIVAL_PLACES};
-use harness::reference::refusals::{unless, NO_ROOM};
+use harness::generate::{self, Random};
+use harness::library::{self, Chances};
 use harness::reference::survival::{broken, exponent, FARTHEST, ONE};
 
 /// How many drawn chances are judged, and of how many more only the gap is looked at.
@@ -53,42 +52,35 @@ fn edges() -> impl Iterator<Item = [u32; 2]> {
     near.filter_map(with_product).chain(extremes)
 }
 
-/// One call in so many places.
-fn judge(tally: &mut Tally, random: &mut Random, [fit, hours]: [u32; 2], room: usize) {
-    let lent = Lent::words(random, room);
+/// One call, in numbers that hold anything.
+fn judge(tally: &mut Tally, random: &mut Random, [fit, hours]: [u32; 2]) {
+    let lent = Lent::one(random, generate::chances);
     let mut left = lent.clone();
-    let answer = library::survival(fit, hours, left.room());
+    let answer = library::survival(fit, hours, left.first());
     let judged = exponent(fit, hours);
-    let due = judged.and_then(|_| unless(room >= SURVIVAL_PLACES, NO_ROOM).map(|()| 0));
-    let call = format!("{fit} FIT over {hours} hours in {room} places");
-    assert_eq!(answer, due, "{call}");
+    let call = format!("{fit} FIT over {hours} hours");
+    assert_eq!(answer, judged.map(|_| 0), "{call}");
     tally.answers.count(answer);
     tally.survival.count(answer);
-    let (Ok(exponent), Ok(_)) = (judged, answer) else {
-        assert!(left == lent, "{call}: what was lent was touched");
-        return;
-    };
-    let bounds: [u64; SURVIVAL_PLACES] = *left.held().first_chunk().expect("room for them");
-    let what = broken(exponent, bounds);
-    assert!(what.is_none(), "{call}: {bounds:?}: {what:?}");
-    let kept = &lent.held()[..SURVIVAL_PLACES];
-    left.room()[..SURVIVAL_PLACES].copy_from_slice(kept);
-    assert!(left == lent, "{call}: more was written than the bounds");
+    if let Ok(exponent) = judged {
+        let chances = *left.first();
+        let what = broken(exponent, chances);
+        assert!(what.is_none(), "{call}: {chances:?}: {what:?}");
+        *left.first() = lent.held()[0];
+    }
+    assert!(left == lent, "{call}: more was touched than the bounds");
 }
 
-/// Every edge in too little room, just enough and more, and pairs that are drawn, until enough of them are given.
+/// Every edge, and pairs that are drawn, until enough of them are given.
 pub fn compare_survival(tally: &mut Tally, seed: u64) {
     let random = &mut Random::new(seed);
     for pair in edges() {
-        for room in 0..=SURVIVAL_PLACES + 1 {
-            judge(tally, random, pair, room);
-        }
+        judge(tally, random, pair);
     }
     let at_edges = tally.survival.given;
     while tally.survival.given < at_edges + JUDGED {
         let pair = drawn(random);
-        let room = room(random, SURVIVAL_PLACES);
-        judge(tally, random, pair, room);
+        judge(tally, random, pair);
     }
 }
 
@@ -96,15 +88,15 @@ pub fn compare_survival(tally: &mut Tally, seed: u64) {
 pub fn widest_gap(seed: u64) -> u64 {
     let random = &mut Random::new(seed);
     let gaps = (0..LOOKED_AT).map(|_| {
-        let mut bounds = [0; SURVIVAL_PLACES];
+        let mut chances = Chances::default();
         let hours = random.pick(&[1, 5, 7, 100, 8_760]);
         let most = (FARTHEST / u64::from(hours)).min(u64::from(u32::MAX));
         let fit = match random.below(2) {
             0 => random.below(most as usize + 1) as u64,
             _ => of_bits(random, 32).min(most),
         };
-        library::survival(fit as u32, hours, &mut bounds).expect("not too far");
-        bounds[1] - bounds[0]
+        library::survival(fit as u32, hours, &mut chances).expect("not too far");
+        chances.survival.upper - chances.survival.lower
     });
     gaps.max().unwrap_or(0)
 }

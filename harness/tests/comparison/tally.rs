@@ -2,6 +2,7 @@
 use crate::orders::{has_falling, Disorder};
 use crate::questions::Drawn;
 use crate::repeats::{is_overvoted, is_overvoted_alone, Repeats};
+use harness::library::Figures;
 use harness::reference::image;
 use harness::reference::refusals::THRESHOLD;
 use harness::reference::study::Study;
@@ -91,11 +92,10 @@ impl Tally {
         self.overvoted_images += usize::from(overvoted);
     }
 
-    /// Takes note of what kind of figures were answered, as many as are stated, in their places.
-    pub fn count_figures(&mut self, stated: usize, places: &[u64]) {
-        let (saifi_upper, maifi_upper) = (places[1], places[7]);
+    /// Takes note of what kind of figures were answered, as many as are stated.
+    pub fn count_figures(&mut self, stated: usize, figures: &Figures) {
         self.unstated += usize::from(stated == 3);
-        self.mixed += usize::from(saifi_upper > 0 && maifi_upper > 0);
+        self.mixed += usize::from(figures.saifi.upper > 0 && figures.maifi.upper > 0);
     }
 }
 
@@ -133,8 +133,8 @@ impl fmt::Display for Tally {
         )?;
         writeln!(
             line,
-            "{} times a chance of surviving that keeps what is promised, refused by 23: {}, by 18: {}",
-            self.survival.given, self.survival.refused[23], self.survival.refused[18]
+            "{} times a chance of surviving that keeps what is promised, refused by 23: {}",
+            self.survival.given, self.survival.refused[23]
         )?;
         write!(
             line,

@@ -2,9 +2,7 @@
 mod inputs;
 mod timing;
 
-use harness::library::{
-    self, CLASS_PLACES, LONGEST_STUDY, REPORT_BYTES, STUDY_BYTES, SURVIVAL_PLACES,
-};
+use harness::library::{self, Chances, CLASS_PLACES, LONGEST_STUDY, REPORT_BYTES, STUDY_BYTES};
 use harness::port;
 use inputs::{Drawn, Input};
 use timing::{side_by_side, Answer, Call, Times};
@@ -115,29 +113,31 @@ fn load_bounds(input: &Input) {
     print_row(input, side_by_side(calls, &input.image(), 2));
 }
 
-/// Asks for the chances at each of the given rates and hours, in places of its own.
+/// Asks for the chances at each of the given rates and hours.
 fn for_each_rate(
-    call: fn(u32, u32, &mut [u64]) -> Answer,
+    call: fn(u32, u32, &mut Chances) -> Answer,
     given: &[u8],
-    places: &mut [u64],
+    places: &mut [Chances],
 ) -> Answer {
     let word = |bytes: &[u8]| u32::from_le_bytes(bytes.try_into().expect("four bytes"));
     let pairs = given.chunks_exact(inputs::RATE_BYTES);
-    for (pair, bounds) in pairs.zip(places.chunks_exact_mut(SURVIVAL_PLACES)) {
+    for (pair, chances) in pairs.zip(places) {
         let (fit, hours) = pair.split_at(inputs::RATE_BYTES / 2);
-        call(word(fit), word(hours), bounds)?;
+        call(word(fit), word(hours), chances)?;
     }
     Ok(0)
 }
 
 fn survival(rates: &[u8]) {
-    let calls: [Call<u64>; 2] = [
+    let calls: [Call<Chances>; 2] = [
         |given, places| for_each_rate(library::survival, given, places),
         |given, places| for_each_rate(port::survival, given, places),
     ];
     let count = rates.len() / inputs::RATE_BYTES;
-    let times = side_by_side(calls, rates, count * SURVIVAL_PLACES);
-    print_times(format!("{count} rates and hours"), times);
+    print_times(
+        format!("{count} rates and hours"),
+        side_by_side(calls, rates, count),
+    );
 }
 
 fn main() {
