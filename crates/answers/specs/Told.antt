@@ -73,12 +73,20 @@ abbrev pub boundsTold : BoundsAnswer → Told
 boundsTold (Bounds pair) = result (pairValues pair)
 boundsTold (NoBounds n) = refusal n
 
--- of the call for the figures: a pair for each that is stated
-abbrev pub figuresTold : FiguresAnswer → Told
-figuresTold (Figures figures) = result (figureValues figures)
-figuresTold (NoFigures n) = refusal n
+-- of the call for the figures, what it tells of one or of all: the values that are wanted of them
+abbrev pub figuresToldOf : (FigureValues → List ℕ) → FiguresAnswer → Told
+figuresToldOf wanted (Figures figures) = result (wanted figures)
+figuresToldOf wanted (NoFigures n) = refusal n
 
--- of the call for the chance of surviving: its pair, then that of failure
+-- a pair for each that is stated
+abbrev pub figuresTold : FiguresAnswer → Told
+figuresTold = figuresToldOf figureValues
+
+-- of the call for the chance of surviving, likewise
+abbrev pub survivalToldOf : (ChanceBounds → List ℕ) → SurvivalAnswer → Told
+survivalToldOf wanted (Chances chances) = result (wanted chances)
+survivalToldOf wanted (NoChances n) = refusal n
+
+-- its pair, then that of failure
 abbrev pub survivalTold : SurvivalAnswer → Told
-survivalTold (Chances chances) = result (chanceValues chances)
-survivalTold (NoChances n) = refusal n
+survivalTold = survivalToldOf chanceValues

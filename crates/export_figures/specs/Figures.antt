@@ -4,29 +4,22 @@ use mathlib.Core.Path.{_≡_}
 use mathlib.Core.List.{List}
 use lib.IntN.{ℤ}
 use Rattle.answers.specs.declared.bounds.Enclosure.{Enclosure}
-use Rattle.answers.specs.declared.figures.Figures.{Figures as FigureValues}
 use Rattle.answers.specs.declared.figures.FiguresAnswer.{FiguresAnswer}
-use Rattle.answers.specs.declared.figures.FiguresAnswer.the-variants.{Figures, Refused}
-use Rattle.answers.specs.Told.{Told, result, refusal, pairValues, caidiValues, figuresTold}
+use Rattle.answers.specs.Told.{pairValues, caidiValues, figuresToldOf, figuresTold}
 use Rattle.meaning.specs.Meaning.{Meaning}
 use Rattle.loss_calls.specs.Figures.{figuresGiven}
 use Rattle.study_image.specs.Image.{studyIn}
 use Rattle.export_answers.specs.Answers.{answeredBy, pairs, leftBy}
-
--- what an answer tells of one figure
-abbrev pub figureTold : (FigureValues → List ℕ) → FiguresAnswer → Told
-figureTold values (Figures figures) = result (values figures)
-figureTold values (Refused number) = refusal number
 
 -- an answer in the numbers: how many figures are stated, and what is left in the two of each; CAIDI has no values where
 -- it is not stated
 pub record TakesFigures (given : FiguresAnswer)
     (saifi-was saidi-was caidi-was maifi-was saifi saidi caidi maifi : Enclosure) (answer : ℤ) : Type 0 where
   pub answered : answer ≡ answeredBy pairs (figuresTold given)
-  pub saifi-left : saifi ≡ leftBy (figureTold (λ f. pairValues (f .saifi)) given) saifi-was
-  pub saidi-left : saidi ≡ leftBy (figureTold (λ f. pairValues (f .saidi)) given) saidi-was
-  pub caidi-left : caidi ≡ leftBy (figureTold (λ f. caidiValues (f .caidi)) given) caidi-was
-  pub maifi-left : maifi ≡ leftBy (figureTold (λ f. pairValues (f .maifi)) given) maifi-was
+  pub saifi-left : saifi ≡ leftBy (figuresToldOf (λ f. pairValues (f .saifi)) given) saifi-was
+  pub saidi-left : saidi ≡ leftBy (figuresToldOf (λ f. pairValues (f .saidi)) given) saidi-was
+  pub caidi-left : caidi ≡ leftBy (figuresToldOf (λ f. caidiValues (f .caidi)) given) caidi-was
+  pub maifi-left : maifi ≡ leftBy (figuresToldOf (λ f. pairValues (f .maifi)) given) maifi-was
 
 -- the calls
 abbrev pub GivesFigures : (m : Meaning) (study : List ℕ)
