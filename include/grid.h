@@ -1,8 +1,8 @@
 /* The calls of the planning package for C. Link target/staticlib/libexports.a.
  *
- * A slice is a pointer and its length in elements; a bound that is asked for is a pointer to one number, or with a name that ends in `_of` a field of a
- * struct. A call answers a count or 0, or a refusal as its number below 0; the numbers are those of the refusal table. Where a call is refused,
- * nothing lent is touched. No call keeps a pointer, and what is lent must not overlap.
+ * A slice is a pointer and its length in elements. Bounds of a load, of the figures and of the chances go to a number each, by its pointer; the calls at
+ * the end, with `_of` behind their names, take a struct of these numbers. A call answers a count or 0, or a refusal as its number below 0; the numbers
+ * are those of the refusal table. Where a call is refused, nothing lent is touched. No call keeps a pointer, and what is lent must not overlap.
  *
  * A drawn tree is a row of bytes beside a study: a component's number and behind it a subtree for each of its states, from state 0 on; or 255 and
  * behind it a class. Each branch may ask components in an order of its own, but none twice. For that one call the tree stands in for the gates and

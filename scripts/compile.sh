@@ -4,4 +4,4 @@ cd "$(dirname "$0")/.." || exit 1
 name=$1
 shift
 mkdir -p harness/target &&
-    cc -std=c99 -Wall -Wextra -Werror -Iinclude "$@" "harness/c/$name.c" target/staticlib/libexports.a -o "harness/target/$name"
+    cc -std=c99 -pedantic -Wall -Wextra -Werror -Iinclude "$@" "harness/c/$name.c" target/staticlib/libexports.a -o "harness/target/$name"
