@@ -1,10 +1,12 @@
 //! Compares every call of the proved library with the second implementation, on generated inputs: sound, damaged and altered studies, and trees that
 //! are drawn beside them, damaged or not; and rates beside hours.
 //! The words behind `cargo test --test comparison --` may be another number of inputs, and another first seed.
+mod answers;
+mod calls;
+mod enough;
 mod lent;
 mod orders;
 mod pair;
-mod questions;
 mod repeats;
 mod shown;
 mod survival;
@@ -16,7 +18,7 @@ use harness::reference::image;
 use harness::reference::study::Study;
 use pair::Pair;
 use std::env;
-use tally::{Tally, LAST_REFUSAL};
+use tally::Tally;
 
 const INPUTS: u64 = 20_000;
 const FIRST_SEED: u64 = 0;
@@ -24,8 +26,8 @@ const FIRST_SEED: u64 = 0;
 /// More room than the longest word needs.
 const MOST_ROOM: usize = 16;
 
-/// Each refusal, each kind of figures, of order and of lent slices must be met this often, or the inputs say too little about it.
-const OFTEN: usize = 300;
+/// How often each word is asked for in each room: once would be too seldom for the rooms that are too little.
+const WORD_ROUNDS: usize = 4;
 
 /// Items that studies have, and others that they lack.
 fn item(random: &mut Random, image: &[u8], count_at: usize) -> usize {
@@ -135,49 +137,17 @@ fn compare_input(tally: &mut Tally, seed: u64) {
     }
 }
 
-/// The word of every number, into too little room, just enough and more.
+/// The word of every number, into too little room, just enough and more, which holds something else each time.
 fn compare_words(tally: &mut Tally, seed: u64) {
     let mut random = Random::new(seed);
     let mut pair = Pair::new(seed, &[], tally);
-    for number in 0..=255 {
-        for room in 0..=MOST_ROOM {
-            pair.refusal_word(&mut random, number, room);
+    for _ in 0..WORD_ROUNDS {
+        for number in 0..=255 {
+            for room in 0..=MOST_ROOM {
+                pair.refusal_word(&mut random, number, room);
+            }
         }
     }
-}
-
-/// Whether the inputs met enough of what can happen.
-fn assert_enough(tally: &Tally) {
-    assert!(tally.sound * 3 >= tally.inputs, "too few sound studies");
-    let often = |met: usize, what: &str| assert!(met >= OFTEN, "{what}: met {met} times");
-    for number in 1..=LAST_REFUSAL {
-        often(tally.answers.refused[number], &format!("refusal {number}"));
-    }
-    often(tally.unstated, "without CAIDI");
-    often(tally.mixed, "short and other loads");
-    often(tally.given.least(), "inputs given out of order");
-    often(tally.falling, "inputs given in falling order");
-    often(tally.repeated.least(), "repeated inputs");
-    often(tally.overvoted, "refusal 12 for repeats alone");
-    often(tally.overvoted_images, "refusal 16 for repeats alone");
-    often(tally.disordered.least(), "images out of order alone");
-    for (answers, call) in [
-        (&tally.written, "writing"),
-        (&tally.in_full, "bounds of classes in full slices"),
-    ] {
-        often(answers.given, call);
-        often(answers.refused[16], &format!("{call}, refused by 16"));
-        often(answers.refused[18], &format!("{call}, refused by 18"));
-    }
-    for (answer, met) in tally.drawn.met() {
-        often(met, &answer);
-    }
-    often(tally.drawn_gates, "trees drawn from gates");
-    often(tally.survival.given, "chances of surviving");
-    often(
-        tally.survival.refused[23],
-        "chances of surviving, refused by 23",
-    );
 }
 
 fn main() {
@@ -195,7 +165,8 @@ fn main() {
         "the widest gap between two bounds of a chance of surviving: {} units",
         survival::widest_gap(first_seed)
     );
+    enough::assert_no_others(&tally.calls);
     if inputs >= INPUTS {
-        assert_enough(&tally);
+        enough::assert_enough(&tally);
     }
 }

@@ -3,8 +3,8 @@ mod classes;
 mod drawn;
 mod saving;
 
+use crate::calls::{Call, Question};
 use crate::lent::{room, Lent};
-use crate::questions::Question;
 use crate::shown::{shown, Shown};
 use crate::tally::Tally;
 use harness::asked::Asked;
@@ -45,7 +45,8 @@ impl<'a> Pair<'a> {
     /// Makes a call twice, on two copies of what is lent, and hands back the answer and the space.
     fn compare<L: Clone + PartialEq + Debug>(
         &mut self,
-        call: &str,
+        call: Call,
+        how: &str,
         lent: L,
         proved: impl Fn(&mut L) -> Answer,
         second: impl Fn(&mut L) -> Answer,
@@ -54,14 +55,14 @@ impl<'a> Pair<'a> {
         let found = proved(&mut ours);
         let due = second(&mut theirs);
         if found != due || ours != theirs {
-            println!("seed {}: {call}", self.seed);
+            println!("seed {}: {call} {how}", self.seed);
             println!("study:  {}", to_hexadecimal(self.bytes));
             println!("lent:   {lent:?}");
             println!("proved: {ours:?}");
             println!("second: {theirs:?}");
-            panic!("{call}: {found:?} where {due:?} is due, or what was lent differs");
+            panic!("{call} {how}: {found:?} where {due:?} is due, or what was lent differs");
         }
-        self.tally.answers.count(due);
+        self.tally.calls.count(call, due);
         Agreed {
             answer: due,
             lent: theirs,
@@ -77,16 +78,17 @@ impl<'a> Pair<'a> {
         proved: impl Fn(&Shown, &mut L) -> Answer,
         second: impl Fn(&Shown, &mut L) -> Answer,
     ) -> Agreed<L> {
-        let by_tree = shown.tree().is_some();
+        let call = match shown.tree() {
+            None => Call::Gates(question),
+            Some(_) => Call::Drawn(question),
+        };
         let both = self.compare(
-            &question.to_string(),
+            call,
+            "as shown",
             (shown, lent),
             |(shown, lent)| proved(shown, lent),
             |(shown, lent)| second(shown, lent),
         );
-        if by_tree {
-            self.tally.drawn.count(question, both.answer);
-        }
         let (_, lent) = both.lent;
         Agreed {
             answer: both.answer,
@@ -100,7 +102,8 @@ impl<'a> Pair<'a> {
         let mut opened = (Err(0), vec![0; STUDY_BYTES]);
         for room in [room(random, STUDY_BYTES), STUDY_BYTES] {
             let both = self.compare(
-                &format!("open into {room} bytes"),
+                Call::Open,
+                &format!("into {room} bytes"),
                 Lent::bytes(random, room),
                 |lent| library::open(bytes, lent.room()),
                 |lent| reference::open(bytes, lent.room()),
@@ -121,7 +124,8 @@ impl<'a> Pair<'a> {
         let need = report::report(bytes).len();
         for room in [room(random, need), need] {
             self.compare(
-                &format!("report into {room} bytes"),
+                Call::Report,
+                &format!("into {room} bytes"),
                 Lent::bytes(random, room),
                 |lent| library::report(bytes, lent.room()),
                 |lent| reference::report(bytes, lent.room()),
@@ -134,12 +138,14 @@ impl<'a> Pair<'a> {
         &mut self,
         random: &mut Random,
         image: &[u8],
-        call: &str,
+        call: Call,
+        how: &str,
         proved: impl Fn(&mut [u8]) -> Answer,
         second: impl Fn(&mut [u8]) -> Answer,
     ) -> Vec<u8> {
         let both = self.compare(
             call,
+            how,
             shown(random, image),
             |lent| proved(lent.room()),
             |lent| second(lent.room()),
@@ -160,7 +166,8 @@ impl<'a> Pair<'a> {
         self.edit(
             random,
             image,
-            &format!("set probabilities of {component} to {p:?}"),
+            Call::SetProbabilities,
+            &format!("of {component} to {p:?}"),
             |image| library::set_probabilities(image, component, p),
             |image| reference::set_probabilities(image, component, p),
         )
@@ -176,7 +183,8 @@ impl<'a> Pair<'a> {
         self.edit(
             random,
             image,
-            &format!("set customers of {load} to {customers}"),
+            Call::SetCustomers,
+            &format!("of {load} to {customers}"),
             |image| library::set_customers(image, load, customers),
             |image| reference::set_customers(image, load, customers),
         )
@@ -192,7 +200,8 @@ impl<'a> Pair<'a> {
         self.edit(
             random,
             image,
-            &format!("set minutes of {load} to {minutes}"),
+            Call::SetMinutes,
+            &format!("of {load} to {minutes}"),
             |image| library::set_minutes(image, load, minutes),
             |image| reference::set_minutes(image, load, minutes),
         )
@@ -263,7 +272,8 @@ impl<'a> Pair<'a> {
 
     pub fn loads_lost(&mut self, class: u8) {
         self.compare(
-            &format!("loads lost in class {class}"),
+            Call::LoadsLost,
+            &format!("in class {class}"),
             (),
             |()| library::loads_lost(class),
             |()| reference::loads_lost(class),
@@ -272,7 +282,8 @@ impl<'a> Pair<'a> {
 
     pub fn refusal_word(&mut self, random: &mut Random, number: u8, room: usize) {
         self.compare(
-            &format!("word of {number} into {room} bytes"),
+            Call::RefusalWord,
+            &format!("of {number} into {room} bytes"),
             Lent::bytes(random, room),
             |lent| library::refusal_word(number, lent.room()),
             |lent| reference::refusal_word(number, lent.room()),

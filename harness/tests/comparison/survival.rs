@@ -1,4 +1,5 @@
 //! The chance of surviving: refusals and lent numbers compared, and bounds judged by what is promised, since which pair is given is the library's choice.
+use crate::calls::Call;
 use crate::lent::Lent;
 use crate::tally::Tally;
 use harness::generate::{self, Random};
@@ -60,8 +61,7 @@ fn judge(tally: &mut Tally, random: &mut Random, [fit, hours]: [u32; 2]) {
     let judged = exponent(fit, hours);
     let call = format!("{fit} FIT over {hours} hours");
     assert_eq!(answer, judged.map(|_| 0), "{call}");
-    tally.answers.count(answer);
-    tally.survival.count(answer);
+    tally.calls.count(Call::Survival, answer);
     if let Ok(exponent) = judged {
         let chances = *left.first();
         let what = broken(exponent, chances);
@@ -77,8 +77,9 @@ pub fn compare_survival(tally: &mut Tally, seed: u64) {
     for pair in edges() {
         judge(tally, random, pair);
     }
-    let at_edges = tally.survival.given;
-    while tally.survival.given < at_edges + JUDGED {
+    let given = |tally: &Tally| tally.calls.of(Call::Survival).given;
+    let at_edges = given(tally);
+    while given(tally) < at_edges + JUDGED {
         let pair = drawn(random);
         judge(tally, random, pair);
     }

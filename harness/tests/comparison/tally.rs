@@ -1,6 +1,7 @@
 //! What was compared, counted.
+use crate::answers::{Answers, Calls};
+use crate::calls::Call;
 use crate::orders::{has_falling, Disorder};
-use crate::questions::Drawn;
 use crate::repeats::{is_overvoted, is_overvoted_alone, Repeats};
 use harness::library::Figures;
 use harness::reference::image;
@@ -8,36 +9,12 @@ use harness::reference::refusals::THRESHOLD;
 use harness::reference::study::Study;
 use std::fmt;
 
-/// The last number of the refusal table.
-pub const LAST_REFUSAL: usize = 23;
-
-/// How often a kind of call was answered, and how often it was refused, by number.
-#[derive(Default)]
-pub struct Answers {
-    pub given: usize,
-    pub refused: [usize; LAST_REFUSAL + 1],
-}
-
-impl Answers {
-    pub fn count(&mut self, answer: Result<usize, u8>) {
-        match answer {
-            Ok(_) => self.given += 1,
-            Err(number) => self.refused[usize::from(number)] += 1,
-        }
-    }
-
-    /// How many calls were counted.
-    fn all(&self) -> usize {
-        self.given + self.refused.iter().sum::<usize>()
-    }
-}
-
 #[derive(Default)]
 pub struct Tally {
     pub inputs: usize,
     pub sound: usize,
-    /// All calls.
-    pub answers: Answers,
+    /// All calls that were made twice, and chances of surviving, of which each given was judged by what is promised.
+    pub calls: Calls,
     /// Figures without CAIDI.
     pub unstated: usize,
     /// Figures with losses of short loads beside those of others.
@@ -49,18 +26,12 @@ pub struct Tally {
     /// Bytes that are refused by 12 for no more than repeats, and images that are refused by 16 for no more.
     pub overvoted: usize,
     pub overvoted_images: usize,
-    /// Studies written out.
-    pub written: Answers,
     /// Images that break no rule but that of order.
     pub disordered: Disorder,
     /// Bounds of classes in slices full of the largest number.
     pub in_full: Answers,
-    /// Calls with a drawn tree.
-    pub drawn: Drawn,
     /// Trees drawn from gates, of which the library said what it said of the gates.
     pub drawn_gates: usize,
-    /// Chances of surviving, of which each given was judged by what is promised.
-    pub survival: Answers,
 }
 
 impl Tally {
@@ -103,11 +74,10 @@ impl fmt::Display for Tally {
     fn fmt(&self, line: &mut fmt::Formatter) -> fmt::Result {
         writeln!(
             line,
-            "{} inputs ({} sound), {} calls alike; refused by number from 1 on: {:?}; figures without CAIDI: {}, of short and other loads: {}",
+            "{} inputs ({} sound), {} calls alike; figures without CAIDI: {}, of short and other loads: {}",
             self.inputs,
             self.sound,
-            self.answers.all(),
-            &self.answers.refused[1..],
+            self.calls.all(),
             self.unstated,
             self.mixed
         )?;
@@ -123,23 +93,27 @@ impl fmt::Display for Tally {
         )?;
         writeln!(
             line,
-            "{} times written and opened again, refused by 16: {}, by 18: {}; images out of order alone, by {}",
-            self.written.given, self.written.refused[16], self.written.refused[18], self.disordered
+            "{} times written and opened again; images out of order alone, by {}",
+            self.calls.of(Call::Write).given,
+            self.disordered
         )?;
         writeln!(
             line,
             "slices full of the largest number: {} times with the bounds of classes that cleared ones have, left full by 16: {}, by 18: {}",
-            self.in_full.given, self.in_full.refused[16], self.in_full.refused[18]
+            self.in_full.given,
+            self.in_full.refused_by(16),
+            self.in_full.refused_by(18)
         )?;
         writeln!(
             line,
-            "{} times a chance of surviving that keeps what is promised, refused by 23: {}",
-            self.survival.given, self.survival.refused[23]
+            "{} times a chance of surviving that keeps what is promised",
+            self.calls.of(Call::Survival).given
         )?;
-        write!(
+        writeln!(
             line,
-            "{} trees drawn from gates, in any order, that say what the gates say; {}",
-            self.drawn_gates, self.drawn
-        )
+            "{} trees drawn from gates, in any order, that say what the gates say",
+            self.drawn_gates
+        )?;
+        write!(line, "{}", self.calls)
     }
 }

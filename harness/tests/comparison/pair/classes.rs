@@ -1,7 +1,7 @@
 //! Bounds of classes, in slices that hold any numbers, in slices full of the largest number, and in cleared ones.
 use super::{two_rooms, Agreed, Pair};
+use crate::calls::Question;
 use crate::lent::Lent;
-use crate::questions::Question;
 use crate::shown::Shown;
 use harness::asked::Asked;
 use harness::generate::Random;

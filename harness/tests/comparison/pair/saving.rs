@@ -1,5 +1,6 @@
 //! Writing an image out as bytes, and opening what was written.
 use super::Pair;
+use crate::calls::Call;
 use crate::lent::Lent;
 use crate::shown::shown;
 use harness::generate::Random;
@@ -20,12 +21,12 @@ impl Pair<'_> {
         let more = need + random.between(1, 300);
         for room in [0, need - 1, need, more] {
             let both = self.compare(
-                &format!("write into {room} bytes"),
+                Call::Write,
+                &format!("into {room} bytes"),
                 (image.clone(), Lent::bytes(random, room)),
                 |(image, lent)| library::write(image.held(), lent.room()),
                 |(image, lent)| reference::write(image.held(), lent.room()),
             );
-            self.tally.written.count(both.answer);
             if let Ok(size) = both.answer {
                 let written = &both.lent.1.held()[..size];
                 self.open_again(random, written, &image.held()[..STUDY_BYTES]);
@@ -36,7 +37,8 @@ impl Pair<'_> {
     /// What was written opens to the image that it was written from.
     fn open_again(&mut self, random: &mut Random, written: &[u8], image: &[u8]) {
         let both = self.compare(
-            "open what was written",
+            Call::Open,
+            "what was written",
             Lent::bytes(random, STUDY_BYTES),
             |lent| library::open(written, lent.room()),
             |lent| reference::open(written, lent.room()),
