@@ -51,11 +51,11 @@ impl Asked<'_> {
 /// Everything that the library says of a sound study, with room enough: each answer, and what was written.
 #[derive(Debug, PartialEq)]
 pub struct Everything {
-    list: (Answer<usize>, Vec<u8>),
-    paths: (Answer<usize>, [Vec<u64>; 2]),
-    classes: (Answer<usize>, [Vec<u64>; 2]),
-    loads: Vec<(Answer<usize>, [u64; 2])>,
-    figures: (Answer<usize>, Figures),
+    pub list: (Answer<usize>, Vec<u8>),
+    pub paths: (Answer<usize>, [Vec<u64>; 2]),
+    pub classes: (Answer<usize>, [Vec<u64>; 2]),
+    pub loads: Vec<(Answer<usize>, [u64; 2])>,
+    pub figures: (Answer<usize>, Figures),
 }
 
 impl Asked<'_> {

@@ -4,6 +4,7 @@ pub mod big;
 pub mod bounds;
 pub mod calls;
 pub mod drawn;
+pub mod exact;
 pub mod figures;
 pub mod gates;
 pub mod image;

@@ -19,6 +19,21 @@ impl Path {
         let marks = self.marks.iter().map(|mark| mark.unwrap_or(BLANK));
         marks.chain([self.class]).collect()
     }
+
+    /// The path of such an entry.
+    pub fn of_entry(entry: &[u8]) -> Path {
+        let (&class, marks) = entry.split_last().expect("a class stands last");
+        let marks = marks.iter().map(|&mark| (mark != BLANK).then_some(mark));
+        Path {
+            marks: marks.collect(),
+            class,
+        }
+    }
+
+    /// Whether a joint state lies on it.
+    pub fn holds(&self, joint: &[u8]) -> bool {
+        fits(&self.marks, joint)
+    }
 }
 
 /// Whether a joint state has the settled states.

@@ -75,8 +75,6 @@ impl Call {
     /// Whether it can be refused by a number.
     pub fn can_give(self, number: u8) -> bool {
         self.refusals().contains(&number)
-            // TO GO once each place is lent by itself: today these three are refused by 18 as well, where too few places are lent.
-            || (number == 18 && matches!(self, Gates(Figures) | Drawn(Figures) | Survival))
     }
 }
 
