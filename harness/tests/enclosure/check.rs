@@ -33,7 +33,7 @@ struct Sums {
 
 impl Check<'_> {
     pub fn all(&self, held: &mut Held) {
-        held.count_study(self.study);
+        held.count_study(self.study, self.given.paths.len());
         for (path, bounds) in &self.given.paths {
             let exact = self.exact.sum(|joint, _| path.holds(joint));
             self.near(*bounds, &exact, distance(path), format_args!("path {path}"));

@@ -1,13 +1,16 @@
 //! How much was held against exact numbers.
 use harness::reference::bounds::Bounds;
 use harness::reference::figures::Figures;
-use harness::reference::study::{Study, ONE};
+use harness::reference::study::{Study, MOST_COMPONENTS, MOST_JOINT_STATES, ONE};
 
 /// Each of these must be met this often, or the studies say too little.
 const OFTEN: usize = 1000;
 
 #[derive(Debug, Default)]
 pub struct Held {
+    /// The most components of a study, and the most paths of a list.
+    most_components: usize,
+    most_paths: usize,
     /// Studies of five components or more, whose exact numbers need more than 128 bits.
     large: usize,
     /// Paths with two bounds that differ.
@@ -27,8 +30,12 @@ fn is_rounded(bounds: Bounds) -> usize {
 }
 
 impl Held {
-    pub fn count_study(&mut self, study: &Study) {
-        self.large += usize::from(study.components.len() >= 5);
+    /// Takes note of a study that has so many paths.
+    pub fn count_study(&mut self, study: &Study, paths: usize) {
+        let components = study.components.len();
+        self.most_components = self.most_components.max(components);
+        self.most_paths = self.most_paths.max(paths);
+        self.large += usize::from(components >= 5);
     }
 
     pub fn count_path(&mut self, bounds: Bounds) {
@@ -51,6 +58,8 @@ impl Held {
 
     pub fn assert_enough(&self) {
         let Held {
+            most_components,
+            most_paths,
             large,
             rounded_paths,
             rounded_totals,
@@ -59,6 +68,8 @@ impl Held {
             unstated,
             refused,
         } = *self;
+        let most = [most_components, most_paths];
+        assert_eq!(most, [MOST_COMPONENTS, MOST_JOINT_STATES]);
         let bounds = [large, rounded_paths, rounded_totals, cut];
         let figures = [stated, unstated, refused];
         let least = bounds.into_iter().chain(figures).min();

@@ -13,42 +13,54 @@ use harness::reference::exact::Exact;
 use harness::reference::losses::{Losses, Meaning};
 use harness::reference::opening::open;
 use harness::reference::study::Study;
+use harness::studies::{self, Written};
 use held::Held;
 use std::ops::Range;
 
-/// One study for each.
+/// One drawn study for each.
 const SEEDS: Range<u64> = 2_000_000..2_006_000;
 
-/// Holds what is given of drawn studies against what is exact, by their gates and by a tree beside each.
-fn hold(give: fn(&Study, Asked) -> Given) {
-    let mut held = Held::default();
+type Give = fn(&Study, Asked) -> Given;
+
+/// Holds what is given of a study against what is exact, by its gates and by a tree that is drawn beside it.
+fn hold(held: &mut Held, name: &str, bytes: &[u8], random: &mut Random, give: Give) {
+    let study = &open(bytes).expect("a sound study");
+    let image = &mut [0; STUDY_BYTES];
+    assert_eq!(library::open(bytes, image), Ok(0), "{name}");
+    let drawn = tree(random, study);
+    for tree in [None, Some(&drawn[..])] {
+        let meaning = Meaning::of(study, tree).expect("a tree that keeps the rules");
+        let check = Check {
+            name: format!("{name}, drawn: {}", tree.is_some()),
+            study,
+            given: give(study, Asked { image, tree }),
+            exact: Exact::of(study, Losses::of(study, &meaning)),
+        };
+        check.all(held);
+    }
+}
+
+/// Studies that are drawn, and those of the folder `studies`, some of which are as large as any.
+fn hold_all(give: Give) {
+    let held = &mut Held::default();
     for seed in SEEDS {
         let random = &mut Random::new(seed);
         let bytes = sound_input(random);
-        let study = &open(&bytes).expect("a sound study");
-        let image = &mut [0; STUDY_BYTES];
-        assert_eq!(library::open(&bytes, image), Ok(0), "seed {seed}");
-        let drawn = tree(random, study);
-        for tree in [None, Some(&drawn[..])] {
-            let meaning = Meaning::of(study, tree).expect("a tree that keeps the rules");
-            let check = Check {
-                name: format!("seed {seed}, drawn: {}", tree.is_some()),
-                study,
-                given: give(study, Asked { image, tree }),
-                exact: Exact::of(study, Losses::of(study, &meaning)),
-            };
-            check.all(&mut held);
-        }
+        hold(held, &format!("seed {seed}"), &bytes, random, give);
+    }
+    for study in studies::all().into_iter().filter(Written::opens) {
+        let random = &mut Random::new(SEEDS.start);
+        hold(held, &study.name, &study.bytes, random, give);
     }
     held.assert_enough();
 }
 
 #[test]
 fn the_library_encloses_what_is_exact() {
-    hold(by_the_library);
+    hold_all(by_the_library);
 }
 
 #[test]
 fn the_second_implementation_encloses_what_is_exact() {
-    hold(by_the_second);
+    hold_all(by_the_second);
 }
