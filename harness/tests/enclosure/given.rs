@@ -1,6 +1,5 @@
 //! What is given of a study, by the library or by the second implementation, in one form.
 use harness::asked::{Asked, Everything};
-use harness::library;
 use harness::reference::bounds::{bounded_paths, class_bounds, load_bounds, Bounds};
 use harness::reference::figures::{figures, Figures};
 use harness::reference::losses::Meaning;
@@ -24,15 +23,11 @@ fn pairs([lower, upper]: &[Vec<u64>; 2]) -> impl Iterator<Item = Bounds> + '_ {
 /// The figures as the library gives them: nothing else here knows how it does.
 fn given_figures(everything: &Everything) -> Result<Figures, u8> {
     let (stated, given) = everything.figures;
-    let bounds = |given: library::Bounds| Bounds {
-        lower: given.lower,
-        upper: given.upper,
-    };
     stated.map(|stated| Figures {
-        saifi: bounds(given.saifi),
-        saidi: bounds(given.saidi),
-        caidi: (stated == 4).then(|| bounds(given.caidi)),
-        maifi: bounds(given.maifi),
+        saifi: given.saifi,
+        saidi: given.saidi,
+        caidi: (stated == 4).then_some(given.caidi),
+        maifi: given.maifi,
     })
 }
 
