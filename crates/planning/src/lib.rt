@@ -27,7 +27,7 @@ pub use path_calls::drawn_list_paths;
 pub use path_calls::drawn_path_bounds;
 pub use path_calls::list_paths;
 pub use path_calls::path_bounds;
-pub use report_text::empty_report;
+pub use report_text::REPORT_BYTES;
 pub use report_text::report;
 pub use rules::LONGEST_STUDY;
 pub use survival::survival;

@@ -1,11 +1,12 @@
 // The report program: reads a study from standard input and prints its report.
 use planning::CountAnswer;
 use planning::LONGEST_STUDY;
-use planning::empty_report;
+use planning::REPORT_BYTES;
 ghost use Prim.Native.Nat.{_+_};
 ghost use mathlib.Core.Path.{_≡_};
 ghost use lib.ListN.{length};
 ghost use Rattle.rules.specs.Limits.{longestStudy};
+ghost use Rattle.report_text.specs.Report.{reportBytes};
 
 // The longest study and a byte more: what opening answers to so many bytes, it answers whatever follows them.
 const INPUT_BYTES: usize = LONGEST_STUDY + 1;
@@ -16,10 +17,17 @@ fn empty_input() -> [u8; INPUT_BYTES]
     [0; INPUT_BYTES]
 }
 
+// Room for any report, so that none is refused for want of it.
+fn empty_text() -> [u8; REPORT_BYTES]
+    ensures { λ r. ⌜ reportBytes ≡ length r ⌝ }
+{
+    [0; REPORT_BYTES]
+}
+
 fn main() {
     let mut input = empty_input();
     let got = io::read_full(0, &mut input);
-    let mut out = empty_report();
+    let mut out = empty_text();
     let answer = planning::report(&input[..got], &mut out);
     match answer {
         CountAnswer::Count(size) => {

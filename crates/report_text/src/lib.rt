@@ -3,5 +3,5 @@ mod buffer;
 mod model_text;
 mod reporting;
 
-pub use buffer::empty_report;
+pub use buffer::REPORT_BYTES;
 pub use reporting::report;

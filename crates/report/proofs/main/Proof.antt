@@ -15,7 +15,7 @@ inside : (c : tie.After-answer) → c .answer .given .0 .0 ≤ length (c .before
 inside c =
     let reported = c .before .before .before in
     let same : length (reported .report .last .1 .0) ≡ reportBytes = search needs in
-    let whole = reported .before .before .before .empty-report .ensures in
+    let whole = reported .before .before .before .empty-text .ensures in
     omega (arith, told-inside _ _ _ _ (reported .report .ensures .0) (c .answer .given .1), same, whole)
 
 pub main-spec : {M : Type 1} → statement M
