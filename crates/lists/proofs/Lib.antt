@@ -1,4 +1,5 @@
 pub mod Adding
+pub mod Cleared
 pub mod Defaults
 pub mod Digits
 pub mod Elements

@@ -3,7 +3,7 @@ use Prim.Native.Nat.{ℕ, zero, suc, max, _≤_, _<_}
 use mathlib.Core.Path.{_≡_, refl, sym, ap, _∙_}
 use mathlib.Core.List.{List, [], _∷_, _++_}
 use native.Mathlib.Omega.{arith}
-use lib.ListN.{length, getD, replicate, List·getD-eq-default}
+use lib.ListN.{length, getD, List·getD-eq-default}
 use Rattle.text.specs.Writing.{Room}
 use Rattle.words.specs.Words.{refusalWords, lastRefusal, refusalWord, wordBytes}
 
@@ -58,6 +58,6 @@ pub word-short : (n : ℕ) → length (refusalWord n) ≤ wordBytes
 unfolding refusalWord refusalWords longest
 word-short n = omega (arith, one-of refusalWords n)
 
--- a cleared buffer with room for any word has room for this one
-pub any-word : (d : List ℕ) (n : ℕ) → d ≡ replicate wordBytes 0 → Room d 0 (refusalWord n)
-any-word d n cleared = rw cleared (record { fits = omega (arith, word-short n) })
+-- a buffer with room for any word has room for this one
+pub any-word : (d : List ℕ) (n : ℕ) → wordBytes ≡ length d → Room d 0 (refusalWord n)
+any-word d n long = record { fits = omega (arith, word-short n) }

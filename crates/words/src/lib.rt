@@ -3,7 +3,7 @@ use answers::CountAnswer;
 use lent_text::hand_over;
 use text::copy;
 ghost use mathlib.Core.Path.{_≡_};
-ghost use lib.ListN.{replicate};
+ghost use Rattle.lists.specs.Cleared.{Cleared};
 ghost use Rattle.text.specs.Writing.{Room, Wrote};
 ghost use Rattle.lent_text.specs.Lent.{reported, written};
 ghost use Rattle.words.specs.Words.{wordBytes, refusalWord};
@@ -47,7 +47,7 @@ pub fn write_word(out: &mut [u8], at: usize, refusal: u8) -> usize
 
 // A cleared buffer with room for any word.
 fn empty_word() -> [u8; WORD_BYTES]
-    ensures { λ r. ⌜ r ≡ replicate wordBytes 0 ⌝ }
+    ensures { λ r. ⌜ Cleared wordBytes r ⌝ }
 {
     [0; WORD_BYTES]
 }
