@@ -1,5 +1,5 @@
--- What an answer tells, by cases: a result with its values, or a refusal with its number in the refusal table. Every enum that a call answers has
--- its line here, and whoever speaks of the number or the values of an answer cites it.
+-- What an answer tells, by cases: a result with its values, or a refusal with its number in the refusal table. Every
+-- enum that a call answers has its line here, and whoever speaks of the number or the values of an answer cites it.
 use Prim.Native.Nat.{ℕ}
 use mathlib.Core.List.{List, [], _∷_, _++_}
 use Rattle.answers.specs.Answered.{answered}

@@ -1,5 +1,5 @@
--- The later calls, those on an opened study, as one type: what each tells, its breaches in order, the numbers that documents 01 and 02 list for it, and what
--- it leaves of the study and of what was lent.
+-- The later calls, those on an opened study, as one type: what each tells, its breaches in order, the numbers that
+-- documents 01 and 02 list for it, and what it leaves of the study and of what was lent.
 use Prim.Native.Nat.{ℕ}
 use mathlib.Core.List.{List, [], _∷_, _++_}
 use lib.ListN.{length}
@@ -19,7 +19,8 @@ use Rattle.loss_calls.specs.Bounds.{lossBreaches, lossOf, loadBounded}
 use Rattle.loss_calls.specs.Figures.{figuresBreaches, figuresGiven}
 use Rattle.demands.specs.Edits.{Edit, probabilities, customers, minutes, edit, editBreaches}
 
--- a call, with what it names, with what it is about where a tree may be drawn beside the study, and with what the lent buffer or slices held
+-- a call, with what it names, with what it is about where a tree may be drawn beside the study, and with what the
+-- lent buffer or slices held
 pub data Call : Type 0 where
   anEdit : Edit → Call
   listPaths : Meaning → List ℕ → Call
@@ -29,8 +30,8 @@ pub data Call : Type 0 where
   figures : Meaning → Call
   writeStudy : List ℕ → Call
 
--- what can be asked under a meaning, by gates or by a drawn tree alike: the list, with a buffer; the bounds of paths and of classes, with two slices; those
--- of a load; the figures
+-- what can be asked under a meaning, by gates or by a drawn tree alike: the list, with a buffer; the bounds of paths
+-- and of classes, with two slices; those of a load; the figures
 pub data Question : Type 0 where
   paths : List ℕ → Question
   boundsOfPaths : List ℕ → List ℕ → Question

@@ -1,4 +1,5 @@
--- Demand 1, refusals: what is refused and what is not, over the definitions that the contracts of the public calls cite.
+-- Demand 1, refusals: what is refused and what is not, over the definitions that the contracts of the public calls
+-- cite.
 use Prim.Native.Nat.{ℕ, _≤_}
 use mathlib.Core.Path.{_≡_}
 use mathlib.Core.Bool.{true}
@@ -17,7 +18,8 @@ use Rattle.opening.specs.Opening.{opened}
 use Rattle.lent_text.specs.Lent.{reported, written}
 use Rattle.words.specs.Words.{refusalWord}
 use Rattle.report_text.specs.Report.{reportText}
-use Rattle.demands.specs.Calls.{Call, anEdit, callTold, callBreaches, callValues, numbersBehind, studyAfter, Lent, callLent}
+use Rattle.demands.specs.Calls.{Call, anEdit, callTold, callBreaches, callValues, numbersBehind, studyAfter}
+use Rattle.demands.specs.Calls.{Lent, callLent}
 use Rattle.demands.specs.Edits.{Edit, edit, changed, HasItem, Reached, after, tableOf, tableAfter, othersOf}
 
 -- ---- opening
@@ -67,8 +69,9 @@ FrontFilled l = take (length (l .result)) (l .after) ≡ l .result
 abbrev pub KeptBehind : Lent → Type 0
 KeptBehind l = (k : ℕ) → length (l .result) ≤ k → getD (l .after) k 0 ≡ getD (l .before) k 0
 
--- A call with these breaches and these values tells the number of the first breach, exactly, or where there is none the values; refused, every lent
--- place holds what it held; not refused, the front of each lent slice is its result; refused or not, nothing changes behind what it writes.
+-- A call with these breaches and these values tells the number of the first breach, exactly, or where there is none
+-- the values; refused, every lent place holds what it held; not refused, the front of each lent slice is its result;
+-- refused or not, nothing changes behind what it writes.
 pub record Refuses (told : Told) (breaches values : List ℕ) (lent : List Lent) : Type 0 where
   pub answer : told ≡ tells (firstBreach breaches) values
   pub kept : (n : ℕ) → told ≡ refusal n → OfEach Kept lent
@@ -91,7 +94,8 @@ pub record TextsRefuse : Type 0 where
   pub report : (bytes buffer : List ℕ) → TextRefuses (reportText bytes) buffer
   pub word : (number : ℕ) (buffer : List ℕ) → TextRefuses (refusalWord number) buffer
 
--- Every later call refuses a study that is not sound by 16, and by 16 no other; so one that told values had a sound study.
+-- Every later call refuses a study that is not sound by 16, and by 16 no other; so one that told values had a sound
+-- study.
 pub record UnsoundRefused : Type 0 where
   pub sixteen : (c : Call) (t : Study) → (Sound t → ⊥) → callTold c t ≡ refusal 16
   pub no-other : (c : Call) (t : Study) → callTold c t ≡ refusal 16 → Sound t → ⊥
@@ -111,12 +115,14 @@ EditedSound = (e : Edit) (t : Study) → callTold (anEdit e) t ≡ result [] →
 abbrev pub ReachedSound : Type 0
 ReachedSound = (t : Study) → Reached t → Sound t
 
--- An edit is refused by 5, 6 or 14 only where the edited study would break a rule; where the item is there and the edited study would be
--- sound, it is done.
+-- An edit is refused by 5, 6 or 14 only where the edited study would break a rule; where the item is there and the
+-- edited study would be sound, it is done.
 pub record EditsFinish : Type 0 where
-  pub would-break : (t : Study) → Reached t → (e : Edit) (n : ℕ) → callTold (anEdit e) t ≡ refusal n → OneOf (5 ∷ 6 ∷ 14 ∷ []) n
+  pub would-break : (t : Study) → Reached t → (e : Edit) (n : ℕ) → callTold (anEdit e) t ≡ refusal n
+      → OneOf (5 ∷ 6 ∷ 14 ∷ []) n
       → Sound (changed e t) → ⊥
-  pub done : (t : Study) → Reached t → (e : Edit) → HasItem e t → Sound (changed e t) → callTold (anEdit e) t ≡ result []
+  pub done : (t : Study) → Reached t → (e : Edit) → HasItem e t → Sound (changed e t)
+      → callTold (anEdit e) t ≡ result []
 
 -- After a row of edits the fields are those of a plain table that had the same edits, and all else is as it was.
 pub record EditFields : Type 0 where

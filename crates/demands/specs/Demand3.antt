@@ -1,5 +1,6 @@
--- Demand 3, one comparable list of paths per meaning, over the definitions that the contract of the listing cites. The words in which it
--- speaks of a list (fits, bears, ascends, settled, changes no loss) stand in crate `paths`, and what holds of the paths of any good model in `model`.
+-- Demand 3, one comparable list of paths per meaning, over the definitions that the contract of the listing cites.
+-- The words in which it speaks of a list (fits, bears, ascends, settled, changes no loss) stand in crate `paths`, and
+-- what holds of the paths of any good model in `model`.
 use Prim.Native.Nat.{ℕ, _*_, _<_}
 use mathlib.Core.Path.{_≡_}
 use mathlib.Core.List.{List}
@@ -25,7 +26,8 @@ use Rattle.demands.specs.Listed.{ListedBy, pathsIn, pathIn}
 abbrev pub LoseAlike : Model → Model → Type 0
 LoseAlike m n = (x : List ℕ) → JointState (m .counts) x → (j : ℕ) → bit (m .class x) j ≡ bit (n .class x) j
 
--- "equal": as many paths, p in buffer d and q in buffer e, and the same bytes in all their entries, whatever either buffer holds behind
+-- "equal": as many paths, p in buffer d and q in buffer e, and the same bytes in all their entries, whatever either
+-- buffer holds behind
 pub record ListsEqual (components p q : ℕ) (d e : List ℕ) : Type 0 where
   pub number : p ≡ q
   pub bytes : take (p * entryBytes components) d ≡ take (q * entryBytes components) e
@@ -37,13 +39,17 @@ pub record EqualIffAlike (m n : Model) (p q : ℕ) (d e : List ℕ) : Type 0 whe
 
 -- So it is for any two good models over the same row of state counts, whose lists two buffers hold.
 abbrev pub ModelListsEqualIff : Type 0
-ModelListsEqualIff = (m n : Model) (p q : ℕ) (d e : List ℕ) → m .counts ≡ n .counts → Holds m p d → Holds n q e → EqualIffAlike m n p q d e
+ModelListsEqualIff =
+    (m n : Model) (p q : ℕ) (d e : List ℕ) → m .counts ≡ n .counts → Holds m p d → Holds n q e
+    → EqualIffAlike m n p q d e
 
--- For any two studies over the same row of state counts, each by its gates or by a drawn tree, whatever the lent buffers held, and calls that were not
--- refused: their lists are equal exactly when they lose the same loads in every joint state.
+-- For any two studies over the same row of state counts, each by its gates or by a drawn tree, whatever the lent
+-- buffers held, and calls that were not refused: their lists are equal exactly when they lose the same loads in every
+-- joint state.
 abbrev pub ListsEqualIff : Type 0
 ListsEqualIff =
-    (m n : Meaning) (t u : Study) (p q : ℕ) (d e : List ℕ) → ListedBy m t d p → ListedBy n u e q → stateCounts t ≡ stateCounts u
+    (m n : Meaning) (t u : Study) (p q : ℕ) (d e : List ℕ) → ListedBy m t d p → ListedBy n u e q
+    → stateCounts t ≡ stateCounts u
     → EqualIffAlike (modelOf m t) (modelOf n u) p q (bufferListed m t d) (bufferListed n u e)
 
 -- ---- trees that are drawn anew
@@ -54,7 +60,8 @@ ReachAlike counts a b = (x : List ℕ) → JointState counts x → drawnClass a 
 
 pub record Redrawn : Type 0 where
   -- A tree that reaches the same classes has the same list, in whatever order it asks the components.
-  pub same-list : (t : Study) (tree other : List ℕ) (p q : ℕ) (d e : List ℕ) → ListedBy (byTree tree) t d p → ListedBy (byTree other) t e q
+  pub same-list : (t : Study) (tree other : List ℕ) (p q : ℕ) (d e : List ℕ) → ListedBy (byTree tree) t d p
+      → ListedBy (byTree other) t e q
       → ReachAlike (stateCounts t) (drawnTree (stateCounts t) (t .loads) tree) (drawnTree (stateCounts t) (t .loads) other)
       → ListsEqual (length (stateCounts t)) p q (bufferListed (byTree tree) t d) (bufferListed (byTree other) t e)
   -- So it is where two components that are asked one below the other change places.
@@ -63,7 +70,8 @@ pub record Redrawn : Type 0 where
 
 -- ---- each list that was answered
 
--- Each entry has a mark for each component and a class, a settled mark is a state that its component has, and some joint state fits it.
+-- Each entry has a mark for each component and a class, a settled mark is a state that its component has, and some
+-- joint state fits it.
 abbrev pub EachIsEntry : Type 0
 EachIsEntry =
     (m : Meaning) (t : Study) (d : List ℕ) (p : ℕ) → ListedBy m t d p
@@ -73,13 +81,17 @@ EachIsEntry =
 abbrev pub OnePathEach : Type 0
 OnePathEach =
     (m : Meaning) (t : Study) (d : List ℕ) (p : ℕ) → ListedBy m t d p
-    → (x : List ℕ) → JointState (stateCounts t) x → OnePath (length (stateCounts t)) (classMeant m t x) x (pathsIn m t d p)
+    → (x : List ℕ) → JointState (stateCounts t) x
+    → OnePath (length (stateCounts t)) (classMeant m t x) x (pathsIn m t d p)
 
 -- Paths ascend by state.
 abbrev pub PathsAscend : Type 0
-PathsAscend = (m : Meaning) (t : Study) (d : List ℕ) (p : ℕ) → ListedBy m t d p → Ascending (length (stateCounts t)) (pathsIn m t d p)
+PathsAscend =
+    (m : Meaning) (t : Study) (d : List ℕ) (p : ℕ) → ListedBy m t d p
+    → Ascending (length (stateCounts t)) (pathsIn m t d p)
 
--- Blank on a path are exactly the components whose own state changes no loss there, once those in front that are settled have their states.
+-- Blank on a path are exactly the components whose own state changes no loss there, once those in front that are
+-- settled have their states.
 abbrev pub BlankExactly : Type 0
 BlankExactly =
     (m : Meaning) (t : Study) (d : List ℕ) (p : ℕ) → ListedBy m t d p

@@ -1,4 +1,5 @@
--- Drawn trees: which are refused and by what, which are let through, and that the tree replaces the gates and loss gates of its study.
+-- Drawn trees: which are refused and by what, which are let through, and that the tree replaces the gates and loss
+-- gates of its study.
 use Prim.Native.Nat.{ℕ}
 use mathlib.Core.Path.{_≡_}
 use mathlib.Core.List.{List, [], _∷_, map}
@@ -16,8 +17,8 @@ use Rattle.drawn_tree.specs.WellDrawn.{WholeDrawn, ReadDrawn, Acceptance}
 use Rattle.meaning.specs.Meaning.{byTree}
 use Rattle.demands.specs.Calls.{Question, ask, Call, callTold, Lent, callLent}
 
--- A drawn tree is refused by the first breach met from the left, by the numbers 20 to 22 and by no other; one that is not refused has the bytes that were
--- given, all of them.
+-- A drawn tree is refused by the first breach met from the left, by the numbers 20 to 22 and by no other; one that is
+-- not refused has the bytes that were given, all of them.
 pub record DrawnReads : Type 0 where
   pub first-breach : Rattle.drawn_tree.specs.Laws.DrawnReads
   pub numbers : Rattle.drawn_tree.specs.Laws.DrawnRows
@@ -29,13 +30,14 @@ pub record DrawnReads : Type 0 where
 abbrev pub DrawsTree : Study → List ℕ → Type 0
 DrawsTree t bytes = ReadDrawn (stateCounts t) (t .loads) bytes
 
--- A drawn tree is let through exactly when its bytes are those of a tree that is well drawn: its components are there, none is asked twice on a branch, and
--- its classes are of the study's loads.
+-- A drawn tree is let through exactly when its bytes are those of a tree that is well drawn: its components are
+-- there, none is asked twice on a branch, and its classes are of the study's loads.
 pub record DrawnAccepted : Type 0 where
   -- beside every sound study
   pub acceptance : (t : Study) → Sound t → Acceptance (stateCounts t) (t .loads)
   -- so a call that told values was handed such bytes
-  pub told : (q : Question) (t : Study) (tree values : List ℕ) → callTold (ask (byTree tree) q) t ≡ result values → DrawsTree t tree
+  pub told : (q : Question) (t : Study) (tree values : List ℕ) → callTold (ask (byTree tree) q) t ≡ result values
+      → DrawsTree t tree
   -- and one that was handed such bytes is refused by none of the numbers of a drawn tree
   pub not-refused : (q : Question) (t : Study) (tree : Tree) (n : ℕ) → WholeDrawn (stateCounts t) (t .loads) tree
       → callTold (ask (byTree (treeBytes tree)) q) t ≡ refusal n → OneOf (20 ∷ 21 ∷ 22 ∷ []) n → ⊥
@@ -49,7 +51,8 @@ componentsOf t = take (t .components) (t .component)
 abbrev pub loadsOf : Study → List Load
 loadsOf t = take (t .loads) (t .load)
 
--- two studies with the same components, and loads with the same customers and minutes; gates and loss gates are not compared
+-- two studies with the same components, and loads with the same customers and minutes; gates and loss gates are not
+-- compared
 pub record AlikeButGates (t u : Study) : Type 0 where
   pub components : componentsOf t ≡ componentsOf u
   pub loads : t .loads ≡ u .loads

@@ -1,4 +1,5 @@
--- Demand 2, what is lost: a joint state loses the loads that the fault tree says, or the leaf that it reaches in a drawn tree.
+-- Demand 2, what is lost: a joint state loses the loads that the fault tree says, or the leaf that it reaches in a
+-- drawn tree.
 use Prim.Native.Nat.{ℕ, _<_, _≤_}
 use mathlib.Core.Path.{_≡_}
 use mathlib.Core.Bool.{Bool, true, false}
@@ -24,17 +25,19 @@ use Rattle.demands.specs.Listed.{ListedBy, pathIn}
 abbrev pub isTrue : Study → List ℕ → ℕ → Bool
 isTrue t x i = getD (gateTruths (t .gate) x (t .gates)) i false
 
--- Each gate is true exactly when at least its threshold of distinct inputs are, a gate input being as true as that gate is.
+-- Each gate is true exactly when at least its threshold of distinct inputs are, a gate input being as true as that
+-- gate is.
 abbrev pub GatesAgree : Type 0
-GatesAgree = (t : Study) → Sound t → (x : List ℕ) (i : ℕ) → i < t .gates → isTrue t x i ≡ gateTrue (gateAt t i) x (isTrue t x)
+GatesAgree =
+    (t : Study) → Sound t → (x : List ℕ) (i : ℕ) → i < t .gates → isTrue t x i ≡ gateTrue (gateAt t i) x (isTrue t x)
 
 -- load j has a loss gate, and that gate is true in joint state x
 pub record LossGateTrue (t : Study) (x : List ℕ) (j : ℕ) : Type 0 where
   pub has-gate : loadAt t j .gate ≡ never → ⊥
   pub holds : isTrue t x (loadAt t j .gate) ≡ true
 
--- a class tells what joint state x loses: bit j stands exactly when load j has a loss gate and it is true there, and the bit of a load that the
--- study lacks is clear
+-- a class tells what joint state x loses: bit j stands exactly when load j has a loss gate and it is true there, and
+-- the bit of a load that the study lacks is clear
 pub record TellsLosses (t : Study) (x : List ℕ) (class : ℕ) : Type 0 where
   pub lost : (j : ℕ) → j < t .loads → bit class j ≡ true → LossGateTrue t x j
   pub stands : (j : ℕ) → j < t .loads → LossGateTrue t x j → bit class j ≡ true
@@ -44,8 +47,9 @@ pub record TellsLosses (t : Study) (x : List ℕ) (class : ℕ) : Type 0 where
 abbrev pub LostIff : Type 0
 LostIff = (t : Study) (x : List ℕ) → TellsLosses t x (classOf t x)
 
--- Under a drawn tree, a class tells what joint state x loses where x reaches one leaf and only one, which bears that class; bit j stands exactly when load
--- j is lost, whatever the study's gates say, and the bit of a load that the study lacks is clear.
+-- Under a drawn tree, a class tells what joint state x loses where x reaches one leaf and only one, which bears that
+-- class; bit j stands exactly when load j is lost, whatever the study's gates say, and the bit of a load that the
+-- study lacks is clear.
 pub record TellsLeaf (t : Study) (tree x : List ℕ) (class : ℕ) : Type 0 where
   pub leaf : OneLeaf (drawnTree (stateCounts t) (t .loads) tree) x class
   pub lacks : (j : ℕ) → t .loads ≤ j → bit class j ≡ false
@@ -75,7 +79,8 @@ pub record SaysGate (t : Study) (x : List ℕ) (j : ℕ) (says : Bool) : Type 0 
   pub lost : says ≡ true → LossGateTrue t x j
   pub stands : LossGateTrue t x j → says ≡ true
 
--- a test says of every joint state whether load j is lost: by its loss gate, or by the leaf that the joint state reaches
+-- a test says of every joint state whether load j is lost: by its loss gate, or by the leaf that the joint state
+-- reaches
 abbrev pub SaysLoss : Meaning → Study → ℕ → (List ℕ → Bool) → Type 0
 SaysLoss byGates t j lost = (x : List ℕ) → JointState (stateCounts t) x → SaysGate t x j (lost x)
 SaysLoss (byTree tree) t j lost =

@@ -1,4 +1,5 @@
--- The report says what the calls tell, so that the demands hold of its numbers; and no report is longer than the program's buffer.
+-- The report says what the calls tell, so that the demands hold of its numbers; and no report is longer than the
+-- program's buffer.
 use Prim.Native.Nat.{ℕ, _+_}
 use mathlib.Core.Path.{_≡_}
 use mathlib.Core.List.{List, [], _∷_}
@@ -30,7 +31,8 @@ use Rattle.demands.specs.Listed.{ListedBy, pathsIn, pathIn}
 
 -- ---- what the calls on a study told
 
--- what the calls by its gates were lent: a buffer for the list, two slices for the bounds of its paths, and two for those of classes
+-- what the calls by its gates were lent: a buffer for the list, two slices for the bounds of its paths, and two for
+-- those of classes
 pub record Lent : Type 0 where
   pub buffer : List ℕ
   pub lower : List ℕ
@@ -70,7 +72,8 @@ unfoldable pub loadSaid : ℕ → Told → List ℕ
 loadSaid j (result values) = itemLine (letters "L") j (getD values 0 0) (getD values 1 0)
 loadSaid j (refusal n) = []
 
--- the whole text: the number of paths, a line for each path, for each class that occurs and for each load, and the lines of the figures that are answered
+-- the whole text: the number of paths, a line for each path, for each class that occurs and for each load, and the
+-- lines of the figures that are answered
 abbrev pub textSaid : Study → ℕ → Lent → List ℕ
 textSaid t p lent =
     joined

@@ -1,4 +1,5 @@
--- Saving: what is written opens to that very study, nothing shorter does, and studies that differ in the order of inputs alone are saved alike.
+-- Saving: what is written opens to that very study, nothing shorter does, and studies that differ in the order of
+-- inputs alone are saved alike.
 use Prim.Native.Nat.{ℕ, _<_, _≤_}
 use mathlib.Core.Path.{_≡_}
 use mathlib.Core.Bool.{Bool}
@@ -50,8 +51,8 @@ pub record SameButOrder (t u : Study) : Type 0 where
 abbrev pub AllInOrder : Study → Type 0
 AllInOrder t = (i : ℕ) → i < mostGates → InOrder (gateAt t i) × ZeroBehind (gateAt t i)
 
--- bytes that save a study: they open to that very study; they give it as it stands, before any input is put in order; so the inputs stand in order in the
--- bytes themselves
+-- bytes that save a study: they open to that very study; they give it as it stands, before any input is put in order;
+-- so the inputs stand in order in the bytes themselves
 pub record Saves (bytes : List ℕ) (t : Study) : Type 0 where
   pub opens : OpensTo bytes t
   pub as-given : asGiven bytes ≡ t
@@ -59,8 +60,8 @@ pub record Saves (bytes : List ℕ) (t : Study) : Type 0 where
 
 -- ---- the round trip
 
--- Whatever study the calls hand out, opened and edited any number of times, is saved by the bytes that are due by the format, and by those that a call for
--- writing left in its buffer.
+-- Whatever study the calls hand out, opened and edited any number of times, is saved by the bytes that are due by the
+-- format, and by those that a call for writing left in its buffer.
 pub record WrittenOpens : Type 0 where
   pub due : (t : Study) → Reached t → Saves (studyBytes t) t
   pub written : (t : Study) → Reached t → (buffer : List ℕ) (n : ℕ) → callTold (writeStudy buffer) t ≡ result (n ∷ [])
@@ -83,8 +84,8 @@ pub record Shortest : Type 0 where
 
 -- ---- order
 
--- Opening a row of bytes gives the study that the bytes give, but for the order of inputs within its gates; there they stand in order; and no other
--- study is both.
+-- Opening a row of bytes gives the study that the bytes give, but for the order of inputs within its gates; there
+-- they stand in order; and no other study is both.
 pub record Sorted (bytes : List ℕ) : Type 0 where
   pub same : SameButOrder (opened bytes .study) (asGiven bytes)
   pub in-order : AllInOrder (opened bytes .study)
@@ -93,8 +94,8 @@ pub record Sorted (bytes : List ℕ) : Type 0 where
 abbrev pub OpenedSorted : Type 0
 OpenedSorted = (bytes : List ℕ) → IsOpened bytes → Sorted bytes
 
--- Byte rows that open, and give the same study but for the order of inputs within gates, open to the same study and are written to the same bytes; and
--- no others are.
+-- Byte rows that open, and give the same study but for the order of inputs within gates, open to the same study and
+-- are written to the same bytes; and no others are.
 pub record Alikes (a b : List ℕ) : Type 0 where
   pub same-study : SameButOrder (asGiven a) (asGiven b) → opened a .study ≡ opened b .study
   pub same-bytes : SameButOrder (asGiven a) (asGiven b) → studyBytes (opened a .study) ≡ studyBytes (opened b .study)
@@ -103,13 +104,14 @@ pub record Alikes (a b : List ℕ) : Type 0 where
 abbrev pub SavesAlike : Type 0
 SavesAlike = (a b : List ℕ) → IsOpened a → IsOpened b → Alikes a b
 
--- Putting inputs in order changes no gate's truth in any joint state, whatever gates below it hold; so it changes no truth of a study; and so nothing of its
--- model, from which the list, the bounds, the figures and the report follow.
+-- Putting inputs in order changes no gate's truth in any joint state, whatever gates below it hold; so it changes no
+-- truth of a study; and so nothing of its model, from which the list, the bounds, the figures and the report follow.
 pub record TruthKept (bytes : List ℕ) : Type 0 where
   pub gate : (i : ℕ) → i < mostGates → (x : List ℕ) (holds : ℕ → Bool)
       → gateTrue (gateAt (opened bytes .study) i) x holds ≡ gateTrue (gateAt (asGiven bytes) i) x holds
   pub truths : (x : List ℕ)
-      → gateTruths (opened bytes .study .gate) x (opened bytes .study .gates) ≡ gateTruths (asGiven bytes .gate) x (asGiven bytes .gates)
+      → gateTruths (opened bytes .study .gate) x (opened bytes .study .gates)
+      ≡ gateTruths (asGiven bytes .gate) x (asGiven bytes .gates)
   pub model : modelOf byGates (opened bytes .study) ≡ modelOf byGates (asGiven bytes)
 
 abbrev pub TruthsKept : Type 0
@@ -117,12 +119,14 @@ TruthsKept = (bytes : List ℕ) → IsOpened bytes → TruthKept bytes
 
 -- ---- any value of the struct
 
--- The arrays of a study have all their places. The struct's type says so, and a definition over lists does not: so it is shown of the studies that the calls
--- hand out; and with it, the above holds of any other sound value too, as somebody might put one together by hand.
+-- The arrays of a study have all their places. The struct's type says so, and a definition over lists does not: so it
+-- is shown of the studies that the calls hand out; and with it, the above holds of any other sound value too, as
+-- somebody might put one together by hand.
 pub record AllPlaces : Type 0 where
   pub reached : (t : Study) → Reached t → Shaped t
   pub saves : (t : Study) → Shaped t → Sound t → Saves (studyBytes t) t
   pub written : (t : Study) → Shaped t → (buffer : List ℕ) (n : ℕ) → callTold (writeStudy buffer) t ≡ result (n ∷ [])
       → Saves (take n (bufferWritten t buffer)) t
-  pub sorted : (bytes : List ℕ) → IsOpened bytes → (t : Study) → Shaped t → SameButOrder t (asGiven bytes) → AllInOrder t
+  pub sorted : (bytes : List ℕ) → IsOpened bytes → (t : Study) → Shaped t → SameButOrder t (asGiven bytes)
+      → AllInOrder t
       → t ≡ opened bytes .study

@@ -1,4 +1,5 @@
--- Two loads of a study that share a component: they are lost together far more often than the product of their probabilities says.
+-- Two loads of a study that share a component: they are lost together far more often than the product of their
+-- probabilities says.
 use Prim.Native.Nat.{ℕ, _*_}
 use mathlib.Core.Path.{_≡_}
 use mathlib.Core.Bool.{_&&_}
@@ -13,8 +14,8 @@ use Rattle.meaning.specs.Meaning.{byGates, modelOf}
 use Rattle.demands.specs.Calls.{loadBounds, callTold}
 use Rattle.demands.specs.Within.{exactLost}
 
--- three components that fail at 0.1. The first two feed load 0 in series, the last two feed load 1, so that the second stands in both; load 2 is lost when
--- both of these are.
+-- three components that fail at 0.1. The first two feed load 0 in series, the last two feed load 1, so that the
+-- second stands in both; load 2 is lost when both of these are.
 abbrev pub sharing : List ℕ
 sharing =
     3 ∷ 3 ∷ 3

@@ -1,5 +1,5 @@
--- Demand 2, what bounds and figures enclose: the exact probabilities of paths, classes and losses, each within its distance, and the exact quotients. Of every
--- good model.
+-- Demand 2, what bounds and figures enclose: the exact probabilities of paths, classes and losses, each within its
+-- distance, and the exact quotients. Of every good model.
 use Prim.Native.Nat.{ℕ, _+_, _<_, _≤_}
 use mathlib.Core.Path.{_≡_}
 use mathlib.Core.Bool.{true, false}
@@ -23,8 +23,8 @@ use Rattle.evaluation.specs.Bounds.{pathLowers, pathUppers, classLowers, classU
 use Rattle.evaluation.specs.Figures.{modelFigures}
 use Rattle.loss_calls.specs.Bounds.{lossOf}
 
--- Two numbers are bounds of an entry: they enclose the exact probability of the joint states that fit it, and neither is farther from it than one
--- unit for each settled state beyond the first.
+-- Two numbers are bounds of an entry: they enclose the exact probability of the joint states that fit it, and neither
+-- is farther from it than one unit for each settled state beyond the first.
 abbrev pub EntryWithin : Model → List ℕ → ℕ → ℕ → Type 0
 EntryWithin m entry lower upper =
     Within lower upper (pathDistance (components m) entry) (exactOf m (λ (x : List ℕ). fits x entry)) (wholeOf m)
@@ -33,10 +33,12 @@ EntryWithin m entry lower upper =
 abbrev pub PathWithin : Model → ℕ → ℕ → ℕ → Type 0
 PathWithin m i lower upper = EntryWithin m (getD (pathsOf m) i []) lower upper
 
--- They are bounds of class c: they enclose the exact probability of its joint states, with that distance for each path added.
+-- They are bounds of class c: they enclose the exact probability of its joint states, with that distance for each
+-- path added.
 abbrev pub ClassWithin : Model → ℕ → ℕ → ℕ → Type 0
 ClassWithin m c lower upper =
-    Within lower upper (totalDistance (components m) (λ (class : ℕ). eqb class c) (pathsOf m)) (exactOf m (λ (x : List ℕ). eqb (m .class x) c)) (wholeOf m)
+    Within lower upper (totalDistance (components m) (λ (class : ℕ). eqb class c) (pathsOf m))
+    (exactOf m (λ (x : List ℕ). eqb (m .class x) c)) (wholeOf m)
 
 -- They enclose an exact number of the model's whole, with the distance of the paths on which load j is lost.
 abbrev pub LossesWithinOf : Model → ℕ → ℕ → ℕ → ℕ → Type 0
@@ -51,8 +53,9 @@ exactLost m j = exactOf m (λ (x : List ℕ). bit (m .class x) j)
 abbrev pub LossWithin : Model → ℕ → ℕ → ℕ → Type 0
 LossWithin m j lower upper = LossesWithinOf m j lower upper (exactLost m j)
 
--- Figures enclose the quotients of the published formulas, over the exact probabilities: SAIFI, SAIDI and, wherever it is stated, CAIDI over the loads
--- with more than five minutes to restore, MAIFI over the short ones. The customers of all loads are served.
+-- Figures enclose the quotients of the published formulas, over the exact probabilities: SAIFI, SAIDI and, wherever
+-- it is stated, CAIDI over the loads with more than five minutes to restore, MAIFI over the short ones. The customers
+-- of all loads are served.
 pub record FiguresEnclose (m : Model) (figures : Figures) : Type 0 where
   pub saifi-encloses : EnclosesPerCustomer (figures .saifi) (lossSum sustained) (exactLost m) (wholeOf m) (m .loads)
   pub saidi-encloses : EnclosesPerCustomer (figures .saidi) (minutesSum sustained) (exactLost m) (wholeOf m) (m .loads)
@@ -65,17 +68,23 @@ pub record ShortByMinutes : Type 0 where
   pub other-load : (l : Load) → 5 < l .minutes → short l ≡ false
   pub none-stated : short absentLoad ≡ true
 
--- Each load counts on one side and only one, so that the sums of P × C behind SAIFI and MAIFI make the sum over all loads.
+-- Each load counts on one side and only one, so that the sums of P × C behind SAIFI and MAIFI make the sum over all
+-- loads.
 abbrev pub LossesParted : Type 0
-LossesParted = (p : ℕ → ℕ) (loads : List Load) → lossSum sustained p loads + lossSum short p loads ≡ lossSum every p loads
+LossesParted =
+    (p : ℕ → ℕ) (loads : List Load) → lossSum sustained p loads + lossSum short p loads ≡ lossSum every p loads
 
 -- ---- of every good model
 
 abbrev pub PathsWithin : Type 0
-PathsWithin = (m : Model) → Good m → (i : ℕ) → i < length (pathsOf m) → PathWithin m i (getD (pathLowers m) i 0) (getD (pathUppers m) i 0)
+PathsWithin =
+    (m : Model) → Good m → (i : ℕ) → i < length (pathsOf m)
+    → PathWithin m i (getD (pathLowers m) i 0) (getD (pathUppers m) i 0)
 
 abbrev pub ClassesWithin : Type 0
-ClassesWithin = (m : Model) → Good m → (c : ℕ) → c < classPlaces → ClassWithin m c (getD (classLowers m) c 0) (getD (classUppers m) c 0)
+ClassesWithin =
+    (m : Model) → Good m → (c : ℕ) → c < classPlaces
+    → ClassWithin m c (getD (classLowers m) c 0) (getD (classUppers m) c 0)
 
 abbrev pub LossesWithin : Type 0
 LossesWithin = (m : Model) → Good m → (j : ℕ) → LossWithin m j (lossOf m j .lower) (lossOf m j .upper)

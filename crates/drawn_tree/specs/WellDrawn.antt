@@ -1,5 +1,5 @@
--- Trees that are well drawn over components with these state counts and so many loads, said of the tree alone; and that their bytes, and no others, are
--- let through.
+-- Trees that are well drawn over components with these state counts and so many loads, said of the tree alone; and
+-- that their bytes, and no others, are let through.
 use Prim.Native.Nat.{ℕ, zero, suc, _^_, _<_, _≤_}
 use mathlib.Core.Path.{_≡_}
 use mathlib.Core.List.{List, [], _∷_}
@@ -12,11 +12,12 @@ use Rattle.drawn_tree.specs.Laws.{treeBytes}
 use Rattle.drawn_tree.specs.Tree.{Tree, leaf, node, Trees, none, more}
 
 mutual
-  -- below a branch that has asked the components `above`: a leaf bears a class of the study's loads; a node asks a component that is there and was
-  -- not asked above, and has a subtree for each of its states
+  -- below a branch that has asked the components `above`: a leaf bears a class of the study's loads; a node asks a
+  -- component that is there and was not asked above, and has a subtree for each of its states
   pub data WellDrawn (counts : List ℕ) (loads : ℕ) : List ℕ → Tree → Type 0 where
     a-leaf : {above : List ℕ} {class : ℕ} → class < 2 ^ loads → WellDrawn counts loads above (leaf class)
-    a-node : {above : List ℕ} {component : ℕ} {subtrees : Trees} → component < length counts → (OneOf above component → ⊥)
+    a-node : {above : List ℕ} {component : ℕ} {subtrees : Trees} → component < length counts
+        → (OneOf above component → ⊥)
         → EachDrawn counts loads (component ∷ above) (getD counts component 0) subtrees
         → WellDrawn counts loads above (node component subtrees)
 
@@ -44,7 +45,8 @@ pub record Acceptance (counts : List ℕ) (loads : ℕ) : Type 0 where
   pub only : (bytes : List ℕ) → drawnFault counts loads bytes ≡ 0 → ReadDrawn counts loads bytes
   pub every : (tree : Tree) → WholeDrawn counts loads tree → LetThrough counts loads tree
 
--- So it is over as many components as a study has places for, with so few states that none is taken for the blank mark.
+-- So it is over as many components as a study has places for, with so few states that none is taken for the blank
+-- mark.
 abbrev pub Accepts : Type 0
 Accepts =
     (counts : List ℕ) (loads : ℕ) → length counts ≤ mostComponents → ((k : ℕ) → getD counts k 0 ≤ blankMark)

@@ -11,8 +11,8 @@ use Rattle.loss_calls.specs.Figures.{figuresGiven}
 use Rattle.study_image.specs.Image.{studyIn}
 use Rattle.export_answers.specs.Answers.{answeredBy, pairs, leftBy}
 
--- an answer in the numbers: how many figures are stated, and what is left in the two of each; CAIDI has no values where
--- it is not stated
+-- an answer in the numbers: how many figures are stated, and what is left in the two of each; CAIDI has no values
+-- where it is not stated
 pub record TakesFigures (given : FiguresAnswer)
     (saifi-was saidi-was caidi-was maifi-was saifi saidi caidi maifi : Enclosure) (answer : ℤ) : Type 0 where
   pub answered : answer ≡ answeredBy pairs (figuresTold given)

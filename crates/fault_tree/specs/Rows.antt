@@ -13,7 +13,8 @@ use Rattle.study.specs.declared.Gate.{Gate}
 use Rattle.study.specs.Places.{noGate, ShapedGate}
 use Rattle.gate_order.specs.Rows.{distinctGate}
 
--- a row: the threshold of a gate, its counts of tests and of gate inputs, the components of its tests, their masks, and its gate inputs
+-- a row: the threshold of a gate, its counts of tests and of gate inputs, the components of its tests, their masks,
+-- and its gate inputs
 abbrev pub gateRow : Gate → List ℕ
 gateRow g = (g .threshold ∷ g .tests ∷ g .gates ∷ []) ++ (g .component ++ (g .mask ++ g .input))
 

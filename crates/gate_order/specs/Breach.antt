@@ -1,4 +1,5 @@
--- The breach of order in a gate's inputs, as the check for 16 finds it. Only the code needs it: `InOrder` says what order is.
+-- The breach of order in a gate's inputs, as the check for 16 finds it. Only the code needs it: `InOrder` says what
+-- order is.
 use Prim.Native.Nat.{ℕ}
 use Rattle.ordering.specs.Inputs.{paired}
 use Rattle.ordering.specs.Sorting.{ascends}

@@ -1,4 +1,5 @@
--- The inputs of a gate as rows: its tests, and its gate inputs. How many they are, each counted once however often it stands there.
+-- The inputs of a gate as rows: its tests, and its gate inputs. How many they are, each counted once however often it
+-- stands there.
 use Prim.Native.Nat.{ℕ, _+_}
 use mathlib.Core.List.{List, map}
 use lib.ListN.{length, take}

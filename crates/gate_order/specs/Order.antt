@@ -1,4 +1,5 @@
--- The order of a gate's inputs: tests ascend by component, then by mask, and gate inputs ascend. Unused places stay behind them.
+-- The order of a gate's inputs: tests ascend by component, then by mask, and gate inputs ascend. Unused places stay
+-- behind them.
 use mathlib.Core.List.{map}
 use Rattle.lists.specs.Rows.{put}
 use Rattle.ordering.specs.Inputs.{paired, numbers, masks, Ascending, sorted}

@@ -1,4 +1,5 @@
--- What the class table is filled from: a gate with its distinct inputs alone, and the row of masks that gate inputs are given. Only the code needs these.
+-- What the class table is filled from: a gate with its distinct inputs alone, and the row of masks that gate inputs
+-- are given. Only the code needs these.
 use Prim.Native.Nat.{ℕ}
 use mathlib.Core.List.{List}
 use lib.ListN.{length, replicate}

@@ -60,7 +60,8 @@ inputsByte most = do
   judge (inputsFault most n)
   return n
 
--- test j: a component, then a mask over that component's states; `counts` has the state count of each component of the study
+-- test j: a component, then a mask over that component's states; `counts` has the state count of each component of
+-- the study
 unfoldable pub test : List ℕ → ℕ → Gate → Reader Gate
 test counts j g = do
   component ← byte
@@ -89,7 +90,8 @@ inputs gate g = do
 unfoldable pub gateField : List ℕ → ℕ → ℕ → Gate → Reader Gate
 gateField counts gate k g = cond (eqb k 0) (threshold g) (cond (eqb k 1) (tests counts g) (inputs gate g))
 
--- the record of the gate with this number; the threshold is judged after the last field, by the number of distinct inputs
+-- the record of the gate with this number; the threshold is judged after the last field, by the number of distinct
+-- inputs
 unfoldable pub gate : List ℕ → ℕ → Reader Gate
 unfolding inputCount
 gate counts number = do

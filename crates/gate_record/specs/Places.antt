@@ -1,4 +1,5 @@
--- What the code reads a gate into: its three rows of places, lent and filled one behind the other, and put in order at the end. Only the code needs these.
+-- What the code reads a gate into: its three rows of places, lent and filled one behind the other, and put in order
+-- at the end. Only the code needs these.
 use Prim.Native.Nat.{ℕ}
 use mathlib.Core.List.{List}
 use Rattle.reading.specs.Reader.{Reader, return, _>>=_}

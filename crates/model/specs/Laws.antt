@@ -10,11 +10,13 @@ use Rattle.model.specs.Model.{Model, components, pathsOf}
 
 -- Each path is an entry over its components, and bears the class of some joint state that fits it.
 abbrev pub EachIsEntry : Type 0
-EachIsEntry = (m : Model) → Good m → (i : ℕ) → i < length (pathsOf m) → IsEntry (m .counts) (m .class) (getD (pathsOf m) i [])
+EachIsEntry =
+    (m : Model) → Good m → (i : ℕ) → i < length (pathsOf m) → IsEntry (m .counts) (m .class) (getD (pathsOf m) i [])
 
 -- Every joint state fits one path and only one, and that path bears the joint state's class.
 abbrev pub OnePathEach : Type 0
-OnePathEach = (m : Model) → Good m → (x : List ℕ) → JointState (m .counts) x → OnePath (components m) (m .class x) x (pathsOf m)
+OnePathEach =
+    (m : Model) → Good m → (x : List ℕ) → JointState (m .counts) x → OnePath (components m) (m .class x) x (pathsOf m)
 
 -- Paths ascend by state.
 abbrev pub PathsAscend : Type 0

@@ -1,4 +1,5 @@
--- A study as long as any that opens: six components of four states, which have 4,096 joint states, and every other count and field as its record can hold.
+-- A study as long as any that opens: six components of four states, which have 4,096 joint states, and every other
+-- count and field as its record can hold.
 use Prim.Native.Nat.{ℕ}
 use mathlib.Core.Path.{_≡_}
 use mathlib.Core.List.{List, [], _∷_, _++_}

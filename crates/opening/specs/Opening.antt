@@ -1,5 +1,5 @@
--- Opening a study: the three counts, then the component, gate and load records, then the end of the bytes. A study is read as the bytes give it, and
--- answered with the inputs of its gates in order.
+-- Opening a study: the three counts, then the component, gate and load records, then the end of the bytes. A study is
+-- read as the bytes give it, and answered with the inputs of its gates in order.
 use Prim.Native.Nat.{ℕ, _*_}
 use mathlib.Core.List.{List}
 use lib.ListN.{length, take, set}
@@ -79,7 +79,8 @@ unfolding answered ordered
 answer (refused n) = refusedOpening n
 answer (got t rest) = answered refusedOpening (leftFault (length rest)) (record { outcome = Done; study = ordered t })
 
--- the study of a reading as the bytes give it, before its inputs are put in order; of zeros where the reading is refused
+-- the study of a reading as the bytes give it, before its inputs are put in order; of zeros where the reading is
+-- refused
 unfoldable pub given : Read Study → Study
 given (refused n) = zeroStudy
 given (got t rest) = t

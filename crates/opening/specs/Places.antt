@@ -1,4 +1,5 @@
--- What the code of opening goes by besides: counts that a study has places for, and gates that are put in order as they are read. Only the code needs these.
+-- What the code of opening goes by besides: counts that a study has places for, and gates that are put in order as
+-- they are read. Only the code needs these.
 use Prim.Native.Nat.{ℕ, _≤_}
 use mathlib.Core.List.{List}
 use Rattle.rules.specs.Limits.{mostComponents, mostGates, mostLoads}

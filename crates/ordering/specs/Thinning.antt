@@ -1,4 +1,5 @@
--- How the distinct inputs of a row in order are found, by looking at the next input alone. Only the code needs these: what they come to is said in `Laws`.
+-- How the distinct inputs of a row in order are found, by looking at the next input alone. Only the code needs these:
+-- what they come to is said in `Laws`.
 use Prim.Native.Nat.{ℕ}
 use mathlib.Core.Path.{_≡_}
 use mathlib.Core.Bool.{Bool, true, false, cond}

@@ -22,8 +22,8 @@ fits [] entry = true
 fits (s ∷ x) [] = true
 fits (s ∷ x) (mark ∷ entry) = (eqb mark blankMark || eqb mark s) && fits x entry
 
--- an entry over components with these state counts: a mark for each of them, then a class; a settled mark is a state that its component has; and some
--- joint state fits, whose class it bears, so that no path is empty
+-- an entry over components with these state counts: a mark for each of them, then a class; a settled mark is a state
+-- that its component has; and some joint state fits, whose class it bears, so that no path is empty
 pub record IsEntry (counts : List ℕ) (class : List ℕ → ℕ) (entry : List ℕ) : Type 0 where
   pub long : length entry ≡ entryBytes (length counts)
   pub states : (k : ℕ) → k < length counts → Settled entry k → getD entry k blankMark < getD counts k 0
@@ -42,7 +42,8 @@ pub record OnePath (n class : ℕ) (x : List ℕ) (entries : List (List ℕ)) : 
   pub only : fitting x entries ≡ path ∷ []
   pub bears : classBorne n path ≡ class
 
--- "ascend by state": at the first component where the two differ both are settled, and the earlier one has the lower state
+-- "ascend by state": at the first component where the two differ both are settled, and the earlier one has the lower
+-- state
 pub record Ascends (n : ℕ) (earlier later : List ℕ) : Type 0 where
   pub component : ℕ
   pub inside : component < n

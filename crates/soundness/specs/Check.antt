@@ -1,5 +1,5 @@
--- The soundness check as it is computed: the first breach among all the rules of `Sound`. A theorem of the project says that there is none
--- exactly when the study is sound.
+-- The soundness check as it is computed: the first breach among all the rules of `Sound`. A theorem of the project
+-- says that there is none exactly when the study is sound.
 use Prim.Native.Nat.{ℕ}
 use mathlib.Core.Bool.{Bool}
 use mathlib.Core.List.{List, [], _∷_}
@@ -20,7 +20,8 @@ use Rattle.study.specs.Places.{noGate}
 use Rattle.study.specs.Zero.{zeroComponent, zeroLoad}
 use Rattle.gate_order.specs.Breach.{orderFault}
 
--- probabilities of states 1 to 3 of a component with so many states: 5 for one above 0 of a state that it lacks, then 6
+-- probabilities of states 1 to 3 of a component with so many states: 5 for one above 0 of a state that it lacks, then
+-- 6
 unfoldable pub probabilitiesFault : ℕ → ℕ → ℕ → ℕ → ℕ
 probabilitiesFault states p1 p2 p3 =
     firstBreach (
@@ -68,7 +69,8 @@ unfoldable pub voteFault : Gate → ℕ
 unfolding orderFault inputCount
 voteFault g = first (orderFault g) (thresholdFault (inputCount g) (g .threshold))
 
--- gate place i that is in use, one that no record uses, and place i of a study with n gates; the places of inputs are judged in both
+-- gate place i that is in use, one that no record uses, and place i of a study with n gates; the places of inputs are
+-- judged in both
 unfoldable pub gateFault : List ℕ → ℕ → Gate → ℕ
 gateFault counts i g =
     firstBreach (
@@ -81,7 +83,8 @@ unusedGateFault counts i g = first (unusedFault (g .threshold) (g .tests) (g .ga
 unfoldable pub gatePlaceFault : List ℕ → ℕ → ℕ → Gate → ℕ
 gatePlaceFault counts n i g = inUse n i (gateFault counts i g) (unusedGateFault counts i g)
 
--- a load place that is in use in a study with so many gates, one that no record uses, and place j of a study with n loads
+-- a load place that is in use in a study with so many gates, one that no record uses, and place j of a study with n
+-- loads
 unfoldable pub loadFault : ℕ → Load → ℕ
 loadFault gates l =
     firstBreach (lossGateFault gates (l .gate) ∷ sizeFault mostCustomers (l .customers) ∷ sizeFault mostMinutes (l .minutes) ∷ [])

@@ -8,7 +8,8 @@ use Rattle.answers.specs.declared.chances.SurvivalAnswer.the-variants.{Chances 
 use Rattle.exponential.specs.Survives.{Survives}
 use Rattle.survival.specs.Chances.{exponentOf, survivalGiven}
 
--- Four bounds at an exponent: two that promise what document 02 asks of the chance of surviving, and for the chance of failure one less each, swapped.
+-- Four bounds at an exponent: two that promise what document 02 asks of the chance of surviving, and for the chance
+-- of failure one less each, swapped.
 pub record FourBounds (exponent : ℕ) (c : Chances) : Type 0 where
   pub survival : Survives exponent (c .survival .lower) (c .survival .upper)
   pub failure-lower : c .failure .lower + c .survival .upper ≡ one
@@ -16,7 +17,8 @@ pub record FourBounds (exponent : ℕ) (c : Chances) : Type 0 where
 
 -- Chances that are answered are such.
 abbrev pub SurvivalPromises : Type 0
-SurvivalPromises = (fit hours : ℕ) (c : Chances) → survivalGiven fit hours ≡ Given c → FourBounds (exponentOf fit hours) c
+SurvivalPromises =
+    (fit hours : ℕ) (c : Chances) → survivalGiven fit hours ≡ Given c → FourBounds (exponentOf fit hours) c
 
 -- what the call answers: the pair that is worked out, and wherever it is no refusal, four such bounds
 pub record Answers (fit hours : ℕ) (answer : SurvivalAnswer) : Type 0 where

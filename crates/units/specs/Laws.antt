@@ -11,7 +11,8 @@ pub record QuotientsRound : Type 0 where
   pub not-below : (a b : ℕ) → 0 < b → a ≤ quotientUp a b * b
   pub smallest : (a b : ℕ) → 0 < b → quotientUp a b * b < a + b
 
--- A number of units times a probability, over one, is the product's quotient rounded so; one times a probability is that probability, either way.
+-- A number of units times a probability, over one, is the product's quotient rounded so; one times a probability is
+-- that probability, either way.
 pub record ScaleRounds : Type 0 where
   pub downwards : (a p : ℕ) → scale down a p ≡ quotientDown (a * p) one
   pub upwards : (a p : ℕ) → scale up a p ≡ quotientUp (a * p) one

@@ -15,6 +15,7 @@ down = 0
 abbrev pub up : ℕ
 up = one - 1
 
--- a number of units times a probability, over one: `quotientDown (a * p) one` with down, `quotientUp (a * p) one` with up (`ScaleRounds`)
+-- a number of units times a probability, over one: `quotientDown (a * p) one` with down, `quotientUp (a * p) one`
+-- with up (`ScaleRounds`)
 unfoldable pub scale : ℕ → ℕ → ℕ → ℕ
 scale rounding a p = (a * p + rounding) / one
