@@ -47,7 +47,7 @@ leaf-broken loads class = row-broken _ _ leaf-row
 
 -- ---- the readers
 
--- no class that is reached has a bit at or above the load count
+-- no class that is reached has a bit from the load count on
 abbrev Bounded : ℕ → Tree → Type 0
 Bounded loads tree = (x : List ℕ) → drawnClass tree x / 2 ^ loads ≡ 0
 

@@ -48,7 +48,7 @@ unfoldable mutual
 abbrev pub ReadsBack : Type 0
 ReadsBack = (counts : List ℕ) (loads : ℕ) (bytes : List ℕ) → drawnFault counts loads bytes ≡ 0 → treeBytes (drawnTree counts loads bytes) ≡ bytes
 
--- No class that is reached has a bit at or above the load count.
+-- No class that is reached has a bit from the load count on.
 abbrev pub NoLoadBeyond : Type 0
 NoLoadBeyond = (counts : List ℕ) (loads : ℕ) (bytes x : List ℕ) (j : ℕ) → loads ≤ j → bit (drawnClass (drawnTree counts loads bytes) x) j ≡ false
 

@@ -1,4 +1,5 @@
--- The bytes of a drawn tree, judged from left to right: a component, then a subtree for each of its states, ascending; or 255, then a class.
+-- The bytes of a drawn tree, judged from left to right: a node is its component and a subtree for each state, from
+-- state 0 on; a leaf is 255 and its class.
 use Prim.Native.Nat.{ℕ, zero, suc, _+_}
 use mathlib.Core.Bool.{Bool, not, cond}
 use mathlib.Core.List.{List}

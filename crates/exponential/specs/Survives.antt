@@ -10,9 +10,9 @@ abbrev pub widest : ℕ
 widest = 64
 
 pub record Survives (exponent lower upper : ℕ) : Type 0 where
-  -- the lower bound times any partial sum is at most one
+  -- no partial sum times the lower bound is above one
   pub below : (n : ℕ) → lower * partial exponent n ≤ one * whole n
-  -- the upper bound times some partial sum is at least one
+  -- some partial sum times the upper bound reaches one
   pub above : (n : ℕ) × (one * whole n ≤ upper * partial exponent n)
   -- both lie from 0 to one, the lower one not above the other, and they are near
   pub ordered : lower ≤ upper

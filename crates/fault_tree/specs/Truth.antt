@@ -13,7 +13,7 @@ use Rattle.study.specs.declared.Gate.{Gate}
 use Rattle.study.specs.Places.{noGate}
 use Rattle.gate_order.specs.Inputs.{testsOf, gateInputsOf}
 
--- a test is true in joint state x: bit s of its mask stands, s being the component's state
+-- a test is true in joint state x: its mask has the bit of the state that its component is in
 abbrev pub testTrue : List ℕ → Input → Bool
 testTrue x a = bit (a .mask) (getD x (a .number) 0)
 
@@ -32,7 +32,7 @@ unfoldable pub trueGates : Gate → (ℕ → Bool) → ℕ
 unfolding trueOnce
 trueGates g holds = trueOnce (λ (a : Input). holds (a .number)) (gateInputsOf g)
 
--- a gate is true when at least its threshold of distinct inputs, tests and gates together, are
+-- a gate is true when its distinct inputs that are true, tests and gates together, reach its threshold
 unfoldable pub gateTrue : Gate → List ℕ → (ℕ → Bool) → Bool
 unfolding trueTests trueGates
 gateTrue g x holds = leb (g .threshold) (trueTests g x + trueGates g holds)

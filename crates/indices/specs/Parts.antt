@@ -1,4 +1,4 @@
--- Which loads take part in which sum: a loss is sustained only when it lasts longer than five minutes.
+-- Which loads take part in which sum: a loss is momentary up to five minutes, and sustained beyond.
 use Prim.Native.Nat.{ℕ}
 use mathlib.Core.Bool.{Bool, true, not}
 use lib.Dec.{leb}

@@ -13,7 +13,7 @@ abbrev pub EachIsEntry : Type 0
 EachIsEntry =
     (m : Model) → Good m → (i : ℕ) → i < length (pathsOf m) → IsEntry (m .counts) (m .class) (getD (pathsOf m) i [])
 
--- Every joint state fits one path and only one, and that path bears the joint state's class.
+-- Each joint state fits exactly one path, which bears its class.
 abbrev pub OnePathEach : Type 0
 OnePathEach =
     (m : Model) → Good m → (x : List ℕ) → JointState (m .counts) x → OnePath (components m) (m .class x) x (pathsOf m)
@@ -22,7 +22,7 @@ OnePathEach =
 abbrev pub PathsAscend : Type 0
 PathsAscend = (m : Model) → Good m → Ascending (components m) (pathsOf m)
 
--- A component is blank on a path exactly when its own state changes no loss there.
+-- A path leaves a component blank exactly when its own state changes no loss there.
 abbrev pub BlankExactly : Type 0
 BlankExactly =
     (m : Model) → Good m → (i k : ℕ) → i < length (pathsOf m) → k < components m

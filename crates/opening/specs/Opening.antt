@@ -1,5 +1,5 @@
--- Opening a study: the three counts, then the component, gate and load records, then the end of the bytes. A study is
--- read as the bytes give it, and answered with the inputs of its gates in order.
+-- Opening a study: the three counts, the records of components, gates and loads, the end of the bytes. A study is read
+-- as the bytes give it, and answered with the inputs of its gates in order.
 use Prim.Native.Nat.{ℕ, _*_}
 use mathlib.Core.List.{List}
 use lib.ListN.{length, take, set}

@@ -1,4 +1,4 @@
--- A component is blank on a path exactly when its state changes no loss there: by induction over the components. The first is blank exactly where
+-- A path leaves a component blank exactly when its state changes no loss there: by induction over the components. The first is blank exactly where
 -- the parts of its states are alike, and a joint state that has the path's state there, or any if it is blank, has its class in the path's part.
 use Prim.Native.Nat.{ℕ, zero, suc, _<_}
 use mathlib.Core.Path.{_≡_, refl, sym, ap, subst, _∙_}

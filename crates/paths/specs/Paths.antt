@@ -14,7 +14,7 @@ use Rattle.entries.specs.Entries.{blankMark, entry}
 abbrev pub part : ℕ → ℕ → List ℕ → List ℕ
 part m s block = take m (drop (s * m) block)
 
--- every state of the component leads to the same class for each choice of the later ones
+-- "blank": whichever states the later components are in, all states of this one lead to the same class
 unfoldable pub isBlank : ℕ → ℕ → List ℕ → Bool
 unfolding allBelow same
 isBlank states m block = allBelow (λ (s : ℕ). same (part m 0 block) (part m s block)) states

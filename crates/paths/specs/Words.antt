@@ -16,7 +16,7 @@ Blank entry k = getD entry k blankMark ≡ blankMark
 abbrev pub Settled : List ℕ → ℕ → Type 0
 Settled entry k = Blank entry k → ⊥
 
--- "fits": joint state x has the path's state at each settled component
+-- "fits": wherever the path settles a component, joint state x has that state
 unfoldable pub fits : List ℕ → List ℕ → Bool
 fits [] entry = true
 fits (s ∷ x) [] = true
@@ -42,8 +42,7 @@ pub record OnePath (n class : ℕ) (x : List ℕ) (entries : List (List ℕ)) : 
   pub only : fitting x entries ≡ path ∷ []
   pub bears : classBorne n path ≡ class
 
--- "ascend by state": at the first component where the two differ both are settled, and the earlier one has the lower
--- state
+-- "ascend by state": where the two first differ, both are settled and the earlier one has the lower state
 pub record Ascends (n : ℕ) (earlier later : List ℕ) : Type 0 where
   pub component : ℕ
   pub inside : component < n
@@ -55,7 +54,7 @@ pub record Ascends (n : ℕ) (earlier later : List ℕ) : Type 0 where
 abbrev pub Ascending : ℕ → List (List ℕ) → Type 0
 Ascending n entries = (i j : ℕ) → i < j → j < length entries → Ascends n (getD entries i []) (getD entries j [])
 
--- two joint states that have the path's states at the components settled before component k, and differ in it alone
+-- two joint states that have every state which the path settles before component k, and differ in k alone
 pub record DifferAt (counts : List ℕ) (k : ℕ) (entry x y : List ℕ) : Type 0 where
   pub first : JointState counts x
   pub second : JointState counts y

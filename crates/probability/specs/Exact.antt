@@ -12,7 +12,7 @@ weight rows [] = 1
 weight [] (s ∷ x) = 1
 weight (row ∷ rows) (s ∷ x) = getD row s 0 * weight rows x
 
--- document 01's "exact": over the joint states concerned, the sum of the products of state probabilities
+-- document 01's "exact": each joint state concerned adds the product of its states' probabilities
 unfoldable pub exact : List (List ℕ) → List ℕ → (List ℕ → Bool) → ℕ
 unfolding sumOver those weight jointStates
 exact rows counts concerned = sumOver (weight rows) (those concerned (jointStates counts))

@@ -6,11 +6,11 @@ use Rattle.units.specs.One.{one}
 use Rattle.rules.specs.Limits.{fewestStates, mostStates, mostJointStates, never, farthest}
 use Rattle.rules.specs.Breach.{refuse, outside, unlessAbsent}
 
--- 1 short: the bytes end inside or before a due field
+-- 1 short: the bytes lack a due field, or part of it
 abbrev pub short : ℕ
 short = 1
 
--- 2 counts: one of the first three bytes is not 1 to its limit
+-- 2 counts: the number of components, gates or loads is not 1 to its limit
 abbrev pub countFault : ℕ → ℕ → ℕ
 countFault most n = refuse 2 (outside 1 most n)
 
@@ -22,19 +22,19 @@ strayFault maps map = refuse 3 (leb maps map)
 abbrev pub statesFault : ℕ → ℕ
 statesFault states = refuse 4 (outside fewestStates mostStates states)
 
--- 5 no state: a probability for a state that the component lacks
+-- 5 no state: a probability of a state that the component lacks
 abbrev pub noStateFault : ℕ → ℕ → ℕ
 noStateFault states state = refuse 5 (leb states state)
 
--- 5 in a study and in an edit: a probability above 0 for a state that the component lacks
+-- 5 in a study and in an edit: a probability above 0 of a state that the component lacks
 abbrev pub lackedStateFault : ℕ → ℕ → ℕ → ℕ
 lackedStateFault states state p = unlessAbsent 0 p (noStateFault states state)
 
--- 6 over one: states 1 to 3 sum above one
+-- 6 over one: the probabilities of states 1 to 3 are together above one
 abbrev pub sumFault : ℕ → ℕ → ℕ → ℕ
 sumFault p1 p2 p3 = refuse 6 (ltb one (p1 + p2 + p3))
 
--- 7 too wide: more than 4,096 joint states
+-- 7 too wide: the joint states pass 4,096
 abbrev pub widthFault : ℕ → ℕ
 widthFault jointStates = refuse 7 (ltb mostJointStates jointStates)
 
@@ -50,7 +50,7 @@ inputCountFault most n = unlessAbsent 0 n (inputsFault most n)
 abbrev pub noComponentFault : ℕ → ℕ → ℕ
 noComponentFault components component = refuse 9 (leb components component)
 
--- 10 mask: zero, or with a bit for a state that is not there
+-- 10 mask: 0, or with the bit of a state that the component lacks
 abbrev pub maskFault : ℕ → ℕ → ℕ
 maskFault states mask = refuse 10 (outside 1 (2 ^ states - 1) mask)
 
@@ -78,7 +78,8 @@ sizeFault most n = refuse 14 (ltb most n)
 abbrev pub leftFault : ℕ → ℕ
 leftFault bytes = refuse 15 (ltb 0 bytes)
 
--- 16 unsound: an opened study that breaks a rule above, has the inputs of a gate out of order, or holds anything but 0 in a place that no record uses
+-- 16 unsound: in an opened study, a rule above is broken, the inputs of a gate are out of order, or a place that no
+-- record uses holds anything but 0
 abbrev pub unsoundFault : Bool → ℕ
 unsoundFault sound = refuse 16 (not sound)
 
@@ -86,11 +87,11 @@ unsoundFault sound = refuse 16 (not sound)
 abbrev pub unusedFault : ℕ → ℕ → ℕ → ℕ → ℕ
 unusedFault a b c d = refuse 16 (ltb 0 (a + b + c + d))
 
--- 17 no item: a call names a component or load that is not in the study
+-- 17 no item: the study lacks the component or load that a call names
 abbrev pub itemFault : ℕ → ℕ → ℕ
 itemFault count item = refuse 17 (leb count item)
 
--- 18 no room: a lent buffer or slice is shorter than needed
+-- 18 no room: the buffer or slice lent is too short
 abbrev pub roomFault : ℕ → ℕ → ℕ
 roomFault need room = refuse 18 (ltb room need)
 
@@ -110,7 +111,7 @@ badEnd = 21
 abbrev pub behindFault : ℕ → ℕ
 behindFault bytes = refuse badEnd (ltb 0 bytes)
 
--- 22 leaf: a class with a bit at or above the load count
+-- 22 leaf: a class with a bit from the load count on
 abbrev pub leafFault : ℕ → ℕ → ℕ
 leafFault loads class = refuse 22 (ltb 0 (class / 2 ^ loads))
 

@@ -20,8 +20,7 @@ use Rattle.study.specs.Places.{noGate}
 use Rattle.study.specs.Zero.{zeroComponent, zeroLoad}
 use Rattle.gate_order.specs.Breach.{orderFault}
 
--- probabilities of states 1 to 3 of a component with so many states: 5 for one above 0 of a state that it lacks, then
--- 6
+-- probabilities of states 1 to 3, by the state count: 5 for one above 0 of a state that the component lacks, then 6
 unfoldable pub probabilitiesFault : ℕ → ℕ → ℕ → ℕ → ℕ
 probabilitiesFault states p1 p2 p3 =
     firstBreach (

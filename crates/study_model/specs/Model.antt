@@ -10,7 +10,7 @@ use Rattle.study.specs.Joint.{stateCounts}
 use Rattle.paths.specs.Blocks.{classAt}
 use Rattle.model.specs.Model.{Model}
 
--- the probabilities of a component's states 0 to 3; state 0 is "up" and has the rest of one
+-- the probabilities of a component's states 0 to 3; state 0, "up", has the rest of one
 abbrev pub stateProbabilities : Component → List ℕ
 stateProbabilities c = (one - (c .p1 + c .p2 + c .p3)) ∷ c .p1 ∷ c .p2 ∷ c .p3 ∷ []
 
