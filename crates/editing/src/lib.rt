@@ -47,7 +47,7 @@ fn component_edit_fault(t: Study, i: usize, p1: u32, p2: u32, p3: u32) -> u8
     first_of_three(unsound, item, probabilities)
 }
 
-// Sets the probabilities of states 1 to 3 of a component. Refused by 16, 17, 5, 6, in this order.
+// Sets a component's probabilities of states 1 to 3. Refused by 16, 17, 5, 6, in this order.
 pub fn set_probabilities(study: Study, component: usize, p1: u32, p2: u32, p3: u32) -> StudyAnswer
     ensures { λ r. ⌜ r ≡ probabilitiesSet study component p1 p2 p3 ⌝ }
 {

@@ -1,5 +1,5 @@
-// Bounds for the exponential of minus an exponent: a product of a factor for each bit of the exponent, rounded down for the lower bound and up for the
-// upper one.
+// Bounds for the exponential of minus an exponent: a product of a factor for each bit of the exponent, the lower
+// bound rounded down and the upper one up.
 use units::DOWN;
 use units::ONE;
 use units::UP;

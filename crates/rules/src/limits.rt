@@ -54,7 +54,7 @@ pub const LONGEST_STUDY: usize = 2023;
 // The largest exponent whose exponential is given.
 pub const FARTHEST: u64 = 20000000000;
 
-// Row 1: the bytes end inside or before a due field.
+// Row 1: the bytes lack a due field, or part of it.
 pub const SHORT: u8 = 1;
 
 // Row 21: the bytes of a drawn tree end inside it.

@@ -11,7 +11,7 @@ use study::Component;
 ghost use mathlib.Core.Path.{_≡_};
 ghost use Rattle.soundness.specs.Check.{probabilitiesFault, componentsFault};
 
-// The first breach among probabilities of states 1 to 3 of a component with so many states.
+// The first breach among probabilities of states 1 to 3, by the component's state count.
 pub fn probabilities_fault(states: u8, p1: u32, p2: u32, p3: u32) -> u8
     ensures { λ r. ⌜ r ≡ probabilitiesFault states p1 p2 p3 ⌝ }
 {

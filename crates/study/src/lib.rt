@@ -15,7 +15,7 @@ ghost use Rattle.study.specs.Joint.{states};
 ghost use Rattle.study.specs.Places.{componentAt, loadAt};
 ghost use Rattle.study.specs.Absent.{absentComponent, absentGate, absentLoad};
 
-// A component: how many states it has, and the probability in units of its states 1 to 3. State 0 is "up" and has the rest of one.
+// A component: its state count, and the probabilities of states 1 to 3 in units. State 0, "up", has the rest of one.
 pub struct Component {
     pub states: u8,
     pub p1: u32,
