@@ -62,7 +62,7 @@ extern "C" {
  * gate inputs ascend. Answers 0. Refused by 1 to 15, then 18. */
 int64_t grid_open(const uint8_t *bytes, size_t bytes_len, uint8_t *study, size_t study_len);
 
-/* Sets the probabilities of states 1 to 3 of a component. Answers 0. Refused by 16, 17, 5, 6. */
+/* Sets how likely states 1 to 3 of a component are. Answers 0. Refused by 16, 17, 5, 6. */
 int64_t grid_set_probabilities(uint8_t *study, size_t study_len, size_t component, uint32_t p1, uint32_t p2, uint32_t p3);
 
 /* Sets the customers of a load. Answers 0. Refused by 16, 17, 14. */
@@ -107,7 +107,7 @@ int64_t grid_drawn_load_bounds(const uint8_t *study, size_t study_len, const uin
                                uint64_t *lower, uint64_t *upper);
 
 /* Writes the lower and the upper bound of SAIFI (units), SAIDI (billionths of a minute), CAIDI (minutes) and MAIFI (units).
- * Loads with a restore time of 5 minutes or less count in MAIFI alone, all others in the first three.
+ * Loads that are restored in 5 minutes or less count in MAIFI alone, all others in the first three.
  * Answers 4, or 3 where CAIDI is not stated and its two numbers keep what they held. Refused by 16, 19. */
 int64_t grid_figures(const uint8_t *study, size_t study_len, uint64_t *saifi_lower, uint64_t *saifi_upper, uint64_t *saidi_lower,
                      uint64_t *saidi_upper, uint64_t *caidi_lower, uint64_t *caidi_upper, uint64_t *maifi_lower, uint64_t *maifi_upper);

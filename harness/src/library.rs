@@ -176,7 +176,7 @@ pub fn open(bytes: &[u8], study: &mut [u8]) -> Answer<usize> {
     answer(unsafe { grid_open(bytes.as_ptr(), bytes.len(), study.as_mut_ptr(), study.len()) })
 }
 
-/// Sets the probabilities of states 1 to 3 of a component. Refused by 16, 17, 5, 6.
+/// Sets how likely states 1 to 3 of a component are. Refused by 16, 17, 5, 6.
 pub fn set_probabilities(study: &mut [u8], component: usize, p: [u32; 3]) -> Answer<usize> {
     let (place, size) = (study.as_mut_ptr(), study.len());
     answer(unsafe { grid_set_probabilities(place, size, component, p[0], p[1], p[2]) })

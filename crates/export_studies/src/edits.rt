@@ -3,7 +3,7 @@ use crate::images::keep;
 use study_image::read_image;
 ghost use Rattle.export_studies.specs.Images.{SetsProbabilities, SetsCustomers, SetsMinutes};
 
-// Sets the probabilities of states 1 to 3 of a component. Refused by 16, 17, 5, 6, in this order.
+// Sets how likely states 1 to 3 of a component are. Refused by 16, 17, 5, 6, in this order.
 pub fn set_probabilities(study: &mut [u8], component: usize, p1: u32, p2: u32, p3: u32) -> i64
     ensures { λ r. ⌜ SetsProbabilities component p1 p2 p3 (now (study .entry)) (now (study .exit)) r ⌝ }
 {

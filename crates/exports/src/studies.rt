@@ -10,7 +10,7 @@ pub extern "C" fn grid_open(bytes: &[u8], study: &mut [u8]) -> i64
     export_studies::open(bytes, study)
 }
 
-// Sets the probabilities of states 1 to 3 of a component. Refused by 16, 17, 5, 6, in this order.
+// Sets how likely states 1 to 3 of a component are. Refused by 16, 17, 5, 6, in this order.
 #[no_mangle]
 pub extern "C" fn grid_set_probabilities(
     study: &mut [u8],

@@ -21,7 +21,7 @@ fn is_true(study: &Study, gate: u8, joint: &[u8], found: &mut [Option<bool>]) ->
     truth
 }
 
-/// The class of a joint state: bit j stands when load j's gate is true.
+/// The class of a joint state: the bit of each load whose gate is true stands.
 pub fn class(study: &Study, joint: &[u8]) -> u8 {
     let mut found = vec![None; study.gates.len()];
     let mut class = 0;

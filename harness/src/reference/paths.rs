@@ -44,7 +44,7 @@ fn fits(marks: &[Option<u8>], joint: &[u8]) -> bool {
         .all(|(mark, state)| mark.is_none_or(|settled| settled == *state))
 }
 
-/// Whether the component behind those marked changes no loss, whatever the states of the others.
+/// Whether the state of the component behind those marked changes no loss, with all others in any state.
 fn changes_no_loss(losses: &Losses, marks: &[Option<u8>]) -> bool {
     let component = marks.len();
     let states = losses.counts[component];

@@ -49,7 +49,7 @@ impl Pair<'_> {
         )
     }
 
-    /// Full slices end as cleared ones do in the places named, and keep the largest number in all others: in every place where the call is refused.
+    /// Slices that were full hold in the places of classes what cleared ones hold there, and keep the largest number in all others: in every place where the call is refused.
     fn assert_overwritten(&self, full: &Agreed<Slices>, cleared: &Agreed<Slices>) {
         let named = full.answer.map_or(0, |_| CLASS_PLACES);
         for (full, cleared) in full.lent.iter().zip(&cleared.lent) {
