@@ -68,8 +68,8 @@ module _ (m : Meaning) (t : Study) (s : Sound t) (kept : meaningFault m t ≡ 0)
         written = λ buffer room. filled-done _ (joined (pathList m t)) buffer (none-of _ (room-none _ (length buffer) room));
       }
 
-  pub the-paths : PairIs (pathsBounded m t) (lowerOfPaths m t) (upperOfPaths m t) (Count (length (pathList m t))) (length (pathList m t)) (pathLowers (modelOf m t))
-      (pathUppers (modelOf m t))
+  pub the-paths : PairIs (pathsBounded m t) (lowerOfPaths m t) (upperOfPaths m t) (Count (length (pathList m t))) (length (pathList m t))
+      (pathLowers (modelOf m t)) (pathUppers (modelOf m t))
   unfolding pathsBounded
   the-paths =
       record {
@@ -78,7 +78,8 @@ module _ (m : Meaning) (t : Study) (s : Sound t) (kept : meaningFault m t ≡ 0)
         upper-written = λ lower upper low high. filled-done _ _ upper (pair-none _ lower upper low high);
       }
 
-  pub the-classes : PairIs (classesBounded m t) (lowerOfClasses m t) (upperOfClasses m t) Done classPlaces (classLowers (modelOf m t)) (classUppers (modelOf m t))
+  pub the-classes : PairIs (classesBounded m t) (lowerOfClasses m t) (upperOfClasses m t) Done classPlaces
+      (classLowers (modelOf m t)) (classUppers (modelOf m t))
   unfolding classesBounded
   the-classes =
       record {

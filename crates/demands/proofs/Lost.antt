@@ -1,5 +1,6 @@
--- What a joint state loses is what its fault tree says, or the leaf that it reaches in a drawn tree. What carries it: the truth of a gate is set once, from those
--- of lower gates, which stay as they are; bit j of a class is the truth that was set there; and on a list a joint state fits the one path that bears its class.
+-- What a joint state loses is what its fault tree says, or the leaf that it reaches in a drawn tree. What carries it: the truth of a gate is set once, from
+-- those of lower gates, which stay as they are; bit j of a class is the truth that was set there; and on a list a joint state fits the one path that bears
+-- its class.
 use Prim.Native.Nat.{ℕ, zero, suc, _+_, _<_, _≤_}
 use mathlib.Core.Path.{_≡_, refl, sym, ap, subst, _∙_}
 use mathlib.Core.Bool.{Bool, true, false, false≢true}

@@ -1,5 +1,5 @@
--- Each list that a call answered: its entries are such, every joint state fits one path, paths ascend, and a component is blank exactly where its state changes no loss.
--- What carries it: the buffer holds the paths of a model, which is good, and the paths of any good model do so.
+-- Each list that a call answered: its entries are such, every joint state fits one path, paths ascend, and a component is blank exactly where its state
+-- changes no loss. What carries it: the buffer holds the paths of a model, which is good, and the paths of any good model do so.
 use Prim.Native.Nat.{ℕ}
 use mathlib.Core.Path.{_≡_, sym, subst}
 use mathlib.Core.List.{List, []}

@@ -1,5 +1,5 @@
--- The report says what the calls tell. What carries it: both are made of the paths of one model; a call that told values left that model's bounds in its slices,
--- and its paths in the buffer.
+-- The report says what the calls tell. What carries it: both are made of the paths of one model; a call that told values left that model's bounds in its
+-- slices, and its paths in the buffer.
 use Prim.Native.Nat.{ℕ, _<_}
 use mathlib.Core.Path.{_≡_, refl, sym, ap, _∙_}
 use mathlib.Core.List.{List, [], _∷_, _++_, map, append-nil}
@@ -102,7 +102,8 @@ module _ (t : Study) (is-sound : Sound t) (shaped : Shaped t) (p : ℕ) (lent : 
       let inside : j < mostLoads = omega (arith, h, loads-most t is-sound) in
       let low = getD-tabulate (lowerLoss (probabilityTable m) (components m) (pathsOf m)) mostLoads j 0 inside in
       let high = getD-tabulate (upperLoss (probabilityTable m) (components m) (pathsOf m)) mostLoads j 0 inside in
-      (λ i. itemLine (letters "L") j (low i) (high i)) ∙ ap (λ (answer : BoundsAnswer). loadSaid j (boundsTold answer)) (sym (a-load byGates t is-sound refl j h))
+      (λ i. itemLine (letters "L") j (low i) (high i))
+      ∙ ap (λ (answer : BoundsAnswer). loadSaid j (boundsTold answer)) (sym (a-load byGates t is-sound refl j h))
 
   loads-said : loadLines (loadLowers m) (loadUppers m) (length (m .loads))
       ≡ joined (tabulate (λ (j : ℕ). loadSaid j (callTold (loadBounds byGates j) t)) (t .loads))

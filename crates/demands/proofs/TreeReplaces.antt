@@ -1,5 +1,5 @@
--- A drawn tree replaces the gates. What carries it: all that the calls by a tree work out, they work out of whether the study is sound, of its state counts, its
--- probabilities and its number of loads (`values`), and for the figures of its loads without their loss gates.
+-- A drawn tree replaces the gates. What carries it: all that the calls by a tree work out, they work out of whether the study is sound, of its state
+-- counts, its probabilities and its number of loads (`values`), and for the figures of its loads without their loss gates.
 use Prim.Native.Nat.{ℕ}
 use mathlib.Core.Path.{_≡_, refl, sym, ap, _∙_}
 use mathlib.Core.Bool.{Bool}

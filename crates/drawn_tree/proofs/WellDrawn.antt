@@ -124,8 +124,8 @@ module _ (counts : List ℕ) (loads : ℕ) (few : length counts ≤ mostComponen
         )
         refl
 
-    read-trees : {above : List ℕ} {n : ℕ} {subtrees : Trees} → EachDrawn counts loads above n subtrees → (levels : ℕ) (marks : ℕ → List ℕ) (s : ℕ) (rest : List ℕ)
-        → ((k : ℕ) → k < s + n → Marked (length counts) above (marks k)) → ((k : ℕ) → k < s + n → unasked (marks k) < levels)
+    read-trees : {above : List ℕ} {n : ℕ} {subtrees : Trees} → EachDrawn counts loads above n subtrees → (levels : ℕ) (marks : ℕ → List ℕ)
+        (s : ℕ) (rest : List ℕ) → ((k : ℕ) → k < s + n → Marked (length counts) above (marks k)) → ((k : ℕ) → k < s + n → unasked (marks k) < levels)
         → subtreesRead (λ (k : ℕ). treeRead counts loads levels (marks k)) s n (treesBytes subtrees ++ rest) ≡ got subtrees rest
     read-trees no-more levels marks s rest marked enough = refl
     read-trees (one-more {n = n} {tree} {subtrees} well each) levels marks s rest marked enough =

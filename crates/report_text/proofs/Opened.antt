@@ -42,7 +42,8 @@ module _ (bytes : List ℕ) {answer : StudyAnswer} (e : answer ≡ opened bytes)
 
   pub opened-study : answer .outcome ≡ Done → Sound (answer .study)
   opened-study done =
-      subst (λ (a : StudyAnswer). Sound (a .study)) (sym e) (opened-sound bytes (ap (λ (a : StudyAnswer). outcomeTold (a .outcome)) (sym e) ∙ ap outcomeTold done))
+      let told = ap (λ (a : StudyAnswer). outcomeTold (a .outcome)) (sym e) ∙ ap outcomeTold done in
+      subst (λ (a : StudyAnswer). Sound (a .study)) (sym e) (opened-sound bytes told)
 
 pub table-text : {t : Study} {was : List ℕ} (table : List ℕ) → Sound t → mostJointStates ≤ length table → Tabled byGates t was table
     → modelText (modelBy t table) ≡ modelText (modelOf byGates t)
