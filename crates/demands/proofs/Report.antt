@@ -43,7 +43,7 @@ use Rattle.report_text.proofs.Opened.{text-done}
 use Rattle.path_calls.specs.Bounds.{pairBreach}
 use Rattle.demands.specs.Calls.{pathBounds as forPaths, loadBounds, callTold}
 use Rattle.demands.specs.Listed.{pathsIn}
-use Rattle.demands.specs.Report.{Lent, Asked, pathSaid, classSaid, loadSaid, textSaid, ReportSays, ReportFits, InputCut}
+use Rattle.demands.specs.Report.{Slices, Asked, pathSaid, classSaid, loadSaid, textSaid, ReportSays, ReportFits, InputCut}
 use Rattle.demands.proofs.Bounds.{classes-left, lowers-long, uppers-long}
 use Rattle.demands.proofs.Finished.{finished}
 use Rattle.demands.proofs.Given.{the-list, the-paths, the-classes, a-load, the-figures}
@@ -52,7 +52,7 @@ use Rattle.demands.proofs.Paths.{are-paths}
 
 -- ---- the lines, one kind after the other
 
-module _ (t : Study) (is-sound : Sound t) (shaped : Shaped t) (p : ℕ) (lent : Lent) (asked : Asked t p lent) where
+module _ (t : Study) (is-sound : Sound t) (shaped : Shaped t) (p : ℕ) (lent : Slices) (asked : Asked t p lent) where
   abbrev m : Model
   m = modelOf byGates t
 

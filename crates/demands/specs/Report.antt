@@ -33,7 +33,7 @@ use Rattle.demands.specs.Listed.{ListedBy, pathsIn, pathIn}
 
 -- what the calls by its gates were lent: a buffer for the list, two slices for the bounds of its paths, and two for
 -- those of classes
-pub record Lent : Type 0 where
+pub record Slices : Type 0 where
   pub buffer : List ℕ
   pub lower : List ℕ
   pub upper : List ℕ
@@ -41,14 +41,14 @@ pub record Lent : Type 0 where
   pub classUpper : List ℕ
 
 -- none of them was refused, and there are p paths
-pub record Asked (t : Study) (p : ℕ) (lent : Lent) : Type 0 where
+pub record Asked (t : Study) (p : ℕ) (lent : Slices) : Type 0 where
   pub listed : ListedBy byGates t (lent .buffer) p
   pub bounded : callTold (pathBounds byGates (lent .lower) (lent .upper)) t ≡ result (p ∷ [])
   pub classed : callTold (classBounds byGates (lent .classLower) (lent .classUpper)) t ≡ result []
 
 -- ---- the lines that say it
 
-module _ (t : Study) (p : ℕ) (lent : Lent) where
+module _ (t : Study) (p : ℕ) (lent : Slices) where
   -- path i of the list
   abbrev pub listedPath : ℕ → List ℕ
   listedPath i = pathIn byGates t (lent .buffer) p i
@@ -74,7 +74,7 @@ loadSaid j (refusal n) = []
 
 -- the whole text: the number of paths, a line for each path, for each class that occurs and for each load, and the
 -- lines of the figures that are answered
-abbrev pub textSaid : Study → ℕ → Lent → List ℕ
+abbrev pub textSaid : Study → ℕ → Slices → List ℕ
 textSaid t p lent =
     joined
     (numberLine (letters "PATHS") p
@@ -88,7 +88,7 @@ textSaid t p lent =
 
 pub record ReportSays : Type 0 where
   -- The report of bytes that open is made of what the calls on the opened study told and left, number by number.
-  pub says : (bytes : List ℕ) (p : ℕ) (lent : Lent) → IsOpened bytes → Asked (opened bytes .study) p lent
+  pub says : (bytes : List ℕ) (p : ℕ) (lent : Slices) → IsOpened bytes → Asked (opened bytes .study) p lent
       → reportText bytes ≡ textSaid (opened bytes .study) p lent
   -- Every sound study can be asked so, with slices that are just long enough.
   pub askable : (t : Study) → Sound t
