@@ -11,7 +11,7 @@ use Rattle.study.specs.declared.Study.{Study}
 use Rattle.study.specs.Joint.{stateCounts}
 use Rattle.entries.specs.Entries.{entryBytes}
 use Rattle.paths.specs.Words.{IsEntry, OnePath, Ascending, BlankIff}
-use Rattle.model.specs.Held.{Listed as Holds}
+use Rattle.model.specs.Listed.{Listed as Holds}
 use Rattle.model.specs.Model.{Model, components}
 use Rattle.drawn_tree.specs.Drawn.{drawnTree}
 use Rattle.drawn_tree.specs.Leaves.{asking}

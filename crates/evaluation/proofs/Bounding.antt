@@ -1,7 +1,7 @@
 -- The list of a good model can be bounded, and totals that were cleared first hold the bounds of its classes or loads. What carries the lower ones:
 -- a limit of one for each of 4,096 paths is none.
 use Prim.Native.Nat.{ℕ, _≤_, min}
-use mathlib.Core.Path.{_≡_, refl, sym, ap, subst, _∙_}
+use mathlib.Core.Path.{_≡_, refl, sym, ap, _∙_}
 use mathlib.Core.Bool.{Bool, true}
 use mathlib.Core.List.{List}
 use native.Mathlib.Omega.{arith}
@@ -13,11 +13,12 @@ use Rattle.lists.proofs.Tabulated.{length-tabulate}
 use Rattle.rules.specs.Limits.{mostLoads}
 use Rattle.units.specs.One.{one}
 use Rattle.units.specs.Rounding.{down, up}
-use Rattle.entries.specs.Entries.{entriesOf}
-use Rattle.entries.specs.Lists.{PathList}
 use Rattle.model.specs.Good.{Good}
-use Rattle.model.specs.Held.{HeldOf}
+use Rattle.model.specs.declared.HeldModel.{HeldModel}
+use Rattle.model.specs.InHand.{heldTable, modelHeld, InHand}
+use Rattle.model.specs.Listed.{Listed}
 use Rattle.model.specs.Model.{Model, components, pathsOf, probabilityTable}
+use Rattle.model.proofs.InHand.{held-table, listed-room}
 use Rattle.model.proofs.Listing.{paths-few}
 use Rattle.model.proofs.Table.{table-most}
 use Rattle.probability.specs.Bounded.{Boundable}
@@ -31,21 +32,13 @@ use Rattle.evaluation.specs.Bounds.{lowerOf, upperOf, loadLowers, loadUp
 
 -- ---- paths, from a list
 
-module _ {m : Model} {probabilities list : List ℕ} {n paths : ℕ} (held : HeldOf m probabilities n list paths) where
-  pub held-boundable : Boundable probabilities n list paths
-  held-boundable =
-      record {
-        table = record { each = λ k. rw (held .is-table) (table-most m (held .listed .good) k) };
-        room = subst (λ (k : ℕ). PathList k paths list) (sym (held .number)) (held .listed .room);
-      }
-
-  -- what is worked out from the slices is worked out from the model
-  pub held-values : {A : Type 0} (f : List ℕ → ℕ → List (List ℕ) → A)
-      → f probabilities n (entriesOf n paths list) ≡ f (probabilityTable m) (components m) (pathsOf m)
-  held-values f =
-      ap (λ (p : List ℕ). f p n (entriesOf n paths list)) (held .is-table)
-      ∙ ap (λ (k : ℕ). f (probabilityTable m) k (entriesOf k paths list)) (held .number)
-      ∙ ap (f (probabilityTable m) (components m)) (held .listed .entries)
+pub hand-boundable : {h : HeldModel} {classes list : List ℕ} {paths : ℕ} → InHand h classes → Listed (modelHeld h classes) paths list
+    → Boundable (heldTable h) (h .components) list paths
+hand-boundable {h} {classes} hand listed =
+    record {
+      table = record { each = λ k. rw (held-table h classes) (table-most (modelHeld h classes) (hand .good) k) };
+      room = listed-room hand listed;
+    }
 
 -- ---- classes and loads, in totals
 

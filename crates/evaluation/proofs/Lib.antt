@@ -1,2 +1,3 @@
 pub mod Bounding
 pub mod LossOrder
+pub mod PairPut

@@ -1,46 +1,42 @@
-// The figures, from bounds for the losses of loads, and those of a study.
+// The figures of a model, from bounds for the losses of its loads.
 use crate::losses::Losses;
 use crate::losses::loss_bounds;
 use answers::FiguresAnswer;
 use entries::Class;
 use indices::customers_sum;
 use indices::figures_of;
-use rules::LOAD_PLACES;
+use model::HeldModel;
 use rules::customers_fault;
-use study::Load;
-use study::Study;
 ghost use Prim.Native.Nat.{_≤_};
 ghost use mathlib.Core.Path.{_≡_};
-ghost use lib.ListN.{length, take};
-ghost use Rattle.rules.specs.Limits.{mostLoads, mostJointStates};
+ghost use lib.ListN.{take};
+ghost use Rattle.rules.specs.Limits.{mostLoads};
 ghost use Rattle.indices.specs.Losses.{LossBounds};
 ghost use Rattle.model.specs.Good.{Sizes};
-ghost use Rattle.soundness.specs.Sound.{Sound};
-ghost use Rattle.study_model.specs.Model.{modelBy};
+ghost use Rattle.model.specs.InHand.{modelHeld, InHand};
 ghost use Rattle.evaluation.specs.Figures.{figuresBy, figuresIn};
 
-// The figures of the first n loads. Refused by 19.
-pub fn figures_from(losses: Losses, load: [Load; LOAD_PLACES], n: u8) -> FiguresAnswer
-    requires { ⌜ n ≤ mostLoads ⌝ }
-    requires { ⌜ Sizes (take n load) ⌝ }
-    requires { ⌜ LossBounds (losses .lower) (losses .upper) n ⌝ }
-    ensures { λ r. ⌜ r ≡ figuresBy (losses .lower) (losses .upper) (take n load) ⌝ }
+// The figures of a model's loads. Refused by 19.
+pub fn figures_from(losses: Losses, model: HeldModel) -> FiguresAnswer
+    requires { ⌜ model .loads ≤ mostLoads ⌝ }
+    requires { ⌜ Sizes (take (model .loads) (model .load)) ⌝ }
+    requires { ⌜ LossBounds (losses .lower) (losses .upper) (model .loads) ⌝ }
+    ensures { λ r. ⌜ r ≡ figuresBy (losses .lower) (losses .upper) (take (model .loads) (model .load)) ⌝ }
 {
-    let fault = customers_fault(customers_sum(load, n));
+    let load = model.load;
+    let fault = customers_fault(customers_sum(load, model.loads));
     if fault != 0 {
         return FiguresAnswer::Refused(fault);
     }
     let lower = losses.lower;
     let upper = losses.upper;
-    FiguresAnswer::Figures(figures_of(lower, upper, load, n))
+    FiguresAnswer::Figures(figures_of(lower, upper, load, model.loads))
 }
 
-// The figures of a sound study under a class table. Refused by 19.
-pub fn study_figures(t: Study, classes: &[Class]) -> FiguresAnswer
-    requires { ⌜ Sound t ⌝ }
-    requires { ⌜ mostJointStates ≤ length (now classes) ⌝ }
-    ensures { λ r. ⌜ r ≡ figuresIn (modelBy t (now (classes .entry))) ⌝ }
+// The figures of a model. Refused by 19.
+pub fn figures_in(model: HeldModel, classes: &[Class]) -> FiguresAnswer
+    requires { ⌜ InHand model (now classes) ⌝ }
+    ensures { λ r. ⌜ r ≡ figuresIn (modelHeld model (now (classes .entry))) ⌝ }
 {
-    let load = t.load;
-    figures_from(loss_bounds(t, classes), load, t.loads)
+    figures_from(loss_bounds(model, classes), model)
 }

@@ -4,20 +4,19 @@ use mathlib.Core.Path.{_≡_}
 use mathlib.Core.List.{List}
 use lib.IntN.{ℤ}
 use Rattle.answers.specs.Told.{countTold}
-use Rattle.lent_text.specs.Lent.{reported, written}
+use Rattle.lent_text.specs.Lent.{reported as textReported, written}
 use Rattle.words.specs.Words.{refusalWord}
-use Rattle.report_text.specs.Report.{reportText}
+use Rattle.report_text.specs.Lent.{reported, bufferReported, lowerReported, upperReported}
 use Rattle.export_answers.specs.Answers.{answeredBy, count}
 
--- a call for a text: what it answers, and what it leaves of the buffer
-pub record WritesText (text was buffer : List ℕ) (answer : ℤ) : Type 0 where
-  pub answered : answer ≡ answeredBy count (countTold (reported text was))
-  pub left : buffer ≡ written text was
-
--- the call for the report of a study's bytes
-abbrev pub Reports : (bytes was buffer : List ℕ) → ℤ → Type 0
-Reports bytes = WritesText (reportText bytes)
+-- the call for the report of a study's bytes: what it answers, and what it leaves of the buffer and the two slices
+pub record Reports (bytes text-was lower-was upper-was text lower upper : List ℕ) (answer : ℤ) : Type 0 where
+  pub answered : answer ≡ answeredBy count (countTold (reported bytes text-was lower-was upper-was))
+  pub text-left : text ≡ bufferReported bytes text-was lower-was upper-was
+  pub lower-left : lower ≡ lowerReported bytes text-was lower-was upper-was
+  pub upper-left : upper ≡ upperReported bytes text-was lower-was upper-was
 
 -- the call for the word of a refusal
-abbrev pub Words : (number : ℕ) (was buffer : List ℕ) → ℤ → Type 0
-Words number = WritesText (refusalWord number)
+pub record Words (number : ℕ) (was buffer : List ℕ) (answer : ℤ) : Type 0 where
+  pub answered : answer ≡ answeredBy count (countTold (textReported (refusalWord number) was))
+  pub left : buffer ≡ written (refusalWord number) was

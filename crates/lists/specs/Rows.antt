@@ -1,5 +1,5 @@
 -- Lists of numbers: whether two are the same, and one written over another.
-use Prim.Native.Nat.{ℕ, _+_}
+use Prim.Native.Nat.{ℕ, _+_, _*_}
 use mathlib.Core.Bool.{Bool, true, false, _&&_}
 use mathlib.Core.List.{List, [], _∷_, _++_}
 use lib.Dec.{eqb}
@@ -20,3 +20,7 @@ put d at x = take at d ++ x ++ drop (at + length x) d
 unfoldable pub joined : List (List ℕ) → List ℕ
 joined [] = []
 joined (x ∷ xs) = x ++ joined xs
+
+-- row k of a table whose rows have the same width
+abbrev pub rowAt : ℕ → List ℕ → ℕ → List ℕ
+rowAt width table k = take width (drop (k * width) table)

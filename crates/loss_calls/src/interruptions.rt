@@ -1,10 +1,11 @@
 // The calls for the figures of a study.
 use answers::FiguresAnswer;
-use evaluation::study_figures;
+use evaluation::figures_in;
 use meaning::Source;
 use meaning::judged_classes;
 use meaning::no_classes;
 use study::Study;
+use study_model::hold;
 ghost use mathlib.Core.Path.{_≡_};
 ghost use Rattle.meaning.specs.Meaning.{byGates, byTree};
 ghost use Rattle.meaning.specs.Sources.{meaningOf};
@@ -19,7 +20,7 @@ fn figures_meant(source: Source, study: Study, tree: &[u8]) -> FiguresAnswer
     if fault != 0 {
         return FiguresAnswer::Refused(fault);
     }
-    study_figures(study, &classes)
+    figures_in(hold(study), &classes)
 }
 
 // SAIFI, SAIDI, CAIDI and MAIFI. Refused by 16, 19, in this order.

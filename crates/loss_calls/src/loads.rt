@@ -10,6 +10,7 @@ use rules::item_fault;
 use rules::unsound_fault;
 use soundness::is_sound;
 use study::Study;
+use study_model::hold;
 ghost use mathlib.Core.Path.{_≡_};
 ghost use Rattle.meaning.specs.Meaning.{byGates, byTree};
 ghost use Rattle.meaning.specs.Sources.{meaningOf};
@@ -39,7 +40,7 @@ fn load_meant(source: Source, study: Study, tree: &[u8], load: usize) -> BoundsA
     if fault != 0 {
         return BoundsAnswer::Refused(fault);
     }
-    let losses = loss_bounds(study, &classes);
+    let losses = loss_bounds(hold(study), &classes);
     let lower = losses.lower;
     let upper = losses.upper;
     BoundsAnswer::Bounds(Enclosure {

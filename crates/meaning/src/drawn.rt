@@ -20,7 +20,7 @@ pub fn put_drawn(t: Study, tree: &[u8], classes: &mut [Class]) -> u8
 {
     let component = t.component;
     let all = state_counts(component);
-    let counts = counts_in_use(t, &all);
+    let counts = counts_in_use(t.components, &all);
     let joint = joint_states(counts) as usize;
     draw_classes(counts, t.loads, tree, &mut classes[..joint])
 }

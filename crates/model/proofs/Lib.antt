@@ -1,4 +1,5 @@
 pub mod Classes
+pub mod InHand
 pub mod Listing
 pub mod Paths
 pub mod Table

@@ -13,7 +13,7 @@ use Rattle.entries.proofs.Entries.{entries-put}
 use Rattle.paths.proofs.Entries.{each-entry}
 use Rattle.paths.proofs.Need.{need-is, need-most, paths-few as block-paths-few}
 use Rattle.model.specs.Good.{Good}
-use Rattle.model.specs.Held.{Listed}
+use Rattle.model.specs.Listed.{Listed}
 use Rattle.model.specs.Model.{Model, components, classesOf, pathsOf}
 use Rattle.model.proofs.Classes.{good-block, good-listable}
 

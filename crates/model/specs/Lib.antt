@@ -1,4 +1,5 @@
 pub mod Good
-pub mod Held
+pub mod InHand
 pub mod Laws
+pub mod Listed
 pub mod Model

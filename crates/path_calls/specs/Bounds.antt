@@ -3,7 +3,7 @@ use Prim.Native.Nat.{ℕ}
 use mathlib.Core.List.{List, [], _∷_}
 use lib.ListN.{length}
 use Rattle.rules.specs.Breach.{firstBreach}
-use Rattle.rules.specs.Table.{unsoundFault, roomFault}
+use Rattle.rules.specs.Table.{unsoundFault}
 use Rattle.study.specs.declared.Study.{Study}
 use Rattle.answers.specs.Answered.{answered, filled}
 use Rattle.answers.specs.declared.counts.CountAnswer.{CountAnswer}
@@ -11,19 +11,13 @@ use Rattle.answers.specs.declared.counts.CountAnswer.the-variants.{Count, Refus
 use Rattle.answers.specs.declared.outcome.Outcome.{Outcome}
 use Rattle.answers.specs.declared.outcome.Outcome.the-variants.{Done, Refused}
 use Rattle.entries.specs.Entries.{classPlaces}
-use Rattle.model.specs.Model.{Model, pathsOf}
+use Rattle.model.specs.Model.{pathsOf}
 use Rattle.soundness.specs.Check.{sound}
 use Rattle.meaning.specs.Meaning.{Meaning, meaningFault, modelOf}
 use Rattle.evaluation.specs.Bounds.{pathLowers, pathUppers, classLowers, classUppers}
+use Rattle.evaluation.specs.Rooms.{pairFault}
 
 -- ---- two slices of which each needs so many places
-
--- 18 where either has fewer
-unfoldable pub pairFault : ℕ → ℕ → ℕ → ℕ
-pairFault need lower upper = firstBreach (roomFault need lower ∷ roomFault need upper ∷ [])
-
-abbrev pub pairRoom : ℕ → List ℕ → List ℕ → ℕ
-pairRoom need lower upper = pairFault need (length lower) (length upper)
 
 -- 16, then a breach of the meaning, then 18
 abbrev pub pairBreaches : Meaning → Study → ℕ → ℕ → ℕ → List ℕ
@@ -34,10 +28,6 @@ unfolding pairFault
 pairBreach m t need lower upper = firstBreach (pairBreaches m t need (length lower) (length upper))
 
 -- ---- the calls for paths
-
--- 18 alone, where the study and its meaning are judged
-abbrev pub pathsRoom : Model → List ℕ → List ℕ → ℕ
-pathsRoom m lower upper = pairRoom (length (pathsOf m)) lower upper
 
 abbrev pub pathsFault : Meaning → Study → List ℕ → List ℕ → ℕ
 pathsFault m t lower upper = pairBreach m t (length (pathsOf (modelOf m t))) lower upper

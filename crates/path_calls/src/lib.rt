@@ -1,7 +1,6 @@
 // The calls for the paths and classes of a study, by its gates or by a drawn tree: the list of its paths, and bounds in two lent slices.
 mod classes;
 mod listing;
-mod pairs;
 mod paths;
 
 pub use classes::class_bounds;

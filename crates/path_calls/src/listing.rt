@@ -4,6 +4,7 @@ use meaning::Source;
 use meaning::judged_classes;
 use meaning::no_classes;
 use study::Study;
+use study_model::hold;
 use study_model::list_lent;
 ghost use mathlib.Core.Path.{_≡_};
 ghost use Rattle.meaning.specs.Meaning.{byGates, byTree};
@@ -20,7 +21,7 @@ fn list_meant(source: Source, study: Study, tree: &[u8], buffer: &mut [u8]) -> L
     if fault != 0 {
         return Listing::Refused(fault);
     }
-    list_lent(study, &classes, buffer)
+    list_lent(hold(study), &classes, buffer)
 }
 
 // Lists the paths of a study in the order of its components, at the front of a lent buffer; answers how many there are. Refused by 16, 18, in

@@ -15,6 +15,7 @@ pub use answers::SurvivalAnswer;
 pub use editing::set_customers;
 pub use editing::set_minutes;
 pub use editing::set_probabilities;
+pub use entries::CLASS_PLACES;
 pub use fault_tree::loads_lost;
 pub use loss_calls::drawn_figures;
 pub use loss_calls::drawn_load_bounds;

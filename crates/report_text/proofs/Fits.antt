@@ -1,5 +1,5 @@
 -- No report is longer than the report buffer: the lines of 4,096 paths, 256 classes, eight loads and the figures.
-use Prim.Native.Nat.{ℕ, _*_, _^_, _<_, _≤_}
+use Prim.Native.Nat.{ℕ, _+_, _*_, _^_, _<_, _≤_}
 use mathlib.Core.Bool.{Bool, true, false}
 use mathlib.Core.List.{List, []}
 use native.Mathlib.Nat.{min-le-left}
@@ -37,16 +37,16 @@ use Rattle.report_lines.specs.Classes.{allBearing}
 use Rattle.report_lines.specs.Figures.{figureLines}
 use Rattle.report_lines.specs.Paths.{pathLines}
 use Rattle.report_lines.proofs.Widths.{path-lines-short, class-lines-short, load-lines-short}
-use Rattle.report_text.specs.Report.{reportBytes, classesText, lossesText, modelText, refusedText}
+use Rattle.report_text.specs.Report.{reportBytes, refusedBytes, pathsText, classesText, lossesText, modelText, refusedText}
 use Rattle.report_text.proofs.Printed.{model-figures-short}
 
 -- a text that is no longer has room in a buffer of that size
-pub has-room : (text d : List ℕ) → length text ≤ reportBytes → reportBytes ≤ length d → Room d 0 text
+pub has-room : {most : ℕ} (text d : List ℕ) → length text ≤ most → most ≤ length d → Room d 0 text
 has-room text d short room = record { fits = omega (arith, short, room) }
 
 -- ---- a refused study
 
-pub refused-short : (n : ℕ) → n < byteValues → length (refusedText n) ≤ reportBytes
+pub refused-short : (n : ℕ) → n < byteValues → length (refusedText n) ≤ refusedBytes
 unfolding refusedText sumOver
 refused-short n byte = rw (joined-length _) (omega (arith, field-short 3 (omega arith) n (omega (arith, byte)), word-short n))
 
@@ -96,8 +96,12 @@ module _ (m : Model) (good : Good m) (classes : (x : List ℕ) → m .class x < 
       let lines = load-lines-short (loadLowers m) (loadUppers m) (length (m .loads)) (good .loads .few) (lower-most losses .most) (losses .uppers .most) in
       rw (joined-length _) (omega (arith, lines, good .loads .few, figures-short))
 
+  paths-text-short : length (pathsText m) ≤ mostJointStates * 41 + 16
+  unfolding pathsText sumOver
+  paths-text-short =
+      let first = number-short 4 (omega arith) (letters "PATHS") (length (pathsOf m)) (omega (arith, few)) in
+      rw (joined-length _) (omega (arith, first, paths-short))
+
   pub model-short : length (modelText m) ≤ reportBytes
   unfolding modelText sumOver
-  model-short =
-      let first = number-short 4 (omega arith) (letters "PATHS") (length (pathsOf m)) (omega (arith, few)) in
-      rw (joined-length _) (omega (arith, first, paths-short, classes-short, losses-short))
+  model-short = rw (joined-length _) (omega (arith, paths-text-short, classes-short, losses-short))

@@ -7,6 +7,7 @@ use Rattle.lists.specs.Rows.{joined}
 use Rattle.text.specs.Letters.{letters}
 use Rattle.text.specs.Lines.{numberLine}
 use Rattle.rules.specs.Limits.{mostJointStates}
+use Rattle.study.specs.declared.Load.{Load}
 use Rattle.study.specs.declared.Study.{Study}
 use Rattle.answers.specs.declared.outcome.Outcome.{Outcome}
 use Rattle.answers.specs.declared.outcome.Outcome.the-variants.{Done, Refused}
@@ -15,17 +16,20 @@ use Rattle.answers.specs.Told.{outcomeTold}
 use Rattle.soundness.specs.Sound.{Sound}
 use Rattle.opening.specs.Opening.{opened}
 use Rattle.opening.proofs.Opened.Study.{opened-sound}
+use Rattle.model.specs.declared.HeldModel.{HeldModel}
+use Rattle.model.specs.InHand.{modelHeld}
+use Rattle.model.specs.Model.{components, pathsOf, probabilityTable}
 use Rattle.probability.specs.Totals.{lowerClasses, upperClasses, lowerLoads, upperLoads}
-use Rattle.study_model.specs.Model.{modelBy}
+use Rattle.study_model.specs.Holding.{Holds}
 use Rattle.meaning.specs.Meaning.{byGates, modelOf}
 use Rattle.meaning.specs.Sources.{Tabled}
-use Rattle.meaning.proofs.Tables.{table-values}
+use Rattle.meaning.proofs.Tables.{table-values, table-loads}
 use Rattle.evaluation.specs.Figures.{figuresBy}
 use Rattle.report_lines.specs.Classes.{allBearing, classLines}
 use Rattle.report_lines.specs.Figures.{figureLines}
 use Rattle.report_lines.specs.Loads.{loadLines}
 use Rattle.report_lines.specs.Paths.{pathLines}
-use Rattle.report_text.specs.Report.{classesText, lossesText, modelText, refusedText, textBy, reportText}
+use Rattle.report_text.specs.Report.{pathsText, classesText, lossesText, modelText, refusedText, textBy, reportText}
 
 module _ (bytes : List ℕ) {answer : StudyAnswer} (e : answer ≡ opened bytes) where
   by-answer : {o : Outcome} → answer .outcome ≡ o → textBy o (answer .study) ≡ reportText bytes
@@ -45,18 +49,24 @@ module _ (bytes : List ℕ) {answer : StudyAnswer} (e : answer ≡ opened bytes)
       let told = ap (λ (a : StudyAnswer). outcomeTold (a .outcome)) (sym e) ∙ ap outcomeTold done in
       subst (λ (a : StudyAnswer). Sound (a .study)) (sym e) (opened-sound bytes told)
 
-pub table-text : {t : Study} {was : List ℕ} (table : List ℕ) → Sound t → mostJointStates ≤ length table → Tabled byGates t was table
-    → modelText (modelBy t table) ≡ modelText (modelOf byGates t)
-unfolding modelText classesText lossesText modelBy modelOf
-table-text {t} table sound room tabled =
-    table-values byGates table sound room tabled
-    (λ p n entries.
-    joined
-    (numberLine (letters "PATHS") (length entries)
-    ∷ pathLines p n entries
-    ∷ classLines (allBearing n entries) (lowerClasses p n entries) (upperClasses p n entries)
-    ∷ joined
-    (loadLines (lowerLoads p n entries) (upperLoads p n entries) (length (modelOf byGates t .loads))
-    ∷ figureLines (figuresBy (lowerLoads p n entries) (upperLoads p n entries) (modelOf byGates t .loads))
-    ∷ [])
-    ∷ []))
+-- a sound study in hand beside the class table of its gates
+module _ {t : Study} {h : HeldModel} {was : List ℕ} (table : List ℕ) (sound : Sound t) (holds : Holds t h) (room : mostJointStates ≤ length table)
+    (tabled : Tabled byGates t was table) where
+  -- the text of what is worked out of paths, and of loads
+  text-of : List Load → List ℕ → ℕ → List (List ℕ) → List ℕ
+  text-of loads p n entries =
+      joined
+      (joined (numberLine (letters "PATHS") (length entries) ∷ pathLines p n entries ∷ [])
+      ∷ classLines (allBearing n entries) (lowerClasses p n entries) (upperClasses p n entries)
+      ∷ joined
+      (loadLines (lowerLoads p n entries) (upperLoads p n entries) (length loads)
+      ∷ figureLines (figuresBy (lowerLoads p n entries) (upperLoads p n entries) loads)
+      ∷ [])
+      ∷ [])
+
+  pub table-text : modelText (modelHeld h table) ≡ modelText (modelOf byGates t)
+  unfolding modelText pathsText classesText lossesText
+  table-text =
+      ap (λ (loads : List Load). text-of loads (probabilityTable (modelHeld h table)) (components (modelHeld h table)) (pathsOf (modelHeld h table)))
+      (table-loads byGates table sound holds room tabled)
+      ∙ table-values byGates table sound holds room tabled (text-of (modelOf byGates t .loads))

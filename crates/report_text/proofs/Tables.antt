@@ -12,7 +12,7 @@ use Rattle.rules.specs.Limits.{mostLoads}
 use Rattle.study.specs.declared.Load.{Load}
 use Rattle.answers.specs.declared.figures.FiguresAnswer.{FiguresAnswer}
 use Rattle.entries.specs.Entries.{classPlaces, entriesOf}
-use Rattle.model.specs.Held.{Listed}
+use Rattle.model.specs.Listed.{Listed}
 use Rattle.model.specs.Model.{Model, components}
 use Rattle.evaluation.specs.Bounds.{classLowers, classUppers, loadLowers, loadUppers}
 use Rattle.evaluation.specs.Figures.{figuresBy}

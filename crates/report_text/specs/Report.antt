@@ -23,7 +23,17 @@ use Rattle.report_lines.specs.Figures.{figureLines}
 abbrev pub reportBytes : ℕ
 reportBytes = 180224
 
+-- room for the line of any refusal
+abbrev pub refusedBytes : ℕ
+refusedBytes = 32
+
 -- ---- the text of a model
+
+-- the number of paths, then their lines
+unfoldable pub pathsText : Model → List ℕ
+pathsText m =
+    joined
+    (numberLine (letters "PATHS") (length (pathsOf m)) ∷ pathLines (probabilityTable m) (components m) (pathsOf m) ∷ [])
 
 -- the lines of the classes that occur
 unfoldable pub classesText : Model → List ℕ
@@ -34,16 +44,10 @@ unfoldable pub lossesText : Model → List ℕ
 lossesText m =
     joined (loadLines (loadLowers m) (loadUppers m) (length (m .loads)) ∷ figureLines (figuresBy (loadLowers m) (loadUppers m) (m .loads)) ∷ [])
 
--- the number of paths, then paths, classes, loads and figures
+-- paths, classes, and losses with the figures
 unfoldable pub modelText : Model → List ℕ
-unfolding classesText lossesText
-modelText m =
-    joined
-    (numberLine (letters "PATHS") (length (pathsOf m))
-    ∷ pathLines (probabilityTable m) (components m) (pathsOf m)
-    ∷ classesText m
-    ∷ lossesText m
-    ∷ [])
+unfolding pathsText classesText lossesText
+modelText m = joined (pathsText m ∷ classesText m ∷ lossesText m ∷ [])
 
 -- ---- the report
 

@@ -1,93 +1,113 @@
-// The text of a sound study under a class table.
-use entries::CLASS_PLACES;
+// The text of a model, and the bounds of its classes.
 use entries::Class;
 use evaluation::figures_from;
 use evaluation::loss_bounds;
 use evaluation::write_classes;
+use model::HeldModel;
+use probability::first_components;
 use report_lines::all_bearing;
 use report_lines::class_lines;
 use report_lines::figure_lines;
 use report_lines::load_lines;
 use report_lines::path_lines;
-use study::Study;
 use text::number_line;
 ghost use Prim.Native.Nat.{_≤_};
 ghost use mathlib.Core.Path.{_≡_};
 ghost use lib.ListN.{length};
+ghost use Rattle.lists.specs.Rows.{put};
 ghost use Rattle.text.specs.Writing.{Room, Wrote};
-ghost use Rattle.rules.specs.Limits.{mostJointStates};
 ghost use Rattle.entries.specs.Entries.{classPlaces};
-ghost use Rattle.model.specs.Held.{Listed, HeldOf};
-ghost use Rattle.model.specs.Model.{components};
-ghost use Rattle.soundness.specs.Sound.{Sound};
-ghost use Rattle.study_model.specs.Model.{modelBy};
-ghost use Rattle.report_text.specs.Report.{reportBytes, classesText, lossesText, modelText};
+ghost use Rattle.model.specs.InHand.{modelHeld, InHand};
+ghost use Rattle.model.specs.Listed.{Listed};
+ghost use Rattle.evaluation.specs.Bounds.{classLowers, classUppers};
+ghost use Rattle.report_text.specs.Report.{pathsText, classesText, lossesText, modelText};
 
-// Places for the bounds of all classes, lent by the report.
-fn no_bounds() -> [u64; CLASS_PLACES]
-    ensures { λ r. ⌜ classPlaces ≡ length r ⌝ }
+// Writes the number of the paths and their lines.
+pub fn paths_text(
+    model: HeldModel,
+    classes: &[Class],
+    list: &[u8],
+    paths: usize,
+    out: &mut [u8],
+) -> usize
+    requires { ⌜ InHand model (now classes) ⌝ }
+    requires { ⌜ Listed (modelHeld model (now classes)) paths (now list) ⌝ }
+    requires { ⌜ Room (now out) 0 (pathsText (modelHeld model (now classes))) ⌝ }
+    ensures { λ r.
+        ⌜ Wrote (now (out .entry)) 0 (pathsText (modelHeld model (now (classes .entry)))) (now (out .exit)) r ⌝ }
 {
-    [0; CLASS_PLACES]
+    let table = model.probabilities;
+    let n = model.components as usize;
+    let first = number_line(out, 0, b"PATHS", paths as u64);
+    path_lines(out, first, first_components(&table, n), n, list, paths)
 }
 
-// Writes the lines of the classes; which of them occur is told by the list of the paths.
+// Writes the lines of the classes, whose bounds are added up in the lent slices; which of them occur is told by the list of the paths.
 fn classes_text(
-    t: Study,
+    model: HeldModel,
     classes: &[Class],
-    n: usize,
     list: &[u8],
     paths: usize,
     out: &mut [u8],
     at: usize,
+    lower: &mut [u64],
+    upper: &mut [u64],
 ) -> usize
-    requires { ⌜ Sound t ⌝ }
-    requires { ⌜ mostJointStates ≤ length (now classes) ⌝ }
-    requires { ⌜ Listed (modelBy t (now classes)) paths (now list) ⌝ }
-    requires { ⌜ n ≡ components (modelBy t (now classes)) ⌝ }
-    requires { ⌜ Room (now out) at (classesText (modelBy t (now classes))) ⌝ }
-    ensures { λ r. ⌜ Wrote (now (out .entry)) at (classesText (modelBy t (now (classes .entry)))) (now (out .exit)) r ⌝ }
+    requires { ⌜ InHand model (now classes) ⌝ }
+    requires { ⌜ Listed (modelHeld model (now classes)) paths (now list) ⌝ }
+    requires { ⌜ Room (now out) at (classesText (modelHeld model (now classes))) ⌝ }
+    requires { ⌜ classPlaces ≤ length (now lower) ⌝ }
+    requires { ⌜ classPlaces ≤ length (now upper) ⌝ }
+    ensures text { λ r.
+        ⌜ Wrote (now (out .entry)) at (classesText (modelHeld model (now (classes .entry)))) (now (out .exit)) r ⌝ }
+    ensures lower { λ r.
+        ⌜ now (lower .exit) ≡ put (now (lower .entry)) 0 (classLowers (modelHeld model (now (classes .entry)))) ⌝ }
+    ensures upper { λ r.
+        ⌜ now (upper .exit) ≡ put (now (upper .entry)) 0 (classUppers (modelHeld model (now (classes .entry)))) ⌝ }
 {
-    let mut lower = no_bounds();
-    let mut upper = no_bounds();
-    write_classes(t, classes, &mut lower, &mut upper);
-    let bearing = all_bearing(n, list, paths);
-    class_lines(out, at, &bearing, &lower, &upper)
+    let bearing = all_bearing(model.components as usize, list, paths);
+    write_classes(model, classes, lower, upper);
+    class_lines(out, at, &bearing, lower, upper)
 }
 
 // Writes the lines of the loads and of the figures.
-fn losses_text(t: Study, classes: &[Class], out: &mut [u8], at: usize) -> usize
-    requires { ⌜ Sound t ⌝ }
-    requires { ⌜ mostJointStates ≤ length (now classes) ⌝ }
-    requires { ⌜ Room (now out) at (lossesText (modelBy t (now classes))) ⌝ }
-    ensures { λ r. ⌜ Wrote (now (out .entry)) at (lossesText (modelBy t (now (classes .entry)))) (now (out .exit)) r ⌝ }
+pub fn losses_text(model: HeldModel, classes: &[Class], out: &mut [u8], at: usize) -> usize
+    requires { ⌜ InHand model (now classes) ⌝ }
+    requires { ⌜ Room (now out) at (lossesText (modelHeld model (now classes))) ⌝ }
+    ensures { λ r.
+        ⌜ Wrote (now (out .entry)) at (lossesText (modelHeld model (now (classes .entry)))) (now (out .exit)) r ⌝ }
 {
-    let losses = loss_bounds(t, classes);
-    let load = t.load;
-    let answer = figures_from(losses, load, t.loads);
+    let losses = loss_bounds(model, classes);
+    let answer = figures_from(losses, model);
     let lower = losses.lower;
     let upper = losses.upper;
-    let next = load_lines(out, at, lower, upper, t.loads);
+    let next = load_lines(out, at, lower, upper, model.loads);
     figure_lines(out, next, answer)
 }
 
-// Writes the text at the front of a buffer that has room for any report, from the list of the paths and the table of probabilities too.
+// Writes the text at the front of a buffer that has the room, and the bounds of all classes into slices that have it.
 pub fn model_text(
-    t: Study,
+    model: HeldModel,
     classes: &[Class],
-    probabilities: &[u32],
-    n: usize,
     list: &[u8],
     paths: usize,
     out: &mut [u8],
+    lower: &mut [u64],
+    upper: &mut [u64],
 ) -> usize
-    requires { ⌜ Sound t ⌝ }
-    requires { ⌜ mostJointStates ≤ length (now classes) ⌝ }
-    requires { ⌜ HeldOf (modelBy t (now classes)) (now probabilities) n (now list) paths ⌝ }
-    requires { ⌜ reportBytes ≤ length (now out) ⌝ }
-    ensures { λ r. ⌜ Wrote (now (out .entry)) 0 (modelText (modelBy t (now (classes .entry)))) (now (out .exit)) r ⌝ }
+    requires { ⌜ InHand model (now classes) ⌝ }
+    requires { ⌜ Listed (modelHeld model (now classes)) paths (now list) ⌝ }
+    requires { ⌜ Room (now out) 0 (modelText (modelHeld model (now classes))) ⌝ }
+    requires { ⌜ classPlaces ≤ length (now lower) ⌝ }
+    requires { ⌜ classPlaces ≤ length (now upper) ⌝ }
+    ensures text { λ r.
+        ⌜ Wrote (now (out .entry)) 0 (modelText (modelHeld model (now (classes .entry)))) (now (out .exit)) r ⌝ }
+    ensures lower { λ r.
+        ⌜ now (lower .exit) ≡ put (now (lower .entry)) 0 (classLowers (modelHeld model (now (classes .entry)))) ⌝ }
+    ensures upper { λ r.
+        ⌜ now (upper .exit) ≡ put (now (upper .entry)) 0 (classUppers (modelHeld model (now (classes .entry)))) ⌝ }
 {
-    let first = number_line(out, 0, b"PATHS", paths as u64);
-    let second = path_lines(out, first, probabilities, n, list, paths);
-    let last = classes_text(t, classes, n, list, paths, out, second);
-    losses_text(t, classes, out, last)
+    let first = paths_text(model, classes, list, paths, out);
+    let second = classes_text(model, classes, list, paths, out, first, lower, upper);
+    losses_text(model, classes, out, second)
 }

@@ -2,5 +2,5 @@ pub mod ClassFront
 pub mod Good
 pub mod ListRoom
 pub mod Reached
-pub mod Table
+pub mod StudyHeld
 pub mod TableFilled

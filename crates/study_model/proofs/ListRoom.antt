@@ -13,7 +13,7 @@ use Rattle.answers.specs.declared.counts.Listing.the-variants.{Listed, Refused}
 use Rattle.answers.specs.declared.counts.PathCount.{PathCount}
 use Rattle.answers.proofs.Answered.{answered-done, filled-done}
 use Rattle.entries.specs.Entries.{listBytes}
-use Rattle.model.specs.Held.{Listed as Holds}
+use Rattle.model.specs.Listed.{Listed as Holds}
 use Rattle.model.specs.Good.{Good}
 use Rattle.model.specs.Model.{Model, pathsOf}
 use Rattle.paths.specs.Paths.{paths}

@@ -1,24 +1,18 @@
-// What a study uses of arrays that have room for any: the state counts of its components, and the classes of its joint states.
+// What is in use of arrays that have room for any model: the state counts of its components, and the classes of its joint states.
 use entries::Class;
-use study::Study;
 use study::joint_states;
 ghost use Prim.Native.Nat.{ℕ, _<_, _≤_};
 ghost use mathlib.Core.Path.{_≡_};
 ghost use lib.ListN.{length, getD, take};
 ghost use Rattle.lists.specs.Product.{product};
 ghost use Rattle.rules.specs.Limits.{mostComponents, mostStates};
-ghost use Rattle.study.specs.Joint.{states, stateCounts};
-ghost use Rattle.soundness.specs.Sound.{Sound};
 
-// The state counts of a sound study's components, in front of those of all places.
-pub fn counts_in_use(t: Study, all: &[u8]) -> &[u8]
-    requires { ⌜ Sound t ⌝ }
-    requires { ⌜ now all ≡ states (t .component) ⌝ }
-    requires { ⌜ mostComponents ≤ length (now all) ⌝ }
-    ensures { λ r. ⌜ now r ≡ stateCounts t ⌝ }
+// The state counts of so many components, in front of those of all places.
+pub fn counts_in_use(components: u8, all: &[u8]) -> &[u8]
+    requires { ⌜ components ≤ length (now all) ⌝ }
+    ensures { λ r. ⌜ now r ≡ take components (now (all .entry)) ⌝ }
 {
-    let n = t.components as usize;
-    &all[..n]
+    &all[..components as usize]
 }
 
 // The classes of the joint states of components with these state counts, in front of all that a table has room for.

@@ -1,21 +1,17 @@
 // The probabilities of the states of a study's components, as a table with four places for each.
+use model::PROBABILITY_PLACES;
 use rules::COMPONENT_PLACES;
 use rules::STATE_PLACES;
 use study::Component;
-use study::Study;
 use units::ONE;
-ghost use Prim.Native.Nat.{ℕ, _+_, _*_, _<_, _≤_};
+ghost use Prim.Native.Nat.{ℕ, _+_, _<_, _≤_};
 ghost use mathlib.Core.Path.{_≡_};
-ghost use lib.ListN.{length, getD, take};
-ghost use Rattle.lists.specs.Rows.{put, joined};
+ghost use lib.ListN.{length, getD};
+ghost use Rattle.lists.specs.Rows.{put};
 ghost use Rattle.units.specs.One.{one};
 ghost use Rattle.rules.specs.Limits.{mostComponents, mostStates};
 ghost use Rattle.study.specs.Zero.{zeroComponent};
-ghost use Rattle.soundness.specs.Sound.{Sound};
-ghost use Rattle.study_model.specs.Model.{stateProbabilities, placeProbabilities, probabilitiesOf};
-
-// The places of such a table.
-const PROBABILITY_PLACES: usize = 48;
+ghost use Rattle.study_model.specs.Model.{stateProbabilities, placeProbabilities};
 
 // The table with the probabilities of a component's states from a place on.
 fn with_states(
@@ -40,8 +36,9 @@ fn with_states(
 }
 
 // The probabilities of all component places.
-fn probability_table(component: [Component; COMPONENT_PLACES]) -> [u32; PROBABILITY_PLACES]
-    requires { ⌜ ((i : ℕ) → i < mostComponents → getD component i zeroComponent .p1 + getD component i zeroComponent .p2 + getD component i zeroComponent .p3 ≤ one) ⌝ }
+pub fn probability_table(component: [Component; COMPONENT_PLACES]) -> [u32; PROBABILITY_PLACES]
+    requires { ⌜ ((i : ℕ) → i < mostComponents
+        → getD component i zeroComponent .p1 + getD component i zeroComponent .p2 + getD component i zeroComponent .p3 ≤ one) ⌝ }
     ensures { λ r. ⌜ r ≡ placeProbabilities component ⌝ }
 {
     let mut table = [0u32; PROBABILITY_PLACES];
@@ -54,13 +51,4 @@ fn probability_table(component: [Component; COMPONENT_PLACES]) -> [u32; PROBABIL
         i = i + 1;
     }
     table
-}
-
-// The table of a sound study; the probabilities of its components in use stand first.
-pub fn study_probabilities(t: Study) -> [u32; PROBABILITY_PLACES]
-    requires { ⌜ Sound t ⌝ }
-    ensures { λ r. ⌜ take (t .components * mostStates) r ≡ joined (probabilitiesOf t) ⌝ }
-{
-    let component = t.component;
-    probability_table(component)
 }

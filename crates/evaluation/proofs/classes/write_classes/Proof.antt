@@ -1,5 +1,4 @@
 -- `evaluation::classes::write_classes` meets its contract: what is added stands at places that were cleared first.
-use Rattle.study_model.proofs.Good.{by-good}
 use Rattle.totals.proofs.Added.{cleared-totals}
 use Rattle.evaluation.proofs.Bounding.{lower-totals, upper-totals}
 use borrow.Author.Needs.{needs}
@@ -13,17 +12,12 @@ lower-cleared c = c .before .before .before .before
 abbrev start : tie.After-clear → tie.Start
 start c = c .before .before .before .before .before
 
-add-study-paths-requires : tie.Need-add-study-paths-requires
-add-study-paths-requires c κs =
+add-paths-requires : tie.Need-add-paths-requires
+add-paths-requires c κs =
     let uppers = c .before .before .before .before in
     let lowers = lower-cleared uppers in
-    let pre = start lowers .pre in (
-      pre .0,
-      (
-        pre .1 .0,
-        (cleared-totals (lowers .clear .ensures) (pre .1 .1 .0), cleared-totals (uppers .clear2 .ensures) (pre .1 .1 .1)),
-      ),
-    )
+    let pre = start lowers .pre in
+    (pre .0, (cleared-totals (lowers .clear .ensures) (pre .1 .0), cleared-totals (uppers .clear2 .ensures) (pre .1 .1)))
 
 returns : tie.Need-returns
 returns c =
@@ -31,9 +25,9 @@ returns c =
     let uppers = call .before .before .before .before .before in
     let lowers = lower-cleared uppers in
     let pre = start lowers .pre in
-    let good = by-good _ (pre .0) _ in (
-      lower-totals _ good _ (lowers .clear .ensures) (pre .1 .1 .0) (call .add-study-paths .ensures .0),
-      upper-totals _ good _ (uppers .clear2 .ensures) (pre .1 .1 .1) (call .add-study-paths .ensures .1),
+    let good = pre .0 .good in (
+      lower-totals _ good _ (lowers .clear .ensures) (pre .1 .0) (call .add-paths .ensures .0),
+      upper-totals _ good _ (uppers .clear2 .ensures) (pre .1 .1) (call .add-paths .ensures .1),
     )
 
 pub write-classes-spec : {M : Type 1} → statement M
@@ -42,7 +36,7 @@ write-classes-spec =
     (tie.spec
     (λ c κs. search needs)
     (λ c κs. search needs)
-    add-study-paths-requires
+    add-paths-requires
     (λ c. search needs)
     (λ c. search needs)
     returns)

@@ -11,9 +11,12 @@ use borrow.Author.Needs.{needs}
 use Rattle.evaluation.proofs.figures.figures_from.Statement.{statement}
 use Rattle.evaluation.proofs.figures.figures_from.Tie as tie
 
+abbrev start : tie.After-customers-fault → tie.Start
+start c = c .before .before .before
+
 -- the breach is that of the sum of customers
 fault-is : (c : tie.After-customers-fault)
-    → c .customers-fault .result ≡ customersFault (customersSum (take (c .before .before .args .n) (c .before .before .args .load)))
+    → let model = start c .args .model in c .customers-fault .result ≡ customersFault (customersSum (take (model .loads) (model .load)))
 fault-is c = c .customers-fault .ensures ∙ ap customersFault (c .before .customers-sum .ensures .is)
 
 returns : tie.Need-returns
@@ -23,7 +26,7 @@ returns c = rw (← fault-is (c .before)) (sym (answered-refused Refused _ _ (c 
 figures-of-requires : tie.Need-figures-of-requires
 figures-of-requires c κs =
     let judged = c .before .before .before in
-    let pre = judged .before .before .pre in
+    let pre = start judged .pre in
     (pre .0, (pre .1 .0, (pre .1 .1, customers-kept _ (sym (fault-is judged) ∙ c .before .before .if1 .left))))
 
 returns-2 : tie.Need-returns-2

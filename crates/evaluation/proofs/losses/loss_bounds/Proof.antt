@@ -1,5 +1,4 @@
 -- `evaluation::losses::loss_bounds` meets its contract: the arrays hold nothing before the paths are added, and the bounds enclose exact probabilities.
-use Rattle.study_model.proofs.Good.{by-good}
 use Rattle.totals.proofs.Added.{cleared-totals}
 use Rattle.totals.proofs.Placed.{zeros-cleared}
 use Rattle.evaluation.proofs.Bounding.{lower-losses, upper-losses}
@@ -11,22 +10,22 @@ use Rattle.evaluation.proofs.losses.loss_bounds.Tie as tie
 abbrev start : tie.After-no-totals2 → tie.Start
 start c = c .before .before .before
 
-add-study-paths-requires : tie.Need-add-study-paths-requires
-add-study-paths-requires c κs =
+add-paths-requires : tie.Need-add-paths-requires
+add-paths-requires c κs =
     let zeros = c .before .before in
     let pre = start zeros .pre in
     let lowers = zeros-cleared (zeros .before .no-totals .ensures) in
     let uppers = zeros-cleared (zeros .no-totals2 .ensures) in
-    (pre .0, (pre .1, (cleared-totals lowers (search needs), cleared-totals uppers (search needs))))
+    (pre, (cleared-totals lowers (search needs), cleared-totals uppers (search needs)))
 
 returns : tie.Need-returns
 returns c =
     let call = c .before .before in
     let zeros = call .before .before .before in
-    let good = by-good _ (start zeros .pre .0) _ in
+    let good = start zeros .pre .good in
     losses-found _ good
-    (lower-losses _ good (zeros .before .no-totals .ensures) (call .add-study-paths .ensures .0))
-    (upper-losses _ good (zeros .no-totals2 .ensures) (call .add-study-paths .ensures .1))
+    (lower-losses _ good (zeros .before .no-totals .ensures) (call .add-paths .ensures .0))
+    (upper-losses _ good (zeros .no-totals2 .ensures) (call .add-paths .ensures .1))
 
 pub loss-bounds-spec : {M : Type 1} → statement M
 loss-bounds-spec =
@@ -36,5 +35,5 @@ loss-bounds-spec =
     (λ c κs. search needs)
     (λ c. search needs)
     (λ c. search needs)
-    add-study-paths-requires
+    add-paths-requires
     returns)

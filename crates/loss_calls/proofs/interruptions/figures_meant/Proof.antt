@@ -4,10 +4,10 @@ use mathlib.Core.Path.{sym}
 use Rattle.answers.specs.declared.figures.FiguresAnswer.the-variants.{Refused}
 use Rattle.answers.proofs.Answered.{answered-refused}
 use Rattle.probability.specs.Totals.{lowerLoads, upperLoads}
-use Rattle.study_model.specs.Model.{modelBy}
+use Rattle.study_model.proofs.StudyHeld.{in-hand}
 use Rattle.meaning.specs.Meaning.{modelOf}
 use Rattle.meaning.proofs.Judging.{judged-first, judged-next}
-use Rattle.meaning.proofs.Tables.{table-values}
+use Rattle.meaning.proofs.Tables.{table-values, table-loads}
 use Rattle.evaluation.specs.Figures.{figuresBy}
 use Rattle.loss_calls.specs.Figures.{figuresFault, figuresGiven}
 use borrow.Author.Needs.{needs}
@@ -18,19 +18,23 @@ returns : tie.Need-returns
 unfolding figuresFault figuresGiven
 returns c = rw (← judged-first (c .before .before .judged-classes .ensures) _ (c .if1 .taken)) (sym (answered-refused Refused _ _ (c .if1 .taken)))
 
-study-figures-requires : tie.Need-study-figures-requires
-study-figures-requires c κs =
-    let kept = c .before in
-    (kept .before .before .judged-classes .ensures .is-sound (kept .if1 .left), search needs)
+hold-requires : tie.Need-hold-requires
+hold-requires c κs = c .before .before .judged-classes .ensures .is-sound (c .if1 .left)
+
+figures-in-requires : tie.Need-figures-in-requires
+figures-in-requires c κs =
+    let hand = c .before in
+    in-hand _ (hold-requires (hand .before) tt) (hand .hold .ensures) (search needs)
 
 returns-2 : tie.Need-returns-2
-unfolding figuresFault figuresGiven figuresBy modelOf modelBy
+unfolding figuresFault figuresGiven figuresBy modelOf
 returns-2 c =
-    let kept = c .before .before in
-    let study = kept .before .before .judged-classes .ensures in
-    let none = kept .if1 .left in
-    let values = table-values _ _ (study .is-sound none) (search needs) (study .tabled none) in
-    rw (judged-next study none, ← values lowerLoads, ← values upperLoads) (c .study-figures .ensures)
+    let hand = c .before .before in
+    let study = hand .before .before .before .judged-classes .ensures in
+    let none = hand .before .if1 .left in
+    let values = table-values _ _ (study .is-sound none) (hand .hold .ensures) (search needs) (study .tabled none) in
+    let loads = table-loads _ _ (study .is-sound none) (hand .hold .ensures) (search needs) (study .tabled none) in
+    rw (judged-next study none, ← values lowerLoads, ← values upperLoads, ← loads) (c .figures-in .ensures)
 
 pub figures-meant-spec : {M : Type 1} → statement M
 figures-meant-spec =
@@ -40,6 +44,7 @@ figures-meant-spec =
     (λ c. search needs)
     (λ c κs. search needs)
     returns
+    hold-requires
     (λ c. search needs)
-    study-figures-requires
+    figures-in-requires
     returns-2)

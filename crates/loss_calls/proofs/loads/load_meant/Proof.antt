@@ -10,6 +10,7 @@ use Rattle.answers.specs.declared.bounds.BoundsAnswer.the-variants.{Refused}
 use Rattle.answers.proofs.Answered.{answered-done, answered-refused}
 use Rattle.rules.proofs.Kept.{list-last, part-broken, part-kept}
 use Rattle.probability.specs.Totals.{lowerLoads, upperLoads}
+use Rattle.study_model.proofs.StudyHeld.{in-hand}
 use Rattle.meaning.specs.Meaning.{Meaning, meaningFault, modelOf}
 use Rattle.meaning.specs.Sources.{meaningOf}
 use Rattle.meaning.proofs.Tables.{table-values}
@@ -47,14 +48,18 @@ meaning-decides c = part-kept (_ ∷ _ ∷ []) (_ ∷ []) (sym (c .before .load-
 abbrev judged : tie.Else2 → tie.Else1
 judged c = c .before .before .before .before .before
 
+-- the model in hand, from behind it
+abbrev held : tie.After-loss-bounds → tie.After-hold
+held c = c .before .before
+
 losses : (c : tie.After-loss-bounds)
-    → let study = judged (c .before .before) in
+    → let study = judged (held c .before) in
     LossesOf (modelOf (meaning study) (study .before .before .before .args .study)) (c .loss-bounds .result .lower) (c .loss-bounds .result .upper)
 losses c =
-    let kept = c .before .before in
+    let kept = held c .before in
     let found = c .loss-bounds .ensures in
     let put = kept .before .before .put-classes .ensures in
-    let values = table-values _ _ (has-load (judged kept) .is-sound) (search needs) (put .tabled (kept .if2 .left)) in
+    let values = table-values _ _ (has-load (judged kept) .is-sound) (held c .hold .ensures) (search needs) (put .tabled (kept .if2 .left)) in
     record { lowers = found .lowers ∙ values lowerLoads; uppers = found .uppers ∙ values upperLoads; bounds = found .bounds }
 
 -- ---- the needs
@@ -74,28 +79,33 @@ returns-2 c =
     let put = c .before .before in
     rw (meaning-decides (put .before .before .before), ← put .put-classes .ensures .is) (sym (answered-refused Refused _ _ (c .if2 .taken)))
 
+hold-requires : tie.Need-hold-requires
+hold-requires c κs = has-load (judged c) .is-sound
+
 loss-bounds-requires : tie.Need-loss-bounds-requires
-loss-bounds-requires c κs = (has-load (judged (c .before)) .is-sound, search needs)
+loss-bounds-requires c κs =
+    let hand = c .before in
+    in-hand _ (has-load (judged (hand .before)) .is-sound) (hand .hold .ensures) (search needs)
 
-mul-t17 : tie.Need-mul-t17
-mul-t17 c = record { fits = omega (arith, inside (judged (c .before .before .before .before))) }
+-- the load's place in the bounds of all
+abbrev bounded : tie.After-upper → tie.After-loss-bounds
+bounded c = c .before .before
 
-array-read-t20 : tie.Need-array-read-t20
-array-read-t20 c = inside (judged (c .before .before .before .before))
+placed : (c : tie.After-upper) → let study = judged (held (bounded c) .before) in study .before .before .before .args .load < mostLoads
+placed c = inside (judged (held (bounded c) .before))
 
-mul-t21 : tie.Need-mul-t21
-mul-t21 c = record { fits = omega (arith, inside (judged (c .before .before .before .before))) }
+mul-t18 : tie.Need-mul-t18
+mul-t18 c = record { fits = omega (arith, placed c) }
 
-array-read-t24 : tie.Need-array-read-t24
-array-read-t24 c = inside (judged (c .before .before .before .before))
+mul-t22 : tie.Need-mul-t22
+mul-t22 c = record { fits = omega (arith, placed c) }
 
 returns-3 : tie.Need-returns-3
 unfolding loadBounded
 returns-3 c =
-    let bounded = c .before .before in
-    let kept = bounded .before .before in
+    let kept = held (bounded c) .before in
     let none = meaning-decides (judged kept) ∙ sym (kept .before .before .put-classes .ensures .is) ∙ kept .if2 .left in
-    loss-pair (losses bounded) (inside (judged kept)) ∙ sym (answered-done Refused _ _ none)
+    loss-pair (losses (bounded c)) (placed c) ∙ sym (answered-done Refused _ _ none)
 
 pub load-meant-spec : {M : Type 1} → statement M
 load-meant-spec =
@@ -107,10 +117,11 @@ load-meant-spec =
     (λ c. search needs)
     put-classes-requires
     returns-2
+    hold-requires
     (λ c. search needs)
     loss-bounds-requires
-    mul-t17
-    array-read-t20
-    mul-t21
-    array-read-t24
+    mul-t18
+    placed
+    mul-t22
+    placed
     returns-3)

@@ -6,7 +6,7 @@ use lib.ListN.{length}
 use denote.Ref.{now}
 use Rattle.lists.proofs.Maps.{mapped}
 use Rattle.rules.specs.Limits.{mostComponents, mostJointStates}
-use Rattle.model.specs.Held.{HeldOf}
+use Rattle.model.specs.Listed.{HeldOf}
 use Rattle.fault_tree.specs.Classes.{classes}
 use Rattle.model.specs.Model.{classesOf}
 use Rattle.study_model.specs.Model.{modelBy}

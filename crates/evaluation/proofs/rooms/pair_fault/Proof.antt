@@ -1,9 +1,9 @@
--- `path_calls::pairs::pair_fault` meets its contract: the room of the lower slice is judged first.
+-- `evaluation::rooms::pair_fault` meets its contract: the room of the lower slice is judged first.
 use Rattle.rules.proofs.Kept.{two-judged}
-use Rattle.path_calls.specs.Bounds.{pairFault}
+use Rattle.evaluation.specs.Rooms.{pairFault}
 use borrow.Author.Needs.{needs}
-use Rattle.path_calls.proofs.pairs.pair_fault.Statement.{statement}
-use Rattle.path_calls.proofs.pairs.pair_fault.Tie as tie
+use Rattle.evaluation.proofs.rooms.pair_fault.Statement.{statement}
+use Rattle.evaluation.proofs.rooms.pair_fault.Tie as tie
 
 returns : tie.Need-returns
 unfolding pairFault

@@ -2,7 +2,7 @@
 use rules::first;
 use rules::room_fault;
 ghost use mathlib.Core.Path.{_≡_};
-ghost use Rattle.path_calls.specs.Bounds.{pairFault};
+ghost use Rattle.evaluation.specs.Rooms.{pairFault};
 
 // The breach of two slices of which each needs so many places.
 pub fn pair_fault(need: usize, lower: usize, upper: usize) -> u8
