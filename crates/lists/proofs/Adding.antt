@@ -7,6 +7,8 @@ use native.Mathlib.Numerals.{add-one}
 use native.Mathlib.Omega.{arith}
 use lib.ListN.{length, getD, take}
 use Rattle.lists.specs.Counting.{sumOver}
+use Rattle.lists.specs.Tabulate.{tabulate}
+use Rattle.lists.proofs.SumOver.{sum-over-append}
 
 module _ {A : Type 0} (f : A → ℕ) where
   -- one element more
@@ -17,3 +19,8 @@ module _ {A : Type 0} (f : A → ℕ) where
   add-next (x ∷ l) (suc k) d h =
       let rest = rw (add-one k) at (add-next l k d (le-of-suc-le-suc h)) in
       rw (add-one (suc k)) (omega (arith, rest))
+
+  -- one value of a function more
+  pub add-value : (g : ℕ → A) (k : ℕ) → sumOver f (tabulate g (k + 1)) ≡ sumOver f (tabulate g k) + f (g k)
+  unfolding sumOver tabulate
+  add-value g k = rw (add-one k) (omega (arith, sum-over-append f (tabulate g k) (g k ∷ [])))

@@ -5,6 +5,7 @@ use mathlib.Core.Bool.{Bool, true, false, not, cond}
 use mathlib.Core.List.{List, [], _∷_, _++_, map}
 use native.Mathlib.Nat.{mul-zero}
 use native.Mathlib.Omega.{arith}
+use lib.ListN.{length}
 use Rattle.lists.specs.Counting.{counted, those, sumOver}
 use Rattle.lists.proofs.Elements.{Every}
 
@@ -55,6 +56,12 @@ module _ {A : Type 0} where
   unfolding sumOver
   sum-over-none [] = refl
   sum-over-none (x ∷ l) = omega (arith, sum-over-none l)
+
+  -- so many terms of at most so much
+  pub sum-over-most : (f : A → ℕ) (most : ℕ) → ((x : A) → f x ≤ most) → (l : List A) → sumOver f l ≤ length l * most
+  unfolding sumOver
+  sum-over-most f most each [] = omega arith
+  sum-over-most f most each (x ∷ l) = omega (arith, each x, sum-over-most f most each l)
 
   sum-over-added : (f g : A → ℕ) (l : List A) → sumOver (λ (x : A). f x + g x) l ≡ sumOver f l + sumOver g l
   unfolding sumOver

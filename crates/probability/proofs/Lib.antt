@@ -4,3 +4,4 @@ pub mod Exact
 pub mod Factors
 pub mod TotalTerms
 pub mod Most
+pub mod OneClass

@@ -1,13 +1,12 @@
 -- No bound of a path is above one, where no probability is, and no total above one for each path.
 use Prim.Native.Nat.{ℕ, zero, suc, _*_, _≤_}
 use mathlib.Core.Bool.{Bool, true, false, cond}
-use mathlib.Core.List.{List, [], _∷_}
+use mathlib.Core.List.{List}
 use native.Mathlib.Nat.{mul-le-mul}
 use native.Mathlib.Omega.{arith}
 use lib.Dec.{eqb}
 use lib.ListN.{length, getD}
-use Rattle.lists.specs.Counting.{sumOver}
-use Rattle.lists.proofs.SumOver.{counted-most}
+use Rattle.lists.proofs.SumOver.{counted-most, sum-over-most}
 use Rattle.units.specs.One.{one}
 use Rattle.units.specs.Rounding.{up, scale}
 use Rattle.entries.specs.Entries.{blankMark, classBorne}
@@ -32,11 +31,9 @@ module _ (rounding : ℕ) (less : rounding ≤ up) (probabilities : List ℕ) (p
       go true bound p most each = most
       go false bound p most each = scale-most rounding bound p less most each
 
-  terms-most : (keep : ℕ → Bool) (l : List (List ℕ)) → sumOver (term rounding probabilities n keep) l ≤ length l * one
-  unfolding sumOver
-  terms-most keep [] = omega arith
-  terms-most keep (entry ∷ l) =
-      omega (arith, counted-most (keep (classBorne n entry)) (pathBound rounding probabilities n entry), path-most n entry, terms-most keep l)
+  term-most : (keep : ℕ → Bool) (entry : List ℕ) → term rounding probabilities n keep entry ≤ one
+  term-most keep entry = omega (arith, counted-most (keep (classBorne n entry)) (pathBound rounding probabilities n entry), path-most n entry)
 
   pub total-most : (keep : ℕ → Bool) (entries : List (List ℕ)) → total rounding probabilities n keep entries ≤ length entries * one
-  total-most keep entries = rw (total-terms rounding probabilities n keep entries) (terms-most keep entries)
+  total-most keep entries =
+      rw (total-terms rounding probabilities n keep entries) (sum-over-most (term rounding probabilities n keep) one (term-most keep) entries)

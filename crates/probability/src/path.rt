@@ -55,7 +55,7 @@ pub fn path_bound(rounding: u64, probabilities: &[u32], n: usize, entry: &[u8]) 
 }
 
 // A bound of the path at entry k of a list.
-fn bound_at(rounding: u64, probabilities: &[u32], n: usize, list: &[u8], k: usize) -> u64
+pub fn bound_at(rounding: u64, probabilities: &[u32], n: usize, list: &[u8], k: usize) -> u64
     requires { ⌜ rounding ≤ up ⌝ }
     requires { ⌜ AtMostOne (now probabilities) ⌝ }
     requires { ⌜ n ≤ mostComponents ⌝ }

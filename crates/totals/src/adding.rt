@@ -1,7 +1,8 @@
 // Adding the bound of a path to totals in lent places: at the place of its class, or at that of each load which its class has.
 use entries::Class;
+use probability::sum_at_most;
 use rules::LOAD_PLACES;
-ghost use Prim.Native.Nat.{ℕ, _+_, _≤_, _<_, min};
+ghost use Prim.Native.Nat.{ℕ, _≤_, _<_};
 ghost use mathlib.Core.Path.{_≡_};
 ghost use lib.Dec.{eqb};
 ghost use Rattle.lists.specs.Bits.{bit};
@@ -10,19 +11,6 @@ ghost use Rattle.units.specs.One.{one};
 ghost use Rattle.rules.specs.Limits.{mostLoads};
 ghost use Rattle.entries.specs.Entries.{classPlaces};
 ghost use Rattle.totals.specs.Places.{sumsMost, placesOf, countsAt, Totals, Adds};
-
-// The sum of two numbers, at most so much.
-fn sum_at_most(most: u64, a: u64, b: u64) -> u64
-    requires { ⌜ a ≤ sumsMost ⌝ }
-    requires { ⌜ b ≤ one ⌝ }
-    ensures { λ r. ⌜ r ≡ min most (a + b) ⌝ }
-{
-    let sum = a + b;
-    if most < sum {
-        return most;
-    }
-    sum
-}
 
 // A bound where bit j of a class stands, else 0.
 fn counted_bit(class: Class, j: usize, bound: u64) -> u64

@@ -18,7 +18,7 @@ loop-holds c =
     bounding-start (pre .0) (pre .1 .0) (pre .1 .1)
 
 bound-at-requires : tie.Need-bound-at-requires Inv-loop μ-loop
-bound-at-requires c κs = boundable-at (c .before .loop .inv .rounds) (c .before .loop .inv .known) (c .loop-test .taken)
+bound-at-requires c κs = boundable-at (c .before .loop .inv .known) (c .loop-test .taken) (c .before .loop .inv .rounds)
 
 mul-out : tie.Need-mul-out Inv-loop μ-loop
 mul-out c = omega (arith, c .before .loop-test .taken, c .before .before .loop .inv .known .room .few)
