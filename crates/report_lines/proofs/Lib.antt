@@ -1,4 +1,5 @@
 pub mod Borne
 pub mod Listed
+pub mod ListedClasses
 pub mod Marked
 pub mod Widths

@@ -1,4 +1,5 @@
 pub mod Classes
 pub mod Figures
+pub mod ListedClasses
 pub mod Loads
 pub mod Paths

@@ -2,6 +2,7 @@
 // the place behind what it wrote; who calls it has the room.
 mod class_text;
 mod figure_text;
+mod listed_classes;
 mod load_text;
 mod marks;
 mod path_text;
@@ -9,5 +10,6 @@ mod path_text;
 pub use class_text::all_bearing;
 pub use class_text::class_lines;
 pub use figure_text::figure_lines;
+pub use listed_classes::listed_class_lines;
 pub use load_text::load_lines;
 pub use path_text::path_lines;
