@@ -1,80 +1,90 @@
--- What carries the count of paths by class: the paths below k are counted, each at its class.
-use Prim.Native.Nat.{ℕ, _+_, _<_, _≤_}
-use mathlib.Core.Path.{_≡_, refl, sym, ap, _∙_}
+-- Laws of the classes that occur: each is a class, there are no more of them than classes or paths, and one can be listed after the other.
+use Prim.Native.Nat.{ℕ, zero, suc, _+_, _<_, _≤_}
+use mathlib.Core.Path.{_≡_, refl, sym, ap}
+use mathlib.Core.Bool.{Bool}
 use mathlib.Core.List.{List, [], _∷_}
-use native.Mathlib.Nat.{add-zero}
+use native.Mathlib.Decide.{decLt}
 use native.Mathlib.Omega.{arith}
-use lib.Dec.{eqb}
-use lib.ListN.{length, getD, take, set, replicate, length-replicate, getD-replicate, length-take}
-use lib.Seq.{take-all}
-use borrow.Author.Tests.{eq-eqb, ne-eqb}
-use Rattle.lists.specs.Counting.{truth, sumOver}
-use Rattle.lists.proofs.Adding.{add-next}
-use Rattle.lists.proofs.Sums.{truth-most}
-use Rattle.lists.proofs.Tabulated.{getD-tabulate, tabulated, tabulate-set}
-use Rattle.entries.specs.Entries.{classBorne, classPlaces, entryAt, entriesOf}
-use Rattle.entries.specs.Lists.{PathList}
-use Rattle.entries.proofs.Entries.{entries-long, entry-is}
-use Rattle.report_lines.specs.Classes.{bearing, noneBearing, allBearing}
+use lib.Dec.{eqb, ltb}
+use lib.ListN.{length, getD}
+use borrow.Author.Tests.{lt-ltb, le-ltb, ne-eqb}
+use Rattle.lists.specs.Counting.{sum, truth, countTrue, sumOver}
+use Rattle.lists.specs.Rows.{joined}
+use Rattle.lists.specs.Tabulate.{tabulate}
+use Rattle.lists.proofs.Elements.{Every}
+use Rattle.lists.proofs.SumBelow.{sum-added, sum-most, sum-limit, sum-only}
+use Rattle.lists.proofs.Sums.{truth-most, count-most}
+use Rattle.entries.specs.Entries.{classBorne, classPlaces}
+use Rattle.totals.specs.Places.{Placed}
+use Rattle.report_lines.specs.Classes.{bearing, classesWith, classesBorne}
+use Rattle.report_lines.specs.Listing.{classWith}
+use Rattle.report_lines.proofs.Below.{below-every, below-rows, below-count, below-alike}
 
--- no more paths than there are
-bearing-most : (n : ℕ) (entries : List (List ℕ)) (c : ℕ) → bearing n entries c ≤ length entries
-unfolding bearing sumOver
-bearing-most n [] c = omega arith
-bearing-most n (entry ∷ entries) c = omega (arith, truth-most (eqb (classBorne n entry) c), bearing-most n entries c)
+-- ---- how many they are
 
-bearing-next : (n : ℕ) (entries : List (List ℕ)) (k c : ℕ) → k < length entries
-    → bearing n (take (k + 1) entries) c ≡ bearing n (take k entries) c + truth (eqb (classBorne n (getD entries k [])) c)
-unfolding bearing
-bearing-next n entries k c h = add-next (λ (entry : List ℕ). truth (eqb (classBorne n entry) c)) entries k [] h
-
--- one path more
-counted : (n : ℕ) (entries : List (List ℕ)) (k class r : ℕ) → k < length entries → class < classPlaces → class ≡ classBorne n (getD entries k [])
-    → r ≡ bearing n (take k entries) class + 1 → set (allBearing n (take k entries)) class r ≡ allBearing n (take (k + 1) entries)
-unfolding allBearing
-counted n entries k class r inside small borne e =
-    tabulate-set (bearing n (take k entries)) (bearing n (take (k + 1) entries)) classPlaces class r small here there
+-- a path bears one class
+one-class : (class n : ℕ) → sum (λ (c : ℕ). truth (eqb class c)) n ≤ 1
+one-class class n = go (decLt class n)
   where
-    next : (c : ℕ) → bearing n (take (k + 1) entries) c ≡ bearing n (take k entries) c + truth (eqb class c)
-    next c = rw borne (bearing-next n entries k c inside)
+    go : Dec (class < n) → sum (λ (c : ℕ). truth (eqb class c)) n ≤ 1
+    go (yes h) =
+        rw (sum-only (λ (c : ℕ). truth (eqb class c)) n class h (λ c other. rw (ne-eqb class c (λ same. other (sym same))) refl))
+        (truth-most (eqb class class))
+    go (no h) =
+        let none = sum-limit (λ (c : ℕ). truth (eqb class c)) 0 n (λ c less. rw (ne-eqb class c (λ same. omega arith)) (omega arith)) in
+        omega (arith, none)
 
-    here : bearing n (take (k + 1) entries) class ≡ r
-    here = rw (next class, eq-eqb class class refl) (sym e)
+bearing-all : (n : ℕ) (entries : List (List ℕ)) (places : ℕ) → sum (bearing n entries) places ≤ length entries
+unfolding bearing sumOver
+bearing-all n [] places = omega (arith, sum-limit (λ (c : ℕ). 0) 0 places (λ c h. omega arith))
+bearing-all n (entry ∷ entries) places =
+    let own : ℕ → ℕ = λ c. truth (eqb (classBorne n entry) c) in
+    let both : sum (bearing n (entry ∷ entries)) places ≡ sum own places + sum (bearing n entries) places =
+    sum-added own (bearing n entries) places in
+    omega (arith, both, one-class (classBorne n entry) places, bearing-all n entries places)
 
-    there : (c : ℕ) → (c ≡ class → ⊥) → bearing n (take (k + 1) entries) c ≡ bearing n (take k entries) c
-    there c other = rw (next c, ne-eqb class c (λ same. other (sym same)), add-zero) refl
+counted-most : (paths : ℕ → ℕ) (n : ℕ) → countTrue (λ (c : ℕ). ltb 0 (paths c)) n ≤ sum paths n
+unfolding countTrue
+counted-most paths n = sum-most (λ (c : ℕ). truth (ltb 0 (paths c))) paths n (λ c h. some (paths c))
+  where
+    some : (m : ℕ) → truth (ltb 0 m) ≤ m
+    some zero = omega arith
+    some (suc m) = omega (arith, truth-most (ltb 0 (suc m)))
 
-pub record Borne (n : ℕ) (list : List ℕ) (paths k : ℕ) (table : List ℕ) : Type 0 where
-  pub room : PathList n paths list
-  pub made : table ≡ allBearing n (take k (entriesOf n paths list))
+module _ (n : ℕ) (entries : List (List ℕ)) where
+  pub borne-class : Every (λ (c : ℕ). c < classPlaces) 0 (classesBorne n entries)
+  unfolding classesBorne classesWith
+  borne-class = below-every (λ (c : ℕ). ltb 0 (bearing n entries c)) classPlaces
 
-module _ {n : ℕ} {list : List ℕ} {paths : ℕ} where
-  pub borne-start : {table : List ℕ} → PathList n paths list → table ≡ noneBearing → Borne n list paths 0 table
-  unfolding noneBearing allBearing bearing sumOver
-  borne-start {table} room e =
-      let zeros = tabulated {A = ℕ} (λ (c : ℕ). 0) classPlaces (replicate classPlaces 0) 0 (length-replicate {A = ℕ} classPlaces 0) in
-      record { room = room; made = e ∙ zeros (λ c h. getD-replicate {A = ℕ} classPlaces c 0 0 h) }
+  -- no more than there are classes
+  pub borne-most : length (classesBorne n entries) ≤ classPlaces
+  unfolding classesBorne classesWith
+  borne-most =
+      let occurs : ℕ → Bool = λ c. ltb 0 (bearing n entries c) in
+      rw (below-count occurs classPlaces) (count-most occurs classPlaces)
 
-  -- the count that stands at a class
-  borne-at : {k : ℕ} {table : List ℕ} (class : ℕ) → Borne n list paths k table → class < classPlaces
-      → getD table class 0 ≡ bearing n (take k (entriesOf n paths list)) class
-  unfolding allBearing
-  borne-at {k} {table} class b h =
-      ap (λ (l : List ℕ). getD l class 0) (b .made) ∙ getD-tabulate (bearing n (take k (entriesOf n paths list))) classPlaces class 0 h
+  -- no more than there are paths
+  pub borne-few : length (classesBorne n entries) ≤ length entries
+  unfolding classesBorne classesWith
+  borne-few =
+      let occurs : ℕ → Bool = λ c. ltb 0 (bearing n entries c) in
+      omega (arith, below-count occurs classPlaces, counted-most (bearing n entries) classPlaces, bearing-all n entries classPlaces)
 
-  pub borne-few : {k : ℕ} {table : List ℕ} (class : ℕ) → Borne n list paths k table → class < classPlaces → getD table class 0 ≤ k
-  borne-few {k} {table} class b h =
-      let entries = entriesOf n paths list in
-      omega (arith, borne-at class b h, bearing-most n (take k entries) class, length-take k entries)
+  -- they are those with a count, where the paths are counted
+  pub borne-counted : {d d′ : List ℕ} → Placed classPlaces (bearing n entries) d d′ → classesWith (λ (c : ℕ). getD d′ c 0) ≡ classesBorne n entries
+  unfolding classesBorne classesWith
+  borne-counted {d} {d′} counted = below-alike _ _ classPlaces (λ c h. ap (ltb 0) (counted .here c h))
 
-  pub borne-more : {k class r : ℕ} {table : List ℕ} → Borne n list paths k table → k < paths → class < classPlaces
-      → class ≡ classBorne n (entryAt n list k) → r ≡ getD table class 0 + 1 → Borne n list paths (k + 1) (set table class r)
-  borne-more {k} {class} {r} {table} b h small is-class e =
-      let entries = entriesOf n paths list in
-      let inside : k < length entries = rw (entries-long n paths list) h in
-      let borne = is-class ∙ ap (classBorne n) (sym (entry-is n paths list k h)) in
-      let count : r ≡ bearing n (take k entries) class + 1 = e ∙ ap (λ (v : ℕ). v + 1) (borne-at class b small) in
-      record { room = b .room; made = ap (λ (l : List ℕ). set l class r) (b .made) ∙ counted n entries k class r inside small borne count }
+-- ---- one after the other
 
-  pub borne-done : {k : ℕ} {table : List ℕ} → Borne n list paths k table → paths ≤ k → table ≡ allBearing n (entriesOf n paths list)
-  borne-done {k} {table} b h = b .made ∙ ap (allBearing n) (take-all k (entriesOf n paths list) (omega (arith, h, entries-long n paths list)))
+pub with-rows : (paths : ℕ → ℕ) → classesWith paths ≡ joined (tabulate (λ (c : ℕ). classWith (paths c) c) classPlaces)
+unfolding classesWith classWith
+with-rows paths = below-rows (λ (c : ℕ). ltb 0 (paths c)) classPlaces
+
+pub with-none : (paths c : ℕ) → paths ≡ 0 → classWith paths c ≡ []
+unfolding classWith
+with-none paths c none = rw (le-ltb 0 paths (omega (arith, none))) refl
+
+pub with-some : (paths c : ℕ) → (paths ≡ 0 → ⊥) → classWith paths c ≡ c ∷ []
+unfolding classWith
+with-some paths c some = rw (lt-ltb 0 paths (omega (arith, some))) refl

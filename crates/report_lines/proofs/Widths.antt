@@ -1,15 +1,13 @@
 -- How long the lines of a report are at most.
 use Prim.Native.Nat.{ℕ, _*_, _^_, _<_, _≤_}
-use mathlib.Core.Bool.{Bool, true, false, cond}
 use mathlib.Core.List.{List, [], map}
 use native.Mathlib.Omega.{arith}
-use lib.Dec.{eqb}
 use lib.ListN.{length, getD, length-map}
 use Rattle.lists.specs.Counting.{sumOver}
+use Rattle.lists.specs.Rows.{joined}
 use Rattle.lists.proofs.Elements.{Every, every-map}
 use Rattle.lists.proofs.Joined.{joined-short}
 use Rattle.text.specs.Letters.{letters}
-use Rattle.text.specs.Lines.{itemLine}
 use Rattle.text.proofs.Short.{joined-length, field-short, ending-short, bounds-short, item-short, lines-short}
 use Rattle.units.specs.One.{one}
 use Rattle.units.specs.Rounding.{down, up}
@@ -28,6 +26,13 @@ use Rattle.report_lines.specs.Loads.{loadLine, loadLines}
 use Rattle.report_lines.specs.Paths.{entryLine, pathLine, pathLines}
 use Rattle.report_lines.proofs.Marked.{marks-long}
 
+-- lines of at most so many bytes, one for each element of a list
+map-short : {A : Type 0} (line : A → List ℕ) (d : A) (width : ℕ) (l : List A) → Every (λ (x : A). length (line x) ≤ width) d l
+    → length (joined (map line l)) ≤ length l * width
+map-short line d width l each =
+    let short = joined-short width (map line l) (every-map line d [] (λ (row : List ℕ). length row ≤ width) l each) in
+    rw (length-map l line) at short
+
 -- ---- paths
 
 entry-short : (n : ℕ) (entry : List ℕ) (class lower upper : ℕ) → n ≤ mostComponents → class < classPlaces → lower ≤ one → upper ≤ one
@@ -45,10 +50,7 @@ entry-short n entry class lower upper few small low high =
 pub path-lines-short : (probabilities : List ℕ) (n : ℕ) (entries : List (List ℕ)) → AtMostOne probabilities → n ≤ mostComponents
     → Every (λ (entry : List ℕ). classBorne n entry < classPlaces) [] entries → length (pathLines probabilities n entries) ≤ length entries * 41
 unfolding pathLines pathLine
-path-lines-short probabilities n entries probability few small =
-    let line = pathLine probabilities n in
-    let short = joined-short 41 (map line entries) (every-map line [] [] (λ (row : List ℕ). length row ≤ 41) entries each) in
-    rw (length-map entries line) at short
+path-lines-short probabilities n entries probability few small = map-short (pathLine probabilities n) [] 41 entries each
   where
     each : Every (λ (entry : List ℕ). length (pathLine probabilities n entry) ≤ 41) [] entries
     each k h =
@@ -59,20 +61,21 @@ path-lines-short probabilities n entries probability few small =
 
 -- ---- classes and loads
 
-class-short : (paths c lower upper : ℕ) → c < classPlaces → lower < 10 ^ 13 → upper < 10 ^ 13 → length (classLine paths c lower upper) ≤ 34
+class-short : (lower upper : List ℕ) (c : ℕ) → c < classPlaces → getD lower c 0 < 10 ^ 13 → getD upper c 0 < 10 ^ 13 → length (classLine lower upper c) ≤ 34
 unfolding classLine
-class-short paths c lower upper inside low high = go (eqb paths 0)
-  where
-    go : (b : Bool) → length (cond b [] (itemLine (letters "K") c lower upper)) ≤ 34
-    go true = omega arith
-    go false = item-short 13 (omega arith) 3 (letters "K") c lower upper (field-short 3 (omega arith) c (omega (arith, inside))) low high
+class-short lower upper c inside low high =
+    let number = field-short 3 (omega arith) c (omega (arith, inside)) in
+    item-short 13 (omega arith) 3 (letters "K") c (getD lower c 0) (getD upper c 0) number low high
 
-pub class-lines-short : (paths lower upper : List ℕ) → ((c : ℕ) → c < classPlaces → getD lower c 0 < 10 ^ 13)
-    → ((c : ℕ) → c < classPlaces → getD upper c 0 < 10 ^ 13) → length (classLines paths lower upper) ≤ classPlaces * 34
+pub class-lines-short : (classes lower upper : List ℕ) → Every (λ (c : ℕ). c < classPlaces) 0 classes
+    → ((c : ℕ) → c < classPlaces → getD lower c 0 < 10 ^ 13) → ((c : ℕ) → c < classPlaces → getD upper c 0 < 10 ^ 13)
+    → length (classLines classes lower upper) ≤ length classes * 34
 unfolding classLines
-class-lines-short paths lower upper low high =
-    lines-short (λ (c : ℕ). classLine (getD paths c 0) c (getD lower c 0) (getD upper c 0)) classPlaces 34
-    (λ c h. class-short (getD paths c 0) c (getD lower c 0) (getD upper c 0) h (low c h) (high c h))
+class-lines-short classes lower upper inside low high =
+    map-short (classLine lower upper) 0 34 classes
+    (λ k h.
+    let c = getD classes k 0 in
+    class-short lower upper c (inside k h) (low c (inside k h)) (high c (inside k h)))
 
 pub load-lines-short : (lower upper : List ℕ) (loads : ℕ) → loads ≤ mostLoads → ((j : ℕ) → j < loads → getD lower j 0 ≤ one)
     → ((j : ℕ) → j < loads → getD upper j 0 ≤ one) → length (loadLines lower upper loads) ≤ loads * 26

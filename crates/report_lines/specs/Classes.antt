@@ -1,10 +1,9 @@
 -- K lines: "K", a class that occurs, and its two bounds.
 use Prim.Native.Nat.{ℕ}
-use mathlib.Core.Bool.{cond}
-use mathlib.Core.List.{List, []}
-use lib.Dec.{eqb}
-use lib.ListN.{getD, replicate}
-use Rattle.lists.specs.Counting.{truth, sumOver}
+use mathlib.Core.List.{List, map}
+use lib.Dec.{eqb, ltb}
+use lib.ListN.{getD}
+use Rattle.lists.specs.Counting.{truth, those, sumOver}
 use Rattle.lists.specs.Rows.{joined}
 use Rattle.lists.specs.Tabulate.{tabulate}
 use Rattle.text.specs.Letters.{letters}
@@ -15,18 +14,18 @@ use Rattle.entries.specs.Entries.{classBorne, classPlaces}
 unfoldable pub bearing : ℕ → List (List ℕ) → ℕ → ℕ
 bearing n entries c = sumOver (λ (entry : List ℕ). truth (eqb (classBorne n entry) c)) entries
 
--- none of any class
-unfoldable pub noneBearing : List ℕ
-noneBearing = replicate classPlaces 0
+-- those of all classes, ascending, with a number of paths above 0
+unfoldable pub classesWith : (ℕ → ℕ) → List ℕ
+classesWith paths = those (λ (c : ℕ). ltb 0 (paths c)) (tabulate (λ (c : ℕ). c) classPlaces)
 
--- that of every class
-unfoldable pub allBearing : ℕ → List (List ℕ) → List ℕ
-allBearing n entries = tabulate (bearing n entries) classPlaces
+-- the classes that occur: those that some path bears
+unfoldable pub classesBorne : ℕ → List (List ℕ) → List ℕ
+classesBorne n entries = classesWith (bearing n entries)
 
--- a class that no path bears has no line
-unfoldable pub classLine : ℕ → ℕ → ℕ → ℕ → List ℕ
-classLine paths c lower upper = cond (eqb paths 0) [] (itemLine (letters "K") c lower upper)
+-- the line of class c, from tables by class
+unfoldable pub classLine : List ℕ → List ℕ → ℕ → List ℕ
+classLine lower upper c = itemLine (letters "K") c (getD lower c 0) (getD upper c 0)
 
--- lines from tables by class, ascending
+-- a line for each of these classes
 unfoldable pub classLines : List ℕ → List ℕ → List ℕ → List ℕ
-classLines paths lower upper = joined (tabulate (λ (c : ℕ). classLine (getD paths c 0) c (getD lower c 0) (getD upper c 0)) classPlaces)
+classLines classes lower upper = joined (map (classLine lower upper) classes)

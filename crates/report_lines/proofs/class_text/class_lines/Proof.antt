@@ -1,72 +1,49 @@
--- `report_lines::class_text::class_lines` meets its contract. The lines of the classes below c are written (`Tabled`).
-use Prim.Native.Nat.{ℕ, _-_}
-use mathlib.Core.List.{List}
-use native.Mathlib.Omega.{arith}
-use lib.ListN.{getD}
+-- `report_lines::class_text::class_lines` meets its contract. The lines of the classes below i of the list are written (`Tabled`).
+use Prim.Native.Nat.{_-_}
+use lib.ListN.{length}
 use Rattle.text.proofs.Pieces.{Tabled, tabled-start, tabled-room, tabled-more, tabled-size, tabled-done}
-use Rattle.entries.specs.Entries.{classPlaces}
-use Rattle.report_lines.specs.Classes.{classLine, classLines}
+use Rattle.report_lines.proofs.Listed.{classLineAt, class-lines-at}
 use borrow.Author.Needs.{needs}
 use Rattle.report_lines.proofs.class_text.class_lines.Statement.{statement}
 use Rattle.report_lines.proofs.class_text.class_lines.Tie as tie
 
--- the line of class c, from tables by class
-abbrev line : List ℕ → List ℕ → List ℕ → ℕ → List ℕ
-line paths lower upper c = classLine (getD paths c 0) c (getD lower c 0) (getD upper c 0)
-
 abbrev Inv-loop : tie.InvT-loop
-Inv-loop out₀ at paths lower upper place₀ c₀ out place c = Tabled (line paths lower upper) classPlaces out₀ at c out place
+Inv-loop out₀ at classes lower upper place₀ i₀ out place i = Tabled (classLineAt classes lower upper) (length classes) out₀ at i out place
 
 abbrev μ-loop : tie.MeasureT-loop
-μ-loop out₀ at paths lower upper place₀ c₀ out place c = classPlaces - c
+μ-loop out₀ at classes lower upper place₀ i₀ out place i = length classes - i
 
 abbrev start : tie.In-loop Inv-loop μ-loop → tie.Start Inv-loop μ-loop
 start c =
     let looping = c .before in
     looping .before .before .before .before .before
 
-abbrev turn : tie.After-class-line Inv-loop μ-loop → tie.In-loop Inv-loop μ-loop
-turn c = c .before .before .before .before .before
-
 loop-holds : tie.Need-loop-holds Inv-loop μ-loop
-unfolding classLines
-loop-holds c = tabled-start _ _ (c .before .before .before .before .pre .1 .1 .1)
-
-mul-class-line : tie.Need-mul-class-line Inv-loop μ-loop
-mul-class-line c = record { fits = omega (arith, c .before .loop-test .taken) }
-
-shared-slice-read-class-line : tie.Need-shared-slice-read-class-line Inv-loop μ-loop
-shared-slice-read-class-line c = let turn = c .before .before in omega (arith, turn .loop-test .taken, start turn .pre .0)
-
-mul-class-line-2 : tie.Need-mul-class-line-2 Inv-loop μ-loop
-mul-class-line-2 c = record { fits = omega (arith, c .before .before .loop-test .taken) }
-
-shared-slice-read-class-line-2 : tie.Need-shared-slice-read-class-line-2 Inv-loop μ-loop
-shared-slice-read-class-line-2 c = let turn = c .before .before .before in omega (arith, turn .loop-test .taken, start turn .pre .1 .0)
-
-mul-class-line-3 : tie.Need-mul-class-line-3 Inv-loop μ-loop
-mul-class-line-3 c = record { fits = omega (arith, c .before .before .before .loop-test .taken) }
-
-shared-slice-read-class-line-3 : tie.Need-shared-slice-read-class-line-3 Inv-loop μ-loop
-shared-slice-read-class-line-3 c = let turn = c .before .before .before .before in omega (arith, turn .loop-test .taken, start turn .pre .1 .1 .0)
+loop-holds c =
+    let start = c .before .before .before .before in
+    let args = start .args in
+    tabled-start _ _ (rw (class-lines-at (args .classes .now) (args .lower .now) (args .upper .now)) at (start .pre .1 .1))
 
 class-line-requires : tie.Need-class-line-requires Inv-loop μ-loop
-class-line-requires c κs = let turn = c .before .before .before .before in tabled-room (turn .before .loop .inv) (turn .loop-test .taken)
-
-loop-less : tie.Need-loop-less Inv-loop μ-loop
-loop-less c = omega (arith, turn (c .before .before) .loop-test .taken)
+class-line-requires c κs =
+    let turn = c .before .before in
+    let pre = start turn .pre in
+    (pre .0, (pre .1 .0, tabled-room (turn .before .loop .inv) (turn .loop-test .taken)))
 
 loop-again : tie.Need-loop-again Inv-loop μ-loop
 loop-again c =
     let written = c .before .before in
-    tabled-more (turn written .before .loop .inv) (turn written .loop-test .taken) (written .class-line .ensures)
+    let turn = written .before .before .before in
+    tabled-more (turn .before .loop .inv) (turn .loop-test .taken) (written .class-line .ensures)
 
 same-length : tie.Need-same-length Inv-loop μ-loop
 same-length c = tabled-size (c .before .loop .inv)
 
 returns : tie.Need-returns Inv-loop μ-loop
-unfolding classLines
-returns c = tabled-done (c .before .loop .inv) (c .loop-test .left)
+returns c =
+    let looping = c .before in
+    let args = looping .before .before .before .before .before .args in
+    rw (class-lines-at (args .classes .now) (args .lower .now) (args .upper .now)) (tabled-done (c .before .loop .inv) (c .loop-test .left))
 
 pub class-lines-spec : {M : Type 1} → statement M
 class-lines-spec =
@@ -75,15 +52,10 @@ class-lines-spec =
     Inv-loop
     μ-loop
     loop-holds
-    mul-class-line
-    shared-slice-read-class-line
-    mul-class-line-2
-    shared-slice-read-class-line-2
-    mul-class-line-3
-    shared-slice-read-class-line-3
+    (λ c. search needs)
     class-line-requires
     (λ c. search needs)
-    loop-less
+    (λ c. search needs)
     loop-again
     same-length
     returns)
