@@ -1,6 +1,6 @@
 -- Case A has its report, and a refused study its line, by computation over the definitions.
 use mathlib.Core.Path.{refl}
-use Rattle.lists.specs.Counting.{sumOver}
+use Rattle.lists.specs.Counting.{those, sumOver}
 use Rattle.lists.specs.Rows.{put, joined}
 use Rattle.lists.specs.Run.{each}
 use Rattle.lists.specs.Tabulate.{tabulate}
@@ -26,7 +26,7 @@ use Rattle.probability.specs.Bounds.{total}
 use Rattle.meaning.specs.Meaning.{modelOf}
 use Rattle.evaluation.specs.Figures.{figuresBy}
 use Rattle.report_lines.specs.Paths.{markBytes, entryLine, pathLine, pathLines}
-use Rattle.report_lines.specs.Classes.{bearing, allBearing, classLine, classLines}
+use Rattle.report_lines.specs.Classes.{bearing, classesWith, classesBorne, classLine, classLines}
 use Rattle.report_lines.specs.Loads.{loadLine, loadLines}
 use Rattle.report_lines.specs.Figures.{caidiLine, allFigures, figureLines}
 use Rattle.report_text.specs.Report.{classesText, lossesText, modelText, refusedText, textBy, reportText}
@@ -41,8 +41,8 @@ unfolding each refuse outside byte word mapByte
     put paired placed sorted inOrder ordered
     absentGate zeroStudy
     modelOf pathsOf probabilityTable total classBorne tabulate figuresBy quotientDown quotientUp
-    sumOver joined field numberLine boundsEnd boundsLine itemLine decimalWithin decimal
-    markBytes entryLine pathLine pathLines bearing allBearing classLine classLines loadLine loadLines caidiLine allFigures figureLines
+    those sumOver joined field numberLine boundsEnd boundsLine itemLine decimalWithin decimal
+    markBytes entryLine pathLine pathLines bearing classesWith classesBorne classLine classLines loadLine loadLines caidiLine allFigures figureLines
     classesText lossesText modelText textBy reportText
 case-a = refl
 

@@ -33,17 +33,19 @@ use Rattle.probability.specs.Bounds.{pathBound}
 use Rattle.probability.specs.Totals.{pathBounds, lowerLoss, upperLoss}
 use Rattle.meaning.specs.Meaning.{byGates, modelOf}
 use Rattle.evaluation.specs.Bounds.{lowerOf, upperOf, pathLowers, pathUppers, classLowers, classUppers, loadLowers, loadUppers}
-use Rattle.report_lines.specs.Classes.{bearing, allBearing, classLine, classLines}
+use Rattle.report_lines.specs.Classes.{classesBorne, classLines}
 use Rattle.report_lines.specs.Figures.{figureLines}
 use Rattle.report_lines.specs.Loads.{loadLine, loadLines}
 use Rattle.report_lines.specs.Paths.{entryLine, pathLine, pathLines}
+use Rattle.report_lines.proofs.Borne.{borne-class}
+use Rattle.report_lines.proofs.Listed.{class-lines-alike}
 use Rattle.report_text.specs.Report.{classesText, lossesText, modelText, textBy, reportText}
 use Rattle.report_text.proofs.Longest
 use Rattle.report_text.proofs.Opened.{text-done}
 use Rattle.path_calls.specs.Bounds.{pairBreach}
 use Rattle.demands.specs.Calls.{pathBounds as forPaths, loadBounds, callTold}
 use Rattle.demands.specs.Listed.{pathsIn}
-use Rattle.demands.specs.Report.{Slices, Asked, pathSaid, classSaid, loadSaid, textSaid, ReportSays, ReportFits, InputCut}
+use Rattle.demands.specs.Report.{Slices, Asked, pathSaid, classesSaid, loadSaid, textSaid, ReportSays, ReportFits, InputCut}
 use Rattle.demands.proofs.Bounds.{classes-left, lowers-long, uppers-long}
 use Rattle.demands.proofs.Finished.{finished}
 use Rattle.demands.proofs.Given.{the-list, the-paths, the-classes, a-load, the-figures}
@@ -84,17 +86,14 @@ module _ (t : Study) (is-sound : Sound t) (shaped : Shaped t) (p : ℕ) (lent : 
       (tabulated (pathSaid t p lent) p (map line (pathsOf m)) [] (length-map (pathsOf m) line ∙ sym number)
       (λ k h. getD-map-inside line (pathsOf m) k [] [] (omega (arith, number)) ∙ path-line k h))
 
-  classes-said : classesText m ≡ joined (tabulate (classSaid t p lent) classPlaces)
-  unfolding classesText classLines allBearing modelOf
+  classes-said : classesText m ≡ classesSaid t p lent
+  unfolding classesText modelOf
   classes-said =
-      ap joined
-      (tabulate-alike _ (classSaid t p lent) classPlaces
-      (λ c h.
-      let left = classes-left byGates t (lent .classLower) (lent .classUpper) (asked .classed) c h in
-      let borne =
-      getD-tabulate (bearing (components m) (pathsOf m)) classPlaces c 0 h
-      ∙ ap (λ (l : List (List ℕ)). bearing (components m) l c) same-paths in
-      λ i. classLine (borne i) c (sym (left .lowers) i) (sym (left .uppers) i)))
+      let left = classes-left byGates t (lent .classLower) (lent .classUpper) (asked .classed) in
+      let paths = pathsIn byGates t (lent .buffer) p in
+      ap (λ (l : List (List ℕ)). classLines (classesBorne (components m) l) (classLowers m) (classUppers m)) same-paths
+      ∙ class-lines-alike (classesBorne (components m) paths) (classLowers m) (classUppers m) _ _ (borne-class (components m) paths)
+      (λ c h. sym (left c h .lowers)) (λ c h. sym (left c h .uppers))
 
   load-line : (j : ℕ) → j < t .loads → loadLine (loadLowers m) (loadUppers m) j ≡ loadSaid j (callTold (loadBounds byGates j) t)
   unfolding loadLine loadSaid

@@ -12,7 +12,7 @@ use Rattle.rules.specs.Limits.{longestStudy}
 use Rattle.study.specs.declared.Study.{Study}
 use Rattle.study.specs.Joint.{stateCounts}
 use Rattle.answers.specs.Told.{Told, result, refusal}
-use Rattle.entries.specs.Entries.{classBorne, classPlaces}
+use Rattle.entries.specs.Entries.{classBorne}
 use Rattle.soundness.specs.Sound.{Sound}
 use Rattle.opening.specs.Laws.{IsOpened}
 use Rattle.opening.specs.Opening.{opened}
@@ -20,7 +20,7 @@ use Rattle.model.specs.Model.{pathsOf}
 use Rattle.meaning.specs.Meaning.{byGates, modelOf}
 use Rattle.evaluation.specs.Bounds.{pathLowers, pathUppers, classLowers, classUppers}
 use Rattle.report_lines.specs.Paths.{entryLine}
-use Rattle.report_lines.specs.Classes.{bearing, classLine}
+use Rattle.report_lines.specs.Classes.{classesBorne, classLines}
 use Rattle.report_lines.specs.Figures.{figureLines}
 use Rattle.report_text.specs.Laws
 use Rattle.report_text.specs.Report.{reportText}
@@ -60,12 +60,12 @@ module _ (t : Study) (p : ℕ) (lent : Slices) where
       (getD (lowerOfPaths byGates t (lent .lower) (lent .upper)) i 0)
       (getD (upperOfPaths byGates t (lent .lower) (lent .upper)) i 0)
 
-  -- K: class c with the numbers at its places, where an entry of the buffer bears it; else no line
-  abbrev pub classSaid : ℕ → List ℕ
-  classSaid c =
-      classLine (bearing (length (stateCounts t)) (pathsIn byGates t (lent .buffer) p) c) c
-      (getD (lowerOfClasses byGates t (lent .classLower) (lent .classUpper)) c 0)
-      (getD (upperOfClasses byGates t (lent .classLower) (lent .classUpper)) c 0)
+  -- K: each class that an entry of the buffer bears, ascending, with the numbers at its places of the two slices
+  abbrev pub classesSaid : List ℕ
+  classesSaid =
+      classLines (classesBorne (length (stateCounts t)) (pathsIn byGates t (lent .buffer) p))
+      (lowerOfClasses byGates t (lent .classLower) (lent .classUpper))
+      (upperOfClasses byGates t (lent .classLower) (lent .classUpper))
 
 -- L: a load with the pair that the call for it told
 unfoldable pub loadSaid : ℕ → Told → List ℕ
@@ -79,7 +79,7 @@ textSaid t p lent =
     joined
     (numberLine (letters "PATHS") p
     ∷ joined (tabulate (pathSaid t p lent) p)
-    ∷ joined (tabulate (classSaid t p lent) classPlaces)
+    ∷ classesSaid t p lent
     ∷ joined (tabulate (λ (j : ℕ). loadSaid j (callTold (loadBounds byGates j) t)) (t .loads))
     ∷ figureLines (figuresGiven byGates t)
     ∷ [])
