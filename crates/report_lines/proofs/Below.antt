@@ -2,7 +2,7 @@
 use Prim.Native.Nat.{ℕ, zero, suc, _+_, _<_}
 use mathlib.Core.Path.{_≡_, refl, sym, ap, ap₂, _∙_}
 use mathlib.Core.Bool.{Bool, true, false, cond}
-use mathlib.Core.List.{List, [], _∷_, _++_}
+use mathlib.Core.List.{List, [], _∷_, _++_, map, append-nil, append-assoc}
 use native.Mathlib.Nat.{le-of-suc-le-suc}
 use native.Mathlib.Omega.{arith}
 use lib.ListN.{length, length-append}
@@ -48,15 +48,32 @@ below-every takesPart n = those-every takesPart (λ (c : ℕ). c < n) 0 (below n
     all : Every (λ (c : ℕ). c < n) 0 (below n)
     all i h = let inside : i < n = rw (length-tabulate (λ (c : ℕ). c) n) at h in rw (getD-tabulate (λ (c : ℕ). c) n i 0 inside) inside
 
--- each as a row of its own, and no row for the others
+row-last : (f : ℕ → List ℕ) (l : List ℕ) (n : ℕ) (b : Bool) → joined (map f (l ++ cond b (n ∷ []) [])) ≡ joined (map f l) ++ cond b (f n) []
+unfolding joined
+row-last f [] n true = append-nil (f n)
+row-last f [] n false = refl
+row-last f (x ∷ l) n b = ap (λ (r : List ℕ). f x ++ r) (row-last f l n b) ∙ sym (append-assoc (f x) (joined (map f l)) (cond b (f n) []))
+
+-- a row for each of them, and none for the others
+pub below-joined : (takesPart : ℕ → Bool) (f : ℕ → List ℕ) (n : ℕ)
+    → joined (map f (those takesPart (below n))) ≡ joined (tabulate (λ (c : ℕ). cond (takesPart c) (f c) []) n)
+unfolding those tabulate joined
+below-joined takesPart f zero = refl
+below-joined takesPart f (suc n) =
+    ap (λ (l : List ℕ). joined (map f l)) (those-last takesPart (below n) n)
+    ∙ row-last f (those takesPart (below n)) n (takesPart n)
+    ∙ ap (λ (l : List ℕ). l ++ cond (takesPart n) (f n) []) (below-joined takesPart f n)
+    ∙ sym (joined-last (tabulate (λ (c : ℕ). cond (takesPart c) (f c) []) n) (cond (takesPart n) (f n) []))
+
+singles : (l : List ℕ) → l ≡ joined (map (λ (c : ℕ). c ∷ []) l)
+unfolding joined
+singles [] = refl
+singles (c ∷ l) = ap (λ (r : List ℕ). c ∷ r) (singles l)
+
+-- each as a row of its own
 pub below-rows : (takesPart : ℕ → Bool) (n : ℕ)
     → those takesPart (below n) ≡ joined (tabulate (λ (c : ℕ). cond (takesPart c) (c ∷ []) []) n)
-unfolding those tabulate joined
-below-rows takesPart zero = refl
-below-rows takesPart (suc n) =
-    those-last takesPart (below n) n
-    ∙ ap (λ (l : List ℕ). l ++ cond (takesPart n) (n ∷ []) []) (below-rows takesPart n)
-    ∙ sym (joined-last (tabulate (λ (c : ℕ). cond (takesPart c) (c ∷ []) []) n) (cond (takesPart n) (n ∷ []) []))
+below-rows takesPart n = singles (those takesPart (below n)) ∙ below-joined takesPart (λ (c : ℕ). c ∷ []) n
 
 -- how many they are
 pub below-count : (takesPart : ℕ → Bool) (n : ℕ) → length (those takesPart (below n)) ≡ countTrue takesPart n

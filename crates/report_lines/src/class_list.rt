@@ -61,7 +61,7 @@ fn list_classes(counts: &[u64], classes: &mut [Class]) -> usize
 }
 
 // Lists the classes that some path of a list bears, ascending, at the front of a slice with a place for each path, and
-// answers how many they are. What `counts` held is lost.
+// answers how many they are. The first places of `counts` hold how many paths bear each class then.
 pub fn occurring(
     n: usize,
     list: &[u8],
@@ -72,7 +72,10 @@ pub fn occurring(
     requires { ⌜ PathList n paths (now list) ⌝ }
     requires { ⌜ classPlaces ≤ length (now counts) ⌝ }
     requires { ⌜ paths ≤ length (now classes) ⌝ }
-    ensures { λ r.
+    ensures counts { λ r.
+        ⌜ Placed classPlaces (bearing n (entriesOf n paths (now (list .entry)))) (now (counts .entry))
+        (now (counts .exit)) ⌝ }
+    ensures classes { λ r.
         ⌜ Wrote (now (classes .entry)) 0 (classesBorne n (entriesOf n paths (now (list .entry))))
         (now (classes .exit)) r ⌝ }
 {

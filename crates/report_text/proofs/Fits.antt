@@ -33,9 +33,10 @@ use Rattle.evaluation.specs.Bounds.{lowerOf, upperOf, classLowers, classUppers,
 use Rattle.evaluation.specs.Figures.{figuresBy}
 use Rattle.evaluation.proofs.Bounding.{model-table}
 use Rattle.evaluation.proofs.LossOrder.{model-losses, fewer-losses}
-use Rattle.report_lines.specs.Classes.{allBearing}
+use Rattle.report_lines.specs.Classes.{classesBorne}
 use Rattle.report_lines.specs.Figures.{figureLines}
 use Rattle.report_lines.specs.Paths.{pathLines}
+use Rattle.report_lines.proofs.Borne.{borne-class, borne-most}
 use Rattle.report_lines.proofs.Widths.{path-lines-short, class-lines-short, load-lines-short}
 use Rattle.report_text.specs.Report.{reportBytes, refusedBytes, pathsText, classesText, lossesText, modelText, refusedText}
 use Rattle.report_text.proofs.Printed.{model-figures-short}
@@ -77,7 +78,11 @@ module _ (m : Model) (good : Good m) (classes : (x : List ℕ) → m .class x < 
 
   classes-short : length (classesText m) ≤ classPlaces * 34
   unfolding classesText
-  classes-short = class-lines-short (allBearing (components m) (pathsOf m)) (classLowers m) (classUppers m) lower-class upper-class
+  classes-short =
+      let n = components m in
+      let classes = classesBorne n (pathsOf m) in
+      let short = class-lines-short classes (classLowers m) (classUppers m) (borne-class n (pathsOf m)) lower-class upper-class in
+      omega (arith, short, borne-most n (pathsOf m))
 
   losses : LossBounds (loadLowers m) (loadUppers m) (length (m .loads))
   losses = fewer-losses (good .loads .few) (model-losses m good)

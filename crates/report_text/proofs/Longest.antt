@@ -48,4 +48,4 @@ report-fits bytes = go (opened bytes .outcome) refl
         (gates-short t s)
     go (Refused n) refused =
         let row = opening-rows bytes n (ap outcomeTold refused) in
-        subst (λ (text : List ℕ). length text ≤ reportBytes) (text-refused bytes refl refused) (refused-short n (omega (arith, row .most)))
+        subst (λ (text : List ℕ). length text ≤ reportBytes) (text-refused bytes refl refused) (omega (arith, refused-short n (omega (arith, row .most))))

@@ -25,7 +25,7 @@ use Rattle.meaning.specs.Meaning.{byGates, modelOf}
 use Rattle.meaning.specs.Sources.{Tabled}
 use Rattle.meaning.proofs.Tables.{table-values, table-loads}
 use Rattle.evaluation.specs.Figures.{figuresBy}
-use Rattle.report_lines.specs.Classes.{allBearing, classLines}
+use Rattle.report_lines.specs.Classes.{classesBorne, classLines}
 use Rattle.report_lines.specs.Figures.{figureLines}
 use Rattle.report_lines.specs.Loads.{loadLines}
 use Rattle.report_lines.specs.Paths.{pathLines}
@@ -53,11 +53,11 @@ module _ (bytes : List ℕ) {answer : StudyAnswer} (e : answer ≡ opened bytes)
 module _ {t : Study} {h : HeldModel} {was : List ℕ} (table : List ℕ) (sound : Sound t) (holds : Holds t h) (room : mostJointStates ≤ length table)
     (tabled : Tabled byGates t was table) where
   -- the text of what is worked out of paths, and of loads
-  text-of : List Load → List ℕ → ℕ → List (List ℕ) → List ℕ
+  abbrev text-of : List Load → List ℕ → ℕ → List (List ℕ) → List ℕ
   text-of loads p n entries =
       joined
       (joined (numberLine (letters "PATHS") (length entries) ∷ pathLines p n entries ∷ [])
-      ∷ classLines (allBearing n entries) (lowerClasses p n entries) (upperClasses p n entries)
+      ∷ classLines (classesBorne n entries) (lowerClasses p n entries) (upperClasses p n entries)
       ∷ joined
       (loadLines (lowerLoads p n entries) (upperLoads p n entries) (length loads)
       ∷ figureLines (figuresBy (lowerLoads p n entries) (upperLoads p n entries) loads)

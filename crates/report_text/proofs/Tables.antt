@@ -1,38 +1,65 @@
 -- The lines from tables that the code has filled are those from the tables that the report speaks of.
 use Prim.Native.Nat.{ℕ, _≤_}
 use mathlib.Core.Path.{_≡_, sym, ap, _∙_}
-use mathlib.Core.List.{List}
+use mathlib.Core.List.{List, _++_}
 use native.Mathlib.Omega.{arith}
-use lib.ListN.{length, take}
-use lib.Seq.{length-take-le}
+use lib.ListN.{length, getD, take, drop}
+use lib.Seq.{length-take-le, drop-at}
 use Rattle.lists.specs.Rows.{put}
-use Rattle.lists.proofs.Puts.{put-whole}
+use Rattle.lists.specs.Tabulate.{tabulate}
+use Rattle.lists.proofs.Fronts.{getD-put, put-front, put-taken}
 use Rattle.lists.proofs.Tabulated.{length-tabulate}
+use Rattle.text.specs.Writing.{Wrote}
 use Rattle.rules.specs.Limits.{mostLoads}
 use Rattle.study.specs.declared.Load.{Load}
 use Rattle.answers.specs.declared.figures.FiguresAnswer.{FiguresAnswer}
 use Rattle.entries.specs.Entries.{classPlaces, entriesOf}
 use Rattle.model.specs.Listed.{Listed}
-use Rattle.model.specs.Model.{Model, components}
+use Rattle.model.specs.Model.{Model, components, pathsOf}
+use Rattle.totals.specs.Places.{Placed}
+use Rattle.totals.proofs.Placed.{placed-put}
 use Rattle.evaluation.specs.Bounds.{classLowers, classUppers, loadLowers, loadUppers}
 use Rattle.evaluation.specs.Figures.{figuresBy}
 use Rattle.evaluation.specs.Losses.{LossesOf}
-use Rattle.report_lines.specs.Classes.{allBearing, classLines}
+use Rattle.report_lines.specs.Classes.{classesBorne, classLines}
 use Rattle.report_lines.specs.Figures.{figureLines}
 use Rattle.report_lines.specs.Loads.{loadLines}
+use Rattle.report_lines.proofs.Borne.{borne-class}
+use Rattle.report_lines.proofs.Listed.{class-lines-alike}
 use Rattle.report_text.specs.Report.{classesText}
 
+-- what is put over values at the first places hides them
+pub placed-over : {places : ℕ} {value : ℕ → ℕ} {d d′ : List ℕ} → Placed places value d d′ → places ≤ length d → (x : List ℕ) → length x ≡ places
+    → put d′ 0 x ≡ put d 0 x
+placed-over {places} {value} {d} {d′} placed room x long =
+    let values = tabulate value places in
+    let many : length values ≡ places = length-tabulate value places in
+    sym (put-front d′ x long)
+    ∙ ap (λ (l : List ℕ). x ++ drop places l) (placed-put placed room ∙ sym (put-front d values many))
+    ∙ ap (λ (l : List ℕ). x ++ l) (drop-at values (drop places d) places many)
+    ∙ put-front d x long
+
+-- bounds for each class
+pub lowers-long : (m : Model) → length (classLowers m) ≡ classPlaces
+lowers-long m = length-tabulate _ classPlaces
+
+pub uppers-long : (m : Model) → length (classUppers m) ≡ classPlaces
+uppers-long m = length-tabulate _ classPlaces
+
 module _ {m : Model} where
-  pub classes-are : {n paths : ℕ} {list bearing lower upper : List ℕ} (d e : List ℕ) → Listed m paths list → n ≡ components m
-      → bearing ≡ allBearing n (entriesOf n paths list) → lower ≡ put d 0 (classLowers m) → classPlaces ≡ length d → upper ≡ put e 0 (classUppers m)
-      → classPlaces ≡ length e → classLines bearing lower upper ≡ classesText m
+  pub classes-are : {n paths number : ℕ} {list borne lower upper : List ℕ} (d e f : List ℕ) → Listed m paths list → n ≡ components m
+      → Wrote d 0 (classesBorne n (entriesOf n paths list)) borne number → lower ≡ put e 0 (classLowers m) → upper ≡ put f 0 (classUppers m)
+      → classLines (take number borne) lower upper ≡ classesText m
   unfolding classesText
-  classes-are {n} {paths} {list} d e listed number borne low room high room′ =
-      let all =
-      borne ∙ ap (λ (k : ℕ). allBearing k (entriesOf k paths list)) number ∙ ap (allBearing (components m)) (listed .entries) in
-      let low-whole = low ∙ put-whole d (classLowers m) (length-tabulate _ classPlaces ∙ room) in
-      let high-whole = high ∙ put-whole e (classUppers m) (length-tabulate _ classPlaces ∙ room′) in
-      λ i. classLines (all i) (low-whole i) (high-whole i)
+  classes-are {n} {paths} {number} {list} {borne} {lower} {upper} d e f listed components-are wrote low high =
+      let written = classesBorne n (entriesOf n paths list) in
+      let all = classesBorne (components m) (pathsOf m) in
+      let front = ap (take number) (wrote .holds) ∙ put-taken d written {n = number} (omega (arith, wrote .behind)) in
+      let same = ap (λ (k : ℕ). classesBorne k (entriesOf k paths list)) components-are ∙ ap (classesBorne (components m)) (listed .entries) in
+      ap (λ (l : List ℕ). classLines l lower upper) (front ∙ same)
+      ∙ class-lines-alike all lower upper (classLowers m) (classUppers m) (borne-class (components m) (pathsOf m))
+      (λ c h. ap (λ (l : List ℕ). getD l c 0) low ∙ getD-put e (classLowers m) c 0 (rw (lowers-long m) h))
+      (λ c h. ap (λ (l : List ℕ). getD l c 0) high ∙ getD-put f (classUppers m) c 0 (rw (uppers-long m) h))
 
   module _ {lower upper : List ℕ} (losses : LossesOf m lower upper) where
     pub loads-are : (load : List Load) (loads : ℕ) → length load ≡ mostLoads → loads ≤ mostLoads

@@ -15,7 +15,7 @@ use Rattle.meaning.specs.Meaning.{byGates, modelOf}
 use Rattle.evaluation.specs.Bounds.{classLowers, classUppers, loadLowers, loadUppers}
 use Rattle.evaluation.specs.Figures.{figuresBy}
 use Rattle.report_lines.specs.Paths.{pathLines}
-use Rattle.report_lines.specs.Classes.{allBearing, classLines}
+use Rattle.report_lines.specs.Classes.{classesBorne, classLines}
 use Rattle.report_lines.specs.Loads.{loadLines}
 use Rattle.report_lines.specs.Figures.{figureLines}
 
@@ -37,7 +37,7 @@ pathsText m =
 
 -- the lines of the classes that occur
 unfoldable pub classesText : Model → List ℕ
-classesText m = classLines (allBearing (components m) (pathsOf m)) (classLowers m) (classUppers m)
+classesText m = classLines (classesBorne (components m) (pathsOf m)) (classLowers m) (classUppers m)
 
 -- the lines of the loads, then those of the figures: both tell of losses
 unfoldable pub lossesText : Model → List ℕ

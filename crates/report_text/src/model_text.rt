@@ -3,12 +3,13 @@ use entries::Class;
 use evaluation::figures_from;
 use evaluation::loss_bounds;
 use evaluation::write_classes;
+use meaning::no_classes;
 use model::HeldModel;
 use probability::first_components;
-use report_lines::all_bearing;
 use report_lines::class_lines;
 use report_lines::figure_lines;
 use report_lines::load_lines;
+use report_lines::occurring;
 use report_lines::path_lines;
 use text::number_line;
 ghost use Prim.Native.Nat.{_≤_};
@@ -42,7 +43,8 @@ pub fn paths_text(
     path_lines(out, first, first_components(&table, n), n, list, paths)
 }
 
-// Writes the lines of the classes, whose bounds are added up in the lent slices; which of them occur is told by the list of the paths.
+// Writes the lines of the classes, whose bounds are added up in the lent slices. Which of them occur is told by the list of the paths: they are
+// counted where the lower bounds come to stand.
 fn classes_text(
     model: HeldModel,
     classes: &[Class],
@@ -65,9 +67,10 @@ fn classes_text(
     ensures upper { λ r.
         ⌜ now (upper .exit) ≡ put (now (upper .entry)) 0 (classUppers (modelHeld model (now (classes .entry)))) ⌝ }
 {
-    let bearing = all_bearing(model.components as usize, list, paths);
+    let mut borne = no_classes();
+    let number = occurring(model.components as usize, list, paths, lower, &mut borne);
     write_classes(model, classes, lower, upper);
-    class_lines(out, at, &bearing, lower, upper)
+    class_lines(out, at, &borne[..number], lower, upper)
 }
 
 // Writes the lines of the loads and of the figures.

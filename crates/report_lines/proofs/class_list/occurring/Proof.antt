@@ -34,7 +34,8 @@ list-classes-requires c κs =
 returns : tie.Need-returns
 returns c =
     let listed = c .before .before in
-    rw (counted (listed .before .before .before .before .before)) at (listed .list-classes .ensures)
+    let all = listed .before .before .before .before .before in
+    (all .count-paths .ensures, rw (counted all) at (listed .list-classes .ensures))
 
 pub occurring-spec : {M : Type 1} → statement M
 occurring-spec = tie.close (tie.spec (λ c κs. search needs) list-classes-requires (λ c. search needs) (λ c. search needs) returns)

@@ -5,13 +5,9 @@ use mathlib.Core.List.{List, [], _∷_}
 use native.Mathlib.Omega.{arith}
 use lib.ListN.{length}
 use denote.Ref.{now}
-use Rattle.lists.proofs.Maps.{mapped}
-use Rattle.rules.specs.Limits.{mostLoads}
 use Rattle.text.proofs.Pieces.{Pieces, pieces-start, pieces-room, pieces-more, pieces-done}
+use Rattle.model.specs.InHand.{modelHeld}
 use Rattle.model.specs.Model.{Model}
-use Rattle.soundness.proofs.Ranges.{loads-most}
-use Rattle.study_model.specs.Model.{modelBy}
-use Rattle.study_model.proofs.Good.{by-good}
 use Rattle.evaluation.specs.Bounds.{loadLowers, loadUppers}
 use Rattle.evaluation.specs.Figures.{figuresBy}
 use Rattle.evaluation.proofs.LossOrder.{fewer-losses}
@@ -26,7 +22,7 @@ use Rattle.report_text.proofs.model_text.losses_text.Tie as tie
 -- ---- the two parts, and the steps behind which each is written
 
 abbrev bounded : tie.After-figures-from → tie.After-loss-bounds
-bounded c = c .before .before
+bounded c = c .before
 
 abbrev start : tie.After-loss-bounds → tie.Start
 start c = c .before .before .before
@@ -35,7 +31,7 @@ abbrev figured : tie.After-load-lines → tie.After-figures-from
 figured c = c .before .before .before .before
 
 abbrev model : tie.Start → Model
-model s = modelBy (s .args .t) (now (s .args .classes))
+model s = modelHeld (s .args .model) (now (s .args .classes))
 
 abbrev parts : tie.Start → List (List ℕ)
 parts s =
@@ -43,29 +39,26 @@ parts s =
     ∷ figureLines (figuresBy (loadLowers (model s)) (loadUppers (model s)) (model s .loads))
     ∷ []
 
--- a place for each load
-eight : (s : tie.Start) → length (s .args .t .load) ≡ mostLoads
-eight s = search (mapped, needs)
-
 load-lines-are : (c : tie.After-figures-from)
     → let s = start (bounded c) in
-    loadLines (bounded c .loss-bounds .result .lower) (bounded c .loss-bounds .result .upper) (s .args .t .loads)
+    loadLines (bounded c .loss-bounds .result .lower) (bounded c .loss-bounds .result .upper) (s .args .model .loads)
     ≡ loadLines (loadLowers (model s)) (loadUppers (model s)) (length (model s .loads))
-unfolding modelBy
+unfolding modelHeld
 load-lines-are c =
     let s = start (bounded c) in
-    loads-are (bounded c .loss-bounds .ensures) (s .args .t .load) _ (eight s) (loads-most _ (s .pre .0))
+    let places = s .pre .0 .places in
+    loads-are (bounded c .loss-bounds .ensures) (s .args .model .load) _ (places .load) (places .loads)
 
 figure-lines-are : (c : tie.After-figures-from)
     → let s = start (bounded c) in
     figureLines (c .figures-from .result) ≡ figureLines (figuresBy (loadLowers (model s)) (loadUppers (model s)) (model s .loads))
-unfolding modelBy
+unfolding modelHeld
 figure-lines-are c = figures-are (bounded c .loss-bounds .ensures) _ (c .figures-from .ensures)
 
 begun : (c : tie.After-figures-from)
     → let s = start (bounded c) in Pieces (parts s) (now (s .args .out)) (s .args .at) 0 (now (s .args .out)) (s .args .at)
 unfolding lossesText
-begun c = pieces-start _ (start (bounded c) .pre .1 .1)
+begun c = pieces-start _ (start (bounded c) .pre .1)
 
 one : (c : tie.After-load-lines)
     → let s = start (bounded (figured c)) in
@@ -73,17 +66,16 @@ one : (c : tie.After-load-lines)
 one c = pieces-more (begun (figured c)) (omega arith) (rw (load-lines-are (figured c)) at (c .load-lines .ensures))
 
 figures-from-requires : tie.Need-figures-from-requires
-unfolding modelBy
+unfolding modelHeld
 figures-from-requires c κs =
-    let bounds = c .before in
-    let sound = start bounds .pre .0 in
-    let few = loads-most _ sound in
-    (few, (by-good _ sound [] .loads, fewer-losses few (bounds .loss-bounds .ensures .bounds)))
+    let hand = start c .pre .0 in
+    let few = hand .places .loads in
+    (few, (hand .good .loads, fewer-losses few (c .loss-bounds .ensures .bounds)))
 
 load-lines-requires : tie.Need-load-lines-requires
 load-lines-requires c κs =
     let figures = c .before .before .before in
-    (loads-most _ (start (bounded figures) .pre .0), rw (load-lines-are figures) (pieces-room (begun figures) (omega arith)))
+    (start (bounded figures) .pre .0 .places .loads, rw (load-lines-are figures) (pieces-room (begun figures) (omega arith)))
 
 figure-lines-requires : tie.Need-figure-lines-requires
 figure-lines-requires c κs =

@@ -1,24 +1,12 @@
--- `report_text::model_text::model_text` meets its contract: the buffer has room for it (`model-short`), and its parts stand one behind the other
--- (`Pieces`).
-use Prim.Native.Nat.{ℕ, _<_}
-use mathlib.Core.Path.{sym, subst}
+-- `report_text::model_text::model_text` meets its contract: its parts stand one behind the other (`Pieces`).
+use Prim.Native.Nat.{ℕ}
 use mathlib.Core.List.{List, [], _∷_}
 use native.Mathlib.Omega.{arith}
-use lib.ListN.{length}
 use denote.Ref.{now}
-use Rattle.text.specs.Letters.{letters}
-use Rattle.text.specs.Lines.{numberLine}
-use Rattle.text.specs.Writing.{Room, Wrote}
 use Rattle.text.proofs.Pieces.{Pieces, pieces-start, pieces-room, pieces-more, pieces-done}
-use Rattle.model.specs.Model.{Model, components, pathsOf, probabilityTable}
-use Rattle.joint_states.specs.JointStates.{numberOf}
-use Rattle.study.specs.Joint.{stateCounts}
-use Rattle.entries.specs.Entries.{classPlaces}
-use Rattle.study_model.specs.Model.{modelBy}
-use Rattle.evaluation.proofs.Bounding.{held-boundable, held-values}
-use Rattle.report_lines.specs.Paths.{pathLines}
-use Rattle.report_text.specs.Report.{classesText, lossesText, modelText}
-use Rattle.report_text.proofs.Fits.{has-room, model-short}
+use Rattle.model.specs.InHand.{modelHeld}
+use Rattle.model.specs.Model.{Model}
+use Rattle.report_text.specs.Report.{pathsText, classesText, lossesText, modelText}
 use borrow.Author.Needs.{needs}
 use Rattle.report_text.proofs.model_text.model_text.Statement.{statement}
 use Rattle.report_text.proofs.model_text.model_text.Tie as tie
@@ -26,104 +14,72 @@ use Rattle.report_text.proofs.model_text.model_text.Tie as tie
 -- ---- the parts, and the steps behind which each is written
 
 abbrev model : tie.Start → Model
-model s = modelBy (s .args .t) (now (s .args .classes))
+model s = modelHeld (s .args .model) (now (s .args .classes))
 
 abbrev parts : tie.Start → List (List ℕ)
-parts s =
-    numberLine (letters "PATHS") (length (pathsOf (model s)))
-    ∷ pathLines (probabilityTable (model s)) (components (model s)) (pathsOf (model s))
-    ∷ classesText (model s)
-    ∷ lossesText (model s)
-    ∷ []
+parts s = pathsText (model s) ∷ classesText (model s) ∷ lossesText (model s) ∷ []
 
-abbrev origin : tie.After-number-line-arg2 → tie.Start
-origin c = c .before .before .before .before .before .before
+abbrev start : tie.After-paths-text-arg → tie.Start
+start c =
+    let lent = c .before in
+    lent .before .before .before .before .before
 
-abbrev start : tie.After-number-line → tie.Start
-start c = origin (c .before)
+abbrev pathed : tie.After-classes-text-arg3 → tie.After-paths-text
+pathed c = c .before .before .before .before .before
 
-abbrev numbered : tie.After-path-lines → tie.After-number-line
-numbered c = c .before .before .before .before
-
-abbrev pathed : tie.After-classes-text → tie.After-path-lines
-pathed c = c .before .before .before .before
-
-abbrev classed : tie.After-losses-text → tie.After-classes-text
-classed c = c .before .before .before .before
+abbrev classed : tie.After-losses-text-arg → tie.After-classes-text
+classed c =
+    let lower = c .before .before .before .before in
+    lower .before .before .before
 
 -- ---- so many parts are written
 
--- a class of the table is a byte
-class-byte : (c : tie.After-shared-slice-known) (x : List ℕ) → model (c .before) .class x < classPlaces
-unfolding modelBy
-class-byte c x = omega (arith, c .shared-slice-known .given (numberOf (stateCounts (c .before .args .t)) x))
-
-begun : (c : tie.After-number-line-arg2) → Pieces (parts (origin c)) (now (origin c .args .out)) 0 0 (now (origin c .args .out)) 0
+none : (c : tie.After-paths-text-arg) → Pieces (parts (start c)) (now (start c .args .out)) 0 0 (now (start c .args .out)) 0
 unfolding modelText
-begun c =
-    let pre = origin c .pre .1 .1 in
-    let short = model-short (model (origin c)) (pre .0 .listed .good) (class-byte (c .before .before .before .before .before)) in
-    pieces-start _ (has-room _ _ short (pre .1))
+none c = pieces-start _ (start c .pre .1 .1 .0)
 
-one : (c : tie.After-number-line)
-    → Pieces (parts (start c)) (now (start c .args .out)) 0 1 (c .number-line .last .0) (c .number-line .result)
-one c =
-    let args = start c .args in
-    let number = start c .pre .1 .1 .0 .listed .number in
-    pieces-more (begun (c .before)) (omega arith)
-    (subst (λ (k : ℕ). Wrote (now (args .out)) 0 (numberLine (letters "PATHS") k) (c .number-line .last .0) (c .number-line .result)) number
-    (c .number-line .ensures))
+one : (c : tie.After-paths-text)
+    → let s = start (c .before) in Pieces (parts s) (now (s .args .out)) 0 1 (c .paths-text .last .1 .1 .1 .1 .0) (c .paths-text .result)
+one c = pieces-more (none (c .before)) (omega arith) (c .paths-text .ensures)
 
-two : (c : tie.After-path-lines)
-    → Pieces (parts (start (numbered c))) (now (start (numbered c) .args .out)) 0 2 (c .path-lines .last .0) (c .path-lines .result)
-two c =
-    let held = start (numbered c) .pre .1 .1 .0 in
-    pieces-more (one (numbered c)) (omega arith) (rw (held-values held pathLines) at (c .path-lines .ensures))
+two : (c : tie.After-classes-text)
+    → let s = start (pathed (c .before) .before) in
+    Pieces (parts s) (now (s .args .out)) 0 2 (c .classes-text .last .1 .1 .1 .1 .0) (c .classes-text .result)
+two c = pieces-more (one (pathed (c .before))) (omega arith) (c .classes-text .ensures .0)
 
-three : (c : tie.After-classes-text)
-    → Pieces (parts (start (numbered (pathed c)))) (now (start (numbered (pathed c)) .args .out)) 0 3 (c .classes-text .last .1 .1 .1 .1 .1 .0)
-    (c .classes-text .result)
-three c = pieces-more (two (pathed c)) (omega arith) (c .classes-text .ensures)
+-- ---- the needs
 
-number-line-requires : tie.Need-number-line-requires
-number-line-requires c κs =
-    let args = origin c .args in
-    subst (λ (k : ℕ). Room (now (args .out)) 0 (numberLine (letters "PATHS") k)) (sym (origin c .pre .1 .1 .0 .listed .number))
-    (pieces-room (begun c) (omega arith))
-
-path-lines-requires : tie.Need-path-lines-requires
-path-lines-requires c κs =
-    let lined = c .before .before .before in
-    let held = start lined .pre .1 .1 .0 in
-    let known = held-boundable held in
-    (known .table, (known .room, rw (held-values held pathLines) (pieces-room (one lined) (omega arith))))
+paths-text-requires : tie.Need-paths-text-requires
+paths-text-requires c κs =
+    let pre = start c .pre in
+    (pre .0, (pre .1 .0, pieces-room (none c) (omega arith)))
 
 classes-text-requires : tie.Need-classes-text-requires
 classes-text-requires c κs =
-    let lined = c .before .before .before in
-    let pre = start (numbered lined) .pre in
-    (pre .0, (pre .1 .0, (pre .1 .1 .0 .listed, (pre .1 .1 .0 .number, pieces-room (two lined) (omega arith)))))
+    let lined = pathed c in
+    let pre = start (lined .before) .pre in
+    (pre .0, (pre .1 .0, (pieces-room (one lined) (omega arith), pre .1 .1 .1)))
 
 losses-text-requires : tie.Need-losses-text-requires
 losses-text-requires c κs =
-    let lined = c .before .before .before in
-    let pre = start (numbered (pathed lined)) .pre in
-    (pre .0, (pre .1 .0, pieces-room (three lined) (omega arith)))
+    let lined = classed c in
+    (start (pathed (lined .before) .before) .pre .0, pieces-room (two lined) (omega arith))
 
 returns : tie.Need-returns
 unfolding modelText
 returns c =
     let all = c .before .before in
-    pieces-done (pieces-more (three (classed all)) (omega arith) (all .losses-text .ensures)) (omega arith)
+    let lined = classed (all .before) in
+    (pieces-done (pieces-more (two lined) (omega arith) (all .losses-text .ensures)) (omega arith), lined .classes-text .ensures .1)
 
 pub model-text-spec : {M : Type 1} → statement M
 model-text-spec =
     tie.close
     (tie.spec
-    (λ c. search needs)
-    number-line-requires
-    path-lines-requires
+    paths-text-requires
     classes-text-requires
     losses-text-requires
+    (λ c. search needs)
+    (λ c. search needs)
     (λ c. search needs)
     returns)

@@ -1,25 +1,30 @@
--- `report_text::reporting::report` meets its contract: the text is written whole, and its bytes are handed over.
-use native.Mathlib.Omega.{arith}
-use Rattle.lent_text.proofs.Whole.{whole-front, whole-inside, front-counts, front-short}
-use Rattle.report_text.specs.Report.{reportBytes}
+-- `report_text::reporting::report` meets its contract: what opening answers decides what is reported.
+use Rattle.report_text.proofs.Opened.{opened-study}
+use Rattle.report_text.proofs.Reported.{opened-reported, unopened-reported}
 use borrow.Author.Needs.{needs}
 use Rattle.report_text.proofs.reporting.report.Statement.{statement}
 use Rattle.report_text.proofs.reporting.report.Tie as tie
 
-array-share-prefix-whole : tie.Need-array-share-prefix-whole
-array-share-prefix-whole c = whole-inside (c .before .report-text .ensures)
+abbrev told : tie.After-sound-report-arg3 → tie.After-enum-told
+told c = c .before .before .before
 
-slice-aggregate-hand-over : tie.Need-slice-aggregate-hand-over
-slice-aggregate-hand-over c = front-counts (c .before .before .report-text .ensures)
-
-hand-over-requires : tie.Need-hand-over-requires
-hand-over-requires c κs = front-short (c .before .before .before .report-text .ensures) reportBytes (search needs) (omega arith)
+sound-report-requires : tie.Need-sound-report-requires
+sound-report-requires c κs =
+    let match = told c in
+    opened-study _ (match .before .before .«open» .ensures) (match .enum-told .given .1)
 
 returns : tie.Need-returns
 returns c =
-    let handed = c .before .before in
-    let wrote = handed .before .before .before .before in
-    rw (whole-front (wrote .report-text .ensures)) at (handed .hand-over .ensures)
+    let call = c .before .before .before .before .before .before in
+    let match = told (call .before) in
+    opened-reported _ (match .before .before .«open» .ensures) (match .enum-told .given .1) (call .sound-report .ensures)
+
+returns-2 : tie.Need-returns-2
+returns-2 c =
+    let call = c .before .before in
+    let match = call .before .before .before in
+    unopened-reported _ (match .before .before .«open» .ensures) _ _ _ (match .outcome .given .1) (call .refused-report .ensures .0)
+    (call .refused-report .ensures .1)
 
 pub report-spec : {M : Type 1} → statement M
 report-spec =
@@ -27,9 +32,12 @@ report-spec =
     (tie.spec
     (λ c κs. search needs)
     (λ c. search needs)
-    (λ c κs. search needs)
-    array-share-prefix-whole
-    slice-aggregate-hand-over
-    hand-over-requires
+    sound-report-requires
     (λ c. search needs)
-    returns)
+    (λ c κs. search needs)
+    (λ c. search needs)
+    (λ c. search needs)
+    (λ c. search needs)
+    returns
+    (λ c. search needs)
+    returns-2)

@@ -1,4 +1,4 @@
--- `report_text::reporting::refused_text` meets its contract: its pieces stand one behind the other (`Pieces`).
+-- `report_text::refusing::refused_text` meets its contract: its pieces stand one behind the other (`Pieces`).
 use Prim.Native.Nat.{ℕ}
 use mathlib.Core.List.{List, [], _∷_}
 use native.Mathlib.Omega.{arith}
@@ -9,8 +9,8 @@ use Rattle.text.proofs.Pieces.{Pieces, pieces-start, pieces-room, pieces-more, 
 use Rattle.words.specs.Words.{refusalWord}
 use Rattle.report_text.specs.Report.{refusedText}
 use borrow.Author.Needs.{needs}
-use Rattle.report_text.proofs.reporting.refused_text.Statement.{statement}
-use Rattle.report_text.proofs.reporting.refused_text.Tie as tie
+use Rattle.report_text.proofs.refusing.refused_text.Statement.{statement}
+use Rattle.report_text.proofs.refusing.refused_text.Tie as tie
 
 -- ---- the pieces, and the steps behind which each is written
 
