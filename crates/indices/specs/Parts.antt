@@ -1,16 +1,13 @@
--- Which loads take part in which sum: a loss is momentary up to five minutes, and sustained beyond.
-use Prim.Native.Nat.{ℕ}
+-- Which loads take part in which sum: the losses of a load are momentary or sustained, by its restore time.
 use mathlib.Core.Bool.{Bool, true, not}
-use lib.Dec.{leb}
+use Rattle.rules.specs.Limits.{momentary}
 use Rattle.study.specs.declared.Load.{Load}
 
--- the longest restore time of a momentary loss, in minutes
-abbrev pub longestMomentary : ℕ
-longestMomentary = 5
-
--- a short load: its restore time is that or less. One that states none has 0 minutes, and so is short. These take part in MAIFI's sum over P
+-- a short load: its losses are momentary. One that states no restore time has 0 minutes, and so is short. These take
+-- part in MAIFI's sum over P
 unfoldable pub short : Load → Bool
-short l = leb (l .minutes) longestMomentary
+unfolding momentary
+short l = momentary (l .minutes)
 
 -- the others: these take part in the sums over P of SAIFI, SAIDI and CAIDI
 unfoldable pub sustained : Load → Bool

@@ -1,17 +1,15 @@
 // Which loads take part in which sum.
+use rules::is_momentary;
 use study::Load;
 ghost use mathlib.Core.Path.{_≡_};
 ghost use Rattle.lists.specs.Counting.{counted as Counting·counted};
 ghost use Rattle.indices.specs.Parts.{short};
 
-// The longest restore time of a momentary loss, in minutes.
-const LONGEST_MOMENTARY: u32 = 5;
-
 // Whether the losses of a load are momentary.
 pub fn is_short(l: Load) -> bool
     ensures { λ r. ⌜ r ≡ short l ⌝ }
 {
-    l.minutes <= LONGEST_MOMENTARY
+    is_momentary(l.minutes)
 }
 
 // What a load adds to a sum: nothing where it takes no part.

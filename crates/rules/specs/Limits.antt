@@ -1,5 +1,7 @@
--- The limits of the study format, and how far an exponent goes.
+-- The limits of the study format, which losses are momentary, and how far an exponent goes.
 use Prim.Native.Nat.{ℕ, _^_}
+use mathlib.Core.Bool.{Bool}
+use lib.Dec.{leb}
 
 abbrev pub mostComponents : ℕ
 mostComponents = 12
@@ -36,6 +38,14 @@ mostCustomers = 100000
 
 abbrev pub mostMinutes : ℕ
 mostMinutes = 20000
+
+-- the longest restore time of a momentary loss, in minutes
+abbrev pub longestMomentary : ℕ
+longestMomentary = 5
+
+-- a loss is momentary that is over after so many minutes; a longer one is sustained
+unfoldable pub momentary : ℕ → Bool
+momentary minutes = leb minutes longestMomentary
 
 -- one above the largest map of each record: bits 0 to 3 of a component's have a meaning, and bits 0 to 2 of a gate's and a load's
 abbrev pub componentMaps : ℕ

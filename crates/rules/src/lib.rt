@@ -1,5 +1,6 @@
-// The refusal table in code: each rule of studies, drawn trees and exponents once, as the number of its row where it is broken and 0 where it is kept.
-// Opening, the soundness check and the edits all refuse by these. Not for callers from outside: those call `planning`.
+// The refusal table in code: each rule of studies, drawn trees and exponents once, as the number of its row where it
+// is broken and 0 where it is kept. Opening, the soundness check and the edits all refuse by these. Beside the table,
+// which losses are momentary. Not for callers from outside: those call `planning`.
 mod breach;
 mod limits;
 mod table;
@@ -29,6 +30,7 @@ pub use limits::NEVER;
 pub use limits::SHORT;
 pub use limits::STATE_PLACES;
 pub use limits::TEST_PLACES;
+pub use limits::is_momentary;
 pub use table::ahead_fault;
 pub use table::behind_fault;
 pub use table::count_fault;

@@ -1,4 +1,6 @@
-// The limits of the study format, and how far an exponent goes.
+// The limits of the study format, which losses are momentary, and how far an exponent goes.
+ghost use mathlib.Core.Path.{_≡_};
+ghost use Rattle.rules.specs.Limits.{momentary};
 
 pub const MOST_COMPONENTS: u8 = 12;
 
@@ -22,6 +24,9 @@ pub const MOST_GATE_INPUTS: u8 = 31;
 pub const MOST_CUSTOMERS: u32 = 100000;
 
 pub const MOST_MINUTES: u32 = 20000;
+
+// The longest restore time of a momentary loss, in minutes.
+const LONGEST_MOMENTARY: u32 = 5;
 
 // The places of each kind in a study and in a gate: as many as the most that can stand.
 pub const COMPONENT_PLACES: usize = 12;
@@ -59,3 +64,10 @@ pub const SHORT: u8 = 1;
 
 // Row 21: the bytes of a drawn tree end inside it.
 pub const BAD_END: u8 = 21;
+
+// Whether a loss is momentary that is over after so many minutes.
+pub fn is_momentary(minutes: u32) -> bool
+    ensures { λ r. ⌜ r ≡ momentary minutes ⌝ }
+{
+    minutes <= LONGEST_MOMENTARY
+}
