@@ -1,2 +1,3 @@
+pub mod NumberLeft
 pub mod Numbered
 pub mod Steps

@@ -1,5 +1,5 @@
 -- Joint states: a state for each component, all of them in order.
-use Prim.Native.Nat.{ℕ, zero, suc, _+_, _*_, _<_}
+use Prim.Native.Nat.{ℕ, zero, suc, _+_, _*_, _^_, _<_}
 use mathlib.Core.Path.{_≡_}
 use mathlib.Core.List.{List, [], _∷_, _++_, map}
 use lib.ListN.{length, getD}
@@ -27,3 +27,7 @@ unfolding product
 numberOf [] x = 0
 numberOf (c ∷ cs) [] = 0
 numberOf (c ∷ cs) (s ∷ x) = s * product cs + numberOf cs x
+
+-- the most joint states whose numbers fit 64 bits
+abbrev pub mostNumbered : ℕ
+mostNumbered = 2 ^ 64

@@ -1,8 +1,8 @@
 // Joint states: a state for each component, in order, component 0 varying slowest. Not for callers from outside: those call `planning`.
-ghost use Prim.Native.Nat.{_+_, _%_};
+ghost use Prim.Native.Nat.{_+_, _%_, _≤_};
 ghost use mathlib.Core.Path.{_≡_};
 ghost use Rattle.lists.specs.Product.{product};
-ghost use Rattle.joint_states.specs.JointStates.{JointState, numberOf};
+ghost use Rattle.joint_states.specs.JointStates.{JointState, numberOf, mostNumbered};
 
 // Moves a joint state on to the one with the next number; behind the last comes the first again.
 pub fn next_joint_state(counts: &[u8], x: &mut [u8])
@@ -20,4 +20,20 @@ pub fn next_joint_state(counts: &[u8], x: &mut [u8])
         }
         x[i] = 0;
     }
+}
+
+// The number of a joint state: the place of its class in a class table. What is read of the components before one
+// weighs its state count.
+pub fn number_of(counts: &[u8], x: &[u8]) -> usize
+    requires { ⌜ JointState (now counts) (now x) ⌝ }
+    requires { ⌜ product (now counts) ≤ mostNumbered ⌝ }
+    ensures { λ r. ⌜ r ≡ numberOf (now (counts .entry)) (now (x .entry)) ⌝ }
+{
+    let mut number: usize = 0;
+    let mut i: usize = 0;
+    while i < counts.len() {
+        number = number * counts[i] as usize + x[i] as usize;
+        i = i + 1;
+    }
+    number
 }
