@@ -4,23 +4,23 @@ use mathlib.Core.Path.{_≡_}
 use mathlib.Core.List.{List}
 use Rattle.lists.specs.Counting.{counted}
 use Rattle.units.specs.One.{one}
-use Rattle.rules.specs.Limits.{mostLoads, mostCustomers, mostMinutes}
+use Rattle.rules.specs.Limits.{mostServed, mostMinutes}
 use Rattle.study.specs.declared.Load.{Load}
 use Rattle.indices.specs.declared.sums.Sums.{Sums}
 use Rattle.indices.specs.Figures.{lossSum, minutesSum, boundOf}
 use Rattle.indices.specs.Parts.{short, sustained}
 
--- the most that one load adds to a sum of P × C, and to one of P × C × M
+-- the most that a sum of P × C comes to, and one of P × C × M: so much for each customer served
 abbrev pub mostLoss : ℕ
-mostLoss = one * mostCustomers
+mostLoss = mostServed * one
 
 abbrev pub mostLossMinutes : ℕ
-mostLossMinutes = one * mostCustomers * mostMinutes
+mostLossMinutes = mostServed * (one * mostMinutes)
 
--- r is the sum, of terms that are at most `most`
+-- r is the sum, and at most so much
 pub record SumIs (sum most r : ℕ) : Type 0 where
   pub is : r ≡ sum
-  pub fits : r ≤ mostLoads * most
+  pub fits : r ≤ most
 
 -- the sums with one load more, whose loss is bounded so: in each it counts where it takes part
 unfoldable pub plusLoad : Sums → ℕ → Load → Sums
@@ -33,9 +33,9 @@ plusLoad sums loss l =
     }
 
 pub record SumsFit (sums : Sums) : Type 0 where
-  pub loss : sums .loss ≤ mostLoads * mostLoss
-  pub minutes : sums .minutes ≤ mostLoads * mostLossMinutes
-  pub momentary : sums .momentary ≤ mostLoads * mostLoss
+  pub loss : sums .loss ≤ mostLoss
+  pub minutes : sums .minutes ≤ mostLossMinutes
+  pub momentary : sums .momentary ≤ mostLoss
 
 -- the sums over loads, each with its bound
 pub record SumsOf (losses : List ℕ) (loads : List Load) (sums : Sums) : Type 0 where

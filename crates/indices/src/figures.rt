@@ -9,7 +9,7 @@ use rules::LOAD_PLACES;
 use study::Load;
 use units::quotient_down;
 use units::quotient_up;
-ghost use Prim.Native.Nat.{_*_, _<_, _≤_};
+ghost use Prim.Native.Nat.{_<_, _≤_};
 ghost use mathlib.Core.Path.{_≡_};
 ghost use lib.ListN.{take};
 ghost use Rattle.rules.specs.Limits.{mostLoads};
@@ -21,9 +21,9 @@ ghost use Rattle.indices.specs.Sums.{mostLoss, mostLossMinutes, SumsFit}
 // A lower sum over its divisor, rounded down, and an upper sum over its own, rounded up.
 fn quotients(low: u64, low_divisor: u64, high: u64, high_divisor: u64) -> Enclosure
     requires { ⌜ 0 < «low_divisor» ⌝ }
-    requires { ⌜ high ≤ mostLoads * mostLossMinutes ⌝ }
+    requires { ⌜ high ≤ mostLossMinutes ⌝ }
     requires { ⌜ 0 < «high_divisor» ⌝ }
-    requires { ⌜ «high_divisor» ≤ mostLoads * mostLoss ⌝ }
+    requires { ⌜ «high_divisor» ≤ mostLoss ⌝ }
     ensures { λ r. ⌜ r ≡ Figures·quotients low «low_divisor» high «high_divisor» ⌝ }
 {
     Enclosure {

@@ -6,7 +6,7 @@ use study::Load;
 ghost use Prim.Native.Nat.{_≤_};
 ghost use mathlib.Core.Path.{_≡_};
 ghost use lib.ListN.{take};
-ghost use Rattle.rules.specs.Limits.{mostLoads, mostCustomers};
+ghost use Rattle.rules.specs.Limits.{mostLoads, mostServed};
 ghost use Rattle.model.specs.Good.{Sizes};
 ghost use Rattle.indices.specs.Figures.{customersSum};
 ghost use Rattle.indices.specs.Losses.{AtMostOne};
@@ -16,7 +16,7 @@ ghost use Rattle.indices.specs.Sums.{SumIs, plusLoad, SumsFit, SumsOf};
 pub fn customers_sum(load: [Load; LOAD_PLACES], n: u8) -> u64
     requires { ⌜ n ≤ mostLoads ⌝ }
     requires { ⌜ Sizes (take n load) ⌝ }
-    ensures { λ r. ⌜ SumIs (customersSum (take n load)) mostCustomers r ⌝ }
+    ensures { λ r. ⌜ SumIs (customersSum (take n load)) mostServed r ⌝ }
 {
     let loads = n as usize;
     let mut sum: u64 = 0;

@@ -27,6 +27,14 @@ unfolding sum
 sum-limit f most zero each = omega arith
 sum-limit f most (suc n) each = omega (arith, sum-limit f most n (λ k h. each k (omega arith)), each n (omega arith))
 
+-- no first few terms have a larger sum than all
+pub sum-front : (f : ℕ → ℕ) (m n : ℕ) → m ≤ n → sum f m ≤ sum f n
+unfolding sum
+sum-front f m zero h = let none : m ≡ 0 = omega arith in omega (arith, ap (sum f) none)
+sum-front f m (suc n) h =
+    ⊎-elim (λ (all : m ≡ suc n). omega (arith, ap (sum f) all)) (λ (less : m < suc n). omega (arith, sum-front f m n (le-of-suc-le-suc less)))
+    (eq-or-lt-of-le h)
+
 -- no term is above the sum
 pub term-most : (f : ℕ → ℕ) (n k : ℕ) → k < n → f k ≤ sum f n
 unfolding sum

@@ -1,5 +1,5 @@
 -- The limits of the study format, which losses are momentary, and how far an exponent goes.
-use Prim.Native.Nat.{ℕ, _^_}
+use Prim.Native.Nat.{ℕ, _*_, _^_}
 use mathlib.Core.Bool.{Bool}
 use lib.Dec.{leb}
 
@@ -33,8 +33,12 @@ mostTests = 12
 abbrev pub mostGateInputs : ℕ
 mostGateInputs = 31
 
+-- the customers of one load, and of all loads together
 abbrev pub mostCustomers : ℕ
 mostCustomers = 100000
+
+abbrev pub mostServed : ℕ
+mostServed = mostLoads * mostCustomers
 
 abbrev pub mostMinutes : ℕ
 mostMinutes = 20000

@@ -4,17 +4,17 @@ use Prim.Native.Nat.{_-_}
 use mathlib.Core.Path.{_≡_, sym}
 use native.Mathlib.Omega.{arith}
 use lib.ListN.{length, take}
-use Rattle.rules.specs.Limits.{mostLoads, mostCustomers}
+use Rattle.rules.specs.Limits.{mostLoads}
 use Rattle.indices.specs.Figures.{customersServed, customersSum}
 use Rattle.indices.specs.Parts.{every}
 use Rattle.indices.proofs.Front.{InUse, front-long, in-use}
-use Rattle.indices.proofs.Most.{customers-limited}
+use Rattle.indices.proofs.Most.{served-few, customers-limited}
 use Rattle.indices.proofs.Summed.{Summed, summed-start, summed-more, summed-fits, summed-done}
 use Rattle.indices.proofs.sums.customers_sum.Statement.{statement}
 use Rattle.indices.proofs.sums.customers_sum.Tie as tie
 
 abbrev Inv-loop : tie.InvT-loop
-Inv-loop n load loads sum₀ j₀ sum j = Summed every customersServed mostCustomers (take loads load) j sum
+Inv-loop n load loads sum₀ j₀ sum j = Summed every customersServed 1 (take loads load) j sum
 
 abbrev μ-loop : tie.MeasureT-loop
 μ-loop n load loads sum₀ j₀ sum j = loads - j
@@ -30,7 +30,7 @@ in-turn : (c : tie.In-loop Inv-loop μ-loop) → InUse (c .before .before .args 
 in-turn c = in-use _ _ (long (c .before .before)) _ (c .loop-test .taken)
 
 loop-holds : tie.Need-loop-holds Inv-loop μ-loop
-loop-holds c = summed-start (c .pre .1 .few) (customers-limited every _ (c .pre .1))
+loop-holds c = summed-start (served-few _ (c .pre .1)) (customers-limited (take (c .args .n) (c .args .t1)))
 
 mul-l : tie.Need-mul-l Inv-loop μ-loop
 mul-l c = omega arith
