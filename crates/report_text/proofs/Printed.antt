@@ -40,19 +40,19 @@ module _ (loads : List Load) (sizes : Sizes loads) (lower upper : List ℕ) (bou
   -- SAIFI and MAIFI, over the loads that take part in them
   loss-printable : (takesPart : Load → Bool) → Printable (perCustomer (lossSum takesPart) lower upper loads)
   loss-printable takesPart =
-      quotients-printable _ _ _ _ (omega (arith, loss-few takesPart loads sizes low, sizes .few))
-      (omega (arith, loss-few takesPart loads sizes (bounds .uppers), customers-few loads sizes, sizes .few))
+      quotients-printable _ _ _ _ (omega (arith, loss-few takesPart loads low sizes))
+      (omega (arith, loss-few takesPart loads (bounds .uppers) sizes, customers-few loads sizes))
 
   saidi-printable : Printable (perCustomer (minutesSum sustained) lower upper loads)
   saidi-printable =
-      quotients-printable _ _ _ _ (omega (arith, minutes-few sustained loads sizes low, sizes .few))
-      (omega (arith, minutes-few sustained loads sizes (bounds .uppers), customers-few loads sizes, sizes .few))
+      quotients-printable _ _ _ _ (omega (arith, minutes-few sustained loads low sizes))
+      (omega (arith, minutes-few sustained loads (bounds .uppers) sizes, customers-few loads sizes))
 
   caidi-printable : CaidiPrintable (perInterruption sustained lower upper loads)
   caidi-printable =
       stated-printable (lossSum sustained (boundOf lower) loads) (lossSum sustained (boundOf upper) loads) (minutesSum sustained (boundOf lower) loads)
-      (minutesSum sustained (boundOf upper) loads) (omega (arith, minutes-few sustained loads sizes low, sizes .few))
-      (omega (arith, minutes-few sustained loads sizes (bounds .uppers), loss-few sustained loads sizes low, sizes .few))
+      (minutesSum sustained (boundOf upper) loads) (omega (arith, minutes-few sustained loads low sizes))
+      (omega (arith, minutes-few sustained loads (bounds .uppers) sizes, loss-few sustained loads low sizes))
 
   pub model-figures-short : length (allFigures (figuresOf lower upper loads)) ≤ 192
   unfolding figuresOf
