@@ -65,13 +65,12 @@ sustained-bare : (x : Load) → sustained (bare x) ≡ sustained x
 unfolding sustained short
 sustained-bare x = refl
 
-pub figures-bare : (lower upper : List ℕ) (l : List Load) → figuresOf lower upper (map bare l) ≡ figuresOf lower upper l
+pub figures-bare : (customers : ℕ) (lower upper : List ℕ) (l : List Load) → figuresOf customers lower upper (map bare l) ≡ figuresOf customers lower upper l
 unfolding figuresOf
-figures-bare lower upper l =
+figures-bare customers lower upper l =
     let low : ℕ → ℕ = λ j. getD lower j 0 in
     let high : ℕ → ℕ = λ j. getD upper j 0 in
     rw (
-      customers-bare l,
       loss-bare sustained sustained-bare low l,
       loss-bare sustained sustained-bare high l,
       minutes-bare sustained sustained-bare low l,

@@ -14,7 +14,7 @@ use Rattle.units.proofs.Quotients.{quotient-below, quotient-above}
 use Rattle.study.specs.declared.Load.{Load}
 use Rattle.study.specs.Zero.{zeroLoad}
 use Rattle.answers.specs.declared.bounds.Enclosure.{Enclosure}
-use Rattle.indices.specs.Figures.{loadsSum, customersSum, lossSum, minutesSum, boundOf, quotients, figuresOf}
+use Rattle.indices.specs.Figures.{loadsSum, lossSum, minutesSum, boundOf, quotients, figuresOf}
 use Rattle.indices.specs.Enclosed.{Encloses, LossesEnclosed, EnclosesPerCustomer, EnclosesPerInterruption}
 use Rattle.indices.specs.Parts.{short, sustained}
 use Rattle.indices.proofs.Stated.{stated-some, stated-bounds}
@@ -69,7 +69,7 @@ over-bounds {low} {high} {x} {least} {most} {y} {w} some whole b d =
 
 -- ---- the figures
 
-module _ {lower upper : List ℕ} {x : ℕ → ℕ} {w : ℕ} (loads : List Load) (enclosed : LossesEnclosed lower upper x w (length loads)) where
+module _ {lower upper : List ℕ} {x : ℕ → ℕ} {w : ℕ} (customers : ℕ) (loads : List Load) (enclosed : LossesEnclosed lower upper x w (length loads)) where
   -- P × C of one load
   loss-of : (j : ℕ) → j < length loads
       → Between (boundOf lower j * getD loads j zeroLoad .customers) (boundOf upper j * getD loads j zeroLoad .customers)
@@ -87,20 +87,20 @@ module _ {lower upper : List ℕ} {x : ℕ → ℕ} {w : ℕ} (loads : List Load
         sums-between _ _ _ w (length loads)
         (λ j h. counted-between (takesPart (getD loads j zeroLoad)) (times (getD loads j zeroLoad .minutes) (loss-of j h)))
 
-  module _ (some : 0 < customersSum loads) where
-    pub saifi-encloses : EnclosesPerCustomer (figuresOf lower upper loads .saifi) (lossSum sustained) x w loads
+  module _ (some : 0 < customers) where
+    pub saifi-encloses : EnclosesPerCustomer (figuresOf customers lower upper loads .saifi) customers (lossSum sustained) x w loads
     unfolding figuresOf
-    saifi-encloses = over-exact (customersSum loads) some (enclosed .whole) (loss-between sustained)
+    saifi-encloses = over-exact customers some (enclosed .whole) (loss-between sustained)
 
-    pub saidi-encloses : EnclosesPerCustomer (figuresOf lower upper loads .saidi) (minutesSum sustained) x w loads
+    pub saidi-encloses : EnclosesPerCustomer (figuresOf customers lower upper loads .saidi) customers (minutesSum sustained) x w loads
     unfolding figuresOf
-    saidi-encloses = over-exact (customersSum loads) some (enclosed .whole) (minutes-between sustained)
+    saidi-encloses = over-exact customers some (enclosed .whole) (minutes-between sustained)
 
-    pub maifi-encloses : EnclosesPerCustomer (figuresOf lower upper loads .maifi) (lossSum short) x w loads
+    pub maifi-encloses : EnclosesPerCustomer (figuresOf customers lower upper loads .maifi) customers (lossSum short) x w loads
     unfolding figuresOf
-    maifi-encloses = over-exact (customersSum loads) some (enclosed .whole) (loss-between short)
+    maifi-encloses = over-exact customers some (enclosed .whole) (loss-between short)
 
-  pub caidi-encloses : EnclosesPerInterruption (figuresOf lower upper loads .caidi) sustained x loads
+  pub caidi-encloses : EnclosesPerInterruption (figuresOf customers lower upper loads .caidi) sustained x loads
   unfolding figuresOf
   caidi-encloses bounds stated =
       subst (λ (b : Enclosure). Encloses b (minutesSum sustained x loads) (lossSum sustained x loads)) (stated-bounds _ _ _ _ stated)

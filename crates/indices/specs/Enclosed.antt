@@ -9,7 +9,7 @@ use Rattle.study.specs.declared.Load.{Load}
 use Rattle.answers.specs.declared.bounds.Enclosure.{Enclosure}
 use Rattle.answers.specs.declared.figures.Caidi.{Caidi}
 use Rattle.answers.specs.declared.figures.Caidi.the-variants.{Bounds}
-use Rattle.indices.specs.Figures.{customersSum, lossSum, minutesSum, boundOf}
+use Rattle.indices.specs.Figures.{lossSum, minutesSum, boundOf}
 
 -- the quotient a / b has a divisor, and lies between two bounds, written without division
 pub record Encloses (bounds : Enclosure) (a b : ℕ) : Type 0 where
@@ -23,9 +23,9 @@ pub record LossesEnclosed (lower upper : List ℕ) (x : ℕ → ℕ) (w n : ℕ)
   pub below : (j : ℕ) → j < n → boundOf lower j * w ≤ one * x j
   pub above : (j : ℕ) → j < n → one * x j ≤ boundOf upper j * w
 
--- two bounds, in billionths, enclose a sum over P for each customer served
-abbrev pub EnclosesPerCustomer : Enclosure → ((ℕ → ℕ) → List Load → ℕ) → (ℕ → ℕ) → ℕ → List Load → Type 0
-EnclosesPerCustomer bounds sumOf x w loads = Encloses bounds (one * sumOf x loads) (w * customersSum loads)
+-- two bounds, in billionths, enclose a sum over P for each of the customers served
+abbrev pub EnclosesPerCustomer : Enclosure → ℕ → ((ℕ → ℕ) → List Load → ℕ) → (ℕ → ℕ) → ℕ → List Load → Type 0
+EnclosesPerCustomer bounds customers sumOf x w loads = Encloses bounds (one * sumOf x loads) (w * customers)
 
 -- two bounds in whole minutes, where they are stated, enclose the minutes for each customer interrupted, over the loads that take part
 abbrev pub EnclosesPerInterruption : Caidi → (Load → Bool) → (ℕ → ℕ) → List Load → Type 0

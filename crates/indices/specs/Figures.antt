@@ -61,10 +61,10 @@ boundOf losses j = getD losses j 0
 abbrev pub quotients : ℕ → ℕ → ℕ → ℕ → Enclosure
 quotients low lowDivisor high highDivisor = record { lower = quotientDown low lowDivisor; upper = quotientUp high highDivisor }
 
--- a sum over P for each customer served, from lower and upper bounds for P
-abbrev pub perCustomer : ((ℕ → ℕ) → List Load → ℕ) → List ℕ → List ℕ → List Load → Enclosure
-perCustomer sumOf lower upper loads =
-    quotients (sumOf (boundOf lower) loads) (customersSum loads) (sumOf (boundOf upper) loads) (customersSum loads)
+-- a sum over P for each of the customers served, from lower and upper bounds for P
+abbrev pub perCustomer : ℕ → ((ℕ → ℕ) → List Load → ℕ) → List ℕ → List ℕ → List Load → Enclosure
+perCustomer customers sumOf lower upper loads =
+    quotients (sumOf (boundOf lower) loads) customers (sumOf (boundOf upper) loads) customers
 
 -- CAIDI from lower and upper sums of P × C and of P × C × M. Its lower bound divides by the upper sum of P × C, its upper by the lower sum; it is not
 -- stated when that is 0
@@ -77,13 +77,13 @@ perInterruption takesPart lower upper loads =
     caidi (lossSum takesPart (boundOf lower) loads) (lossSum takesPart (boundOf upper) loads) (minutesSum takesPart (boundOf lower) loads)
     (minutesSum takesPart (boundOf upper) loads)
 
--- the figures from lower and upper bounds for the loss of each load
-unfoldable pub figuresOf : List ℕ → List ℕ → List Load → Figures
-unfolding short sustained customersSum lossSum minutesSum caidi
-figuresOf lower upper loads =
+-- the figures from the customers served, and lower and upper bounds for the loss of each load
+unfoldable pub figuresOf : ℕ → List ℕ → List ℕ → List Load → Figures
+unfolding short sustained lossSum minutesSum caidi
+figuresOf customers lower upper loads =
     record {
-      saifi = perCustomer (lossSum sustained) lower upper loads;
-      saidi = perCustomer (minutesSum sustained) lower upper loads;
+      saifi = perCustomer customers (lossSum sustained) lower upper loads;
+      saidi = perCustomer customers (minutesSum sustained) lower upper loads;
       caidi = perInterruption sustained lower upper loads;
-      maifi = perCustomer (lossSum short) lower upper loads;
+      maifi = perCustomer customers (lossSum short) lower upper loads;
     }

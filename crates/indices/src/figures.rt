@@ -1,6 +1,5 @@
 // SAIFI, SAIDI, CAIDI and MAIFI.
 use crate::sums::Sums;
-use crate::sums::customers_sum;
 use crate::sums::sums_of;
 use answers::Caidi;
 use answers::Enclosure;
@@ -12,9 +11,9 @@ use units::quotient_up;
 ghost use Prim.Native.Nat.{_<_, _≤_};
 ghost use mathlib.Core.Path.{_≡_};
 ghost use lib.ListN.{take};
-ghost use Rattle.rules.specs.Limits.{mostLoads};
+ghost use Rattle.rules.specs.Limits.{mostLoads, mostServed};
 ghost use Rattle.model.specs.Good.{Sizes};
-ghost use Rattle.indices.specs.Figures.{customersSum, quotients as Figures·quotients, caidi, figuresOf};
+ghost use Rattle.indices.specs.Figures.{quotients as Figures·quotients, caidi, figuresOf};
 ghost use Rattle.indices.specs.Losses.{LossBounds};
 ghost use Rattle.indices.specs.Sums.{mostLoss, mostLossMinutes, SumsFit};
 
@@ -45,8 +44,9 @@ fn caidi_of(low: Sums, high: Sums) -> Caidi
     Caidi::Bounds(quotients(low.minutes, high.loss, high.minutes, low.loss))
 }
 
-// The figures of n loads, from lower and upper bounds for the loss of each.
+// The figures of n loads, from the customers served, and lower and upper bounds for the loss of each load.
 pub fn figures_of(
+    customers: u64,
     lower: [u64; LOAD_PLACES],
     upper: [u64; LOAD_PLACES],
     load: [Load; LOAD_PLACES],
@@ -55,10 +55,10 @@ pub fn figures_of(
     requires { ⌜ n ≤ mostLoads ⌝ }
     requires { ⌜ Sizes (take n load) ⌝ }
     requires { ⌜ LossBounds lower upper n ⌝ }
-    requires { ⌜ 0 < customersSum (take n load) ⌝ }
-    ensures { λ r. ⌜ r ≡ figuresOf lower upper (take n load) ⌝ }
+    requires { ⌜ 0 < customers ⌝ }
+    requires { ⌜ customers ≤ mostServed ⌝ }
+    ensures { λ r. ⌜ r ≡ figuresOf customers lower upper (take n load) ⌝ }
 {
-    let customers = customers_sum(load, n);
     let low = sums_of(lower, load, n);
     let high = sums_of(upper, load, n);
     let caidi = caidi_of(low, high);
