@@ -13,12 +13,13 @@ use Rattle.evaluation.specs.Bounds.{loadLowers, loadUppers}
 
 -- the figures from bounds for the loss of each load, or 19
 unfoldable pub figuresBy : List ℕ → List ℕ → List Load → FiguresAnswer
-unfolding answered figuresOf
-figuresBy lower upper loads = answered Refused (customersFault (customersSum loads)) (Figures (figuresOf lower upper loads))
+unfolding answered figuresOf customersSum
+figuresBy lower upper loads =
+    answered Refused (customersFault (customersSum loads)) (Figures (figuresOf (customersSum loads) lower upper loads))
 
 -- the figures of a model from the bounds of its loads
 abbrev pub modelFigures : Model → FigureValues
-modelFigures m = figuresOf (loadLowers m) (loadUppers m) (m .loads)
+modelFigures m = figuresOf (customersSum (m .loads)) (loadLowers m) (loadUppers m) (m .loads)
 
 -- those, or 19
 abbrev pub figuresIn : Model → FiguresAnswer

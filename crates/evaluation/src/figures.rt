@@ -24,13 +24,14 @@ pub fn figures_from(losses: Losses, model: HeldModel) -> FiguresAnswer
     ensures { λ r. ⌜ r ≡ figuresBy (losses .lower) (losses .upper) (take (model .loads) (model .load)) ⌝ }
 {
     let load = model.load;
-    let fault = customers_fault(customers_sum(load, model.loads));
+    let customers = customers_sum(load, model.loads);
+    let fault = customers_fault(customers);
     if fault != 0 {
         return FiguresAnswer::Refused(fault);
     }
     let lower = losses.lower;
     let upper = losses.upper;
-    FiguresAnswer::Figures(figures_of(lower, upper, load, model.loads))
+    FiguresAnswer::Figures(figures_of(customers, lower, upper, load, model.loads))
 }
 
 // The figures of a model. Refused by 19.
