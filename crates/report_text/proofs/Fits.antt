@@ -26,11 +26,11 @@ use Rattle.model.proofs.Listing.{paths-few}
 use Rattle.model.proofs.Paths.{each-entry}
 use Rattle.probability.specs.Bounds.{total}
 use Rattle.probability.proofs.Most.{total-most}
-use Rattle.indices.specs.Figures.{customersSum, figuresOf}
+use Rattle.indices.specs.Figures.{customersSum}
 use Rattle.indices.specs.Losses.{LossBounds}
 use Rattle.indices.proofs.Ordering.{lower-most}
 use Rattle.evaluation.specs.Bounds.{lowerOf, upperOf, classLowers, classUppers, loadLowers, loadUppers}
-use Rattle.evaluation.specs.Figures.{figuresBy}
+use Rattle.evaluation.specs.Figures.{figuresBy, modelFigures}
 use Rattle.evaluation.proofs.Bounding.{model-table}
 use Rattle.evaluation.proofs.LossOrder.{model-losses, fewer-losses}
 use Rattle.report_lines.specs.Classes.{classesBorne}
@@ -91,7 +91,7 @@ module _ (m : Model) (good : Good m) (classes : (x : List ℕ) → m .class x < 
   unfolding figureLines figuresBy refuse answered
   figures-short = go (eqb (customersSum (m .loads)) 0)
     where
-      go : (b : Bool) → length (figureLines (answered Refused (refuse 19 b) (Figures (figuresOf (loadLowers m) (loadUppers m) (m .loads))))) ≤ 192
+      go : (b : Bool) → length (figureLines (answered Refused (refuse 19 b) (Figures (modelFigures m)))) ≤ 192
       go true = omega (arith, number-short 2 (omega arith) (letters "INDICES") 19 (omega arith))
       go false = model-figures-short (m .loads) (good .loads) _ _ losses
 

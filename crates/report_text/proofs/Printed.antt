@@ -10,7 +10,7 @@ use Rattle.units.specs.Rounding.{quotientDown, quotientUp}
 use Rattle.study.specs.declared.Load.{Load}
 use Rattle.answers.specs.declared.figures.Caidi.the-variants.{Bounds, NotStated}
 use Rattle.model.specs.Good.{Sizes}
-use Rattle.indices.specs.Figures.{lossSum, minutesSum, boundOf, quotients, perCustomer, caidi, perInterruption, figuresOf}
+use Rattle.indices.specs.Figures.{customersSum, lossSum, minutesSum, boundOf, quotients, perCustomer, caidi, perInterruption, figuresOf}
 use Rattle.indices.specs.Losses.{AtMostOne, LossBounds}
 use Rattle.indices.specs.Parts.{short, sustained}
 use Rattle.indices.proofs.Most.{customers-few, loss-few, minutes-few}
@@ -38,12 +38,12 @@ module _ (loads : List Load) (sizes : Sizes loads) (lower upper : List ℕ) (bou
   low = lower-most bounds
 
   -- SAIFI and MAIFI, over the loads that take part in them
-  loss-printable : (takesPart : Load → Bool) → Printable (perCustomer (lossSum takesPart) lower upper loads)
+  loss-printable : (takesPart : Load → Bool) → Printable (perCustomer (customersSum loads) (lossSum takesPart) lower upper loads)
   loss-printable takesPart =
       quotients-printable _ _ _ _ (omega (arith, loss-few takesPart loads low sizes))
       (omega (arith, loss-few takesPart loads (bounds .uppers) sizes, customers-few loads sizes))
 
-  saidi-printable : Printable (perCustomer (minutesSum sustained) lower upper loads)
+  saidi-printable : Printable (perCustomer (customersSum loads) (minutesSum sustained) lower upper loads)
   saidi-printable =
       quotients-printable _ _ _ _ (omega (arith, minutes-few sustained loads low sizes))
       (omega (arith, minutes-few sustained loads (bounds .uppers) sizes, customers-few loads sizes))
@@ -54,6 +54,7 @@ module _ (loads : List Load) (sizes : Sizes loads) (lower upper : List ℕ) (bou
       (minutesSum sustained (boundOf upper) loads) (omega (arith, minutes-few sustained loads low sizes))
       (omega (arith, minutes-few sustained loads (bounds .uppers) sizes, loss-few sustained loads low sizes))
 
-  pub model-figures-short : length (allFigures (figuresOf lower upper loads)) ≤ 192
+  pub model-figures-short : length (allFigures (figuresOf (customersSum loads) lower upper loads)) ≤ 192
   unfolding figuresOf
-  model-figures-short = figures-short (figuresOf lower upper loads) (loss-printable sustained) saidi-printable caidi-printable (loss-printable short)
+  model-figures-short =
+      figures-short (figuresOf (customersSum loads) lower upper loads) (loss-printable sustained) saidi-printable caidi-printable (loss-printable short)
