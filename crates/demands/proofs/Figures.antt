@@ -41,10 +41,10 @@ losses-enclosed m good =
 pub model-figures-enclose : ModelFiguresEnclose
 model-figures-enclose m good customers =
     record {
-      saifi-encloses = saifi-encloses (m .loads) (losses-enclosed m good) customers;
-      saidi-encloses = saidi-encloses (m .loads) (losses-enclosed m good) customers;
-      caidi-encloses = caidi-encloses (m .loads) (losses-enclosed m good);
-      maifi-encloses = maifi-encloses (m .loads) (losses-enclosed m good) customers;
+      saifi-encloses = saifi-encloses _ (m .loads) (losses-enclosed m good) customers;
+      saidi-encloses = saidi-encloses _ (m .loads) (losses-enclosed m good) customers;
+      caidi-encloses = caidi-encloses _ (m .loads) (losses-enclosed m good);
+      maifi-encloses = maifi-encloses _ (m .loads) (losses-enclosed m good) customers;
     }
 
 pub short-by-minutes : ShortByMinutes

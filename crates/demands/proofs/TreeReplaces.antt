@@ -79,7 +79,7 @@ module _ (t u : Study) (first : Sound t) (second : Sound u) (alike : AlikeButGat
       ∙ values
       (λ s c l p q.
       answered NoFigures (breach s c l (customersFault (customersSum (map bare (loadsOf u)))))
-      (Figures (figuresOf (lowerLoads p (length c) q) (upperLoads p (length c) q) (map bare (loadsOf u)))))
+      (Figures (figuresOf (customersSum (map bare (loadsOf u))) (lowerLoads p (length c) q) (upperLoads p (length c) q) (map bare (loadsOf u)))))
       ∙ bare-figures u
     where
       given : Study → List Load → FiguresAnswer
@@ -88,10 +88,10 @@ module _ (t u : Study) (first : Sound t) (second : Sound u) (alike : AlikeButGat
           let q = pathsOf (modelOf (byTree tree) w) in
           let n = length (stateCounts w) in
           answered NoFigures (breach (sound w) (stateCounts w) (w .loads) (customersFault (customersSum loads)))
-          (Figures (figuresOf (lowerLoads p n q) (upperLoads p n q) loads))
+          (Figures (figuresOf (customersSum loads) (lowerLoads p n q) (upperLoads p n q) loads))
 
       bare-figures : (w : Study) → given w (map bare (loadsOf w)) ≡ given w (loadsOf w)
-      bare-figures w = rw (customers-bare (loadsOf w), figures-bare _ _ (loadsOf w)) refl
+      bare-figures w = rw (customers-bare (loadsOf w), figures-bare _ _ _ (loadsOf w)) refl
 
   same-told : (q : Question) → callTold (ask (byTree tree) q) t ≡ callTold (ask (byTree tree) q) u
   unfolding pathsListed listFault pathsBounded classesBounded pairBreach loadBounded lossFault modelOf

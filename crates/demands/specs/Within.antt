@@ -10,6 +10,7 @@ use Rattle.lists.specs.Bits.{bit}
 use Rattle.units.specs.Within.{Within}
 use Rattle.study.specs.declared.Load.{Load}
 use Rattle.study.specs.Absent.{absentLoad}
+use Rattle.answers.specs.declared.bounds.Enclosure.{Enclosure}
 use Rattle.answers.specs.declared.figures.Figures.{Figures}
 use Rattle.entries.specs.Entries.{classPlaces}
 use Rattle.paths.specs.Words.{fits}
@@ -53,14 +54,18 @@ exactLost m j = exactOf m (λ (x : List ℕ). bit (m .class x) j)
 abbrev pub LossWithin : Model → ℕ → ℕ → ℕ → Type 0
 LossWithin m j lower upper = LossesWithinOf m j lower upper (exactLost m j)
 
+-- Two bounds enclose a sum over the exact probabilities for each customer served: those of all loads are.
+abbrev pub EnclosesPerServed : Model → Enclosure → ((ℕ → ℕ) → List Load → ℕ) → Type 0
+EnclosesPerServed m bounds sumOf =
+    EnclosesPerCustomer bounds (customersSum (m .loads)) sumOf (exactLost m) (wholeOf m) (m .loads)
+
 -- Figures enclose the quotients of the published formulas, over the exact probabilities: SAIFI, SAIDI and, wherever
--- it is stated, CAIDI over the loads with more than five minutes to restore, MAIFI over the short ones. The customers
--- of all loads are served.
+-- it is stated, CAIDI over the loads with more than five minutes to restore, MAIFI over the short ones.
 pub record FiguresEnclose (m : Model) (figures : Figures) : Type 0 where
-  pub saifi-encloses : EnclosesPerCustomer (figures .saifi) (lossSum sustained) (exactLost m) (wholeOf m) (m .loads)
-  pub saidi-encloses : EnclosesPerCustomer (figures .saidi) (minutesSum sustained) (exactLost m) (wholeOf m) (m .loads)
+  pub saifi-encloses : EnclosesPerServed m (figures .saifi) (lossSum sustained)
+  pub saidi-encloses : EnclosesPerServed m (figures .saidi) (minutesSum sustained)
   pub caidi-encloses : EnclosesPerInterruption (figures .caidi) sustained (exactLost m) (m .loads)
-  pub maifi-encloses : EnclosesPerCustomer (figures .maifi) (lossSum short) (exactLost m) (wholeOf m) (m .loads)
+  pub maifi-encloses : EnclosesPerServed m (figures .maifi) (lossSum short)
 
 -- A load is short by its restore time alone: five minutes or less, and so where none is stated.
 pub record ShortByMinutes : Type 0 where
