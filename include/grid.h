@@ -31,7 +31,7 @@
 /* Room for the word of any refusal. */
 #define GRID_WORD_BYTES 12
 
-/* The places that class bounds need in each slice. */
+/* The places that class bounds, and a report beside its text, need in each slice. */
 #define GRID_CLASS_PLACES 256
 
 /* A lower and an upper bound. */
@@ -126,9 +126,11 @@ int64_t grid_survival(uint32_t fit, uint32_t hours, uint64_t *survival_lower, ui
 /* How many loads are lost in a class: the ones of its byte. */
 int64_t grid_loads_lost(uint8_t class_);
 
-/* Writes the report of the bytes of a study; a study that does not open has a report of one line. Answers its number of bytes.
- * Refused by 18 alone. */
-int64_t grid_report(const uint8_t *bytes, size_t bytes_len, uint8_t *text, size_t text_len);
+/* Writes the report of the bytes of a study at the front of `text`, and the bounds of each class at places 0 to 255 of both slices, as
+ * `grid_class_bounds` does for the opened study. A study that does not open has a report of one line, and the slices, which may then be empty, are
+ * not looked at. Answers the number of bytes of the report. Refused by 18 alone, for the text, then for the slices. */
+int64_t grid_report(const uint8_t *bytes, size_t bytes_len, uint8_t *text, size_t text_len, uint64_t *lower, size_t lower_len,
+                    uint64_t *upper, size_t upper_len);
 
 /* Writes the word of a refusal, with no 0 behind it. Answers its number of bytes: 0 for a number that the table lacks. Refused by 18 alone. */
 int64_t grid_refusal_word(uint8_t number, uint8_t *text, size_t text_len);

@@ -110,7 +110,7 @@ static int64_t call_drawn_figures(void)
 
 static int64_t call_report(void)
 {
-    return grid_report(bytes, bytes_len, text, sizeof text);
+    return grid_report(bytes, bytes_len, text, sizeof text, lower, GRID_CLASS_PLACES, upper, GRID_CLASS_PLACES);
 }
 
 /* A call with all that is handed to it, and the bytes of stack that it may need. */

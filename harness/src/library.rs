@@ -12,7 +12,7 @@ pub const LIST_BYTES: usize = 53_248;
 /// Room for any report.
 pub const REPORT_BYTES: usize = 180_224;
 
-/// The places that class bounds need in each slice.
+/// The places that class bounds, and a report beside its text, need in each slice.
 pub const CLASS_PLACES: usize = 256;
 
 /// A lower and an upper bound.
@@ -157,7 +157,16 @@ extern "C" {
         failure_upper: *mut u64,
     ) -> i64;
     fn grid_loads_lost(class: u8) -> i64;
-    fn grid_report(bytes: *const u8, size: usize, text: *mut u8, room: usize) -> i64;
+    fn grid_report(
+        bytes: *const u8,
+        size: usize,
+        text: *mut u8,
+        room: usize,
+        lower: *mut u64,
+        lower_room: usize,
+        upper: *mut u64,
+        upper_room: usize,
+    ) -> i64;
     fn grid_refusal_word(number: u8, text: *mut u8, room: usize) -> i64;
 }
 
@@ -386,9 +395,25 @@ pub fn loads_lost(class: u8) -> Answer<usize> {
     answer(unsafe { grid_loads_lost(class) })
 }
 
-/// Writes the report of a study's bytes, and answers its length. Refused by 18.
-pub fn report(bytes: &[u8], text: &mut [u8]) -> Answer<usize> {
-    answer(unsafe { grid_report(bytes.as_ptr(), bytes.len(), text.as_mut_ptr(), text.len()) })
+/// Writes the report of a study's bytes, and where it opens the bounds of each class at places 0 to 255; answers the length of the report. Refused by 18.
+pub fn report(
+    bytes: &[u8],
+    text: &mut [u8],
+    lower: &mut [u64],
+    upper: &mut [u64],
+) -> Answer<usize> {
+    answer(unsafe {
+        grid_report(
+            bytes.as_ptr(),
+            bytes.len(),
+            text.as_mut_ptr(),
+            text.len(),
+            lower.as_mut_ptr(),
+            lower.len(),
+            upper.as_mut_ptr(),
+            upper.len(),
+        )
+    })
 }
 
 /// Writes the word of a refusal, and answers its length, 0 for a number that the table lacks. Refused by 18.

@@ -46,6 +46,12 @@ fn compare_rooms(calls: [Call; 2], given: &[u8], most: usize) {
     }
 }
 
+/// The second implementation's report. The port is lent no slices, so what these hold is not compared.
+fn second_report(bytes: &[u8], text: &mut [u8]) -> Answer {
+    let [mut lower, mut upper] = [[LENT_NUMBER; CLASS_PLACES]; 2];
+    reference::report(bytes, text, &mut lower, &mut upper)
+}
+
 /// A call for bounds of classes.
 type Bounding<'a> = &'a dyn Fn(&mut [u64], &mut [u64]) -> Answer;
 
@@ -109,7 +115,7 @@ fn port_agrees() {
     for seed in 1_000_000..1_002_000 {
         let random = &mut Random::new(seed);
         let bytes = generate::input(random);
-        compare_rooms([port::report, reference::report], &bytes, REPORT_BYTES);
+        compare_rooms([port::report, second_report], &bytes, REPORT_BYTES);
         compare([port::open, reference::open], &bytes, STUDY_BYTES - 1);
         let opened = compare([port::open, reference::open], &bytes, STUDY_BYTES);
         compare_questions(&opened.lent);

@@ -1,6 +1,6 @@
 //! Opened studies written out as bytes: what is written, worked out by hand, and studies that save alike.
 use harness::generate::{self, twins, Random};
-use harness::library::{self, LONGEST_STUDY, REPORT_BYTES, STUDY_BYTES};
+use harness::library::{self, CLASS_PLACES, LONGEST_STUDY, REPORT_BYTES, STUDY_BYTES};
 use harness::reference::calls as reference;
 use harness::reference::image::read_in_any_order;
 use harness::studies::{self, from_hexadecimal, to_hexadecimal, Written, CASE_A};
@@ -140,11 +140,13 @@ fn studies_open_to_what_was_saved() {
     assert_eq!(longest, LONGEST_STUDY);
 }
 
-fn report_of(bytes: &[u8]) -> Vec<u8> {
-    let mut text = vec![0; REPORT_BYTES];
-    let size = library::report(bytes, &mut text).expect("room for any report");
+/// The report, and the bounds of classes beside it.
+fn report_of(bytes: &[u8]) -> (Vec<u8>, [[u64; CLASS_PLACES]; 2]) {
+    let (mut text, mut bounds) = (vec![0; REPORT_BYTES], [[0; CLASS_PLACES]; 2]);
+    let [lower, upper] = &mut bounds;
+    let size = library::report(bytes, &mut text, lower, upper).expect("room for any report");
     text.truncate(size);
-    text
+    (text, bounds)
 }
 
 #[test]
@@ -154,7 +156,7 @@ fn studies_that_differ_in_order_save_alike() {
         let [study, twin] = twins(&mut Random::new(seed));
         let image = image_of(&study);
         assert_eq!(image_of(&twin), image, "seed {seed}");
-        // A gate's truth, and with it every line of the report, does not change by the order.
+        // A gate's truth, and with it every line of the report and every class, does not change by the order.
         assert_eq!(report_of(&study), report_of(&twin), "seed {seed}");
         assert!(written(&image).len() <= study.len(), "seed {seed}");
         different += usize::from(study != twin);

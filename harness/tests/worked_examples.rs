@@ -1,6 +1,6 @@
 //! The worked examples and the places where opening is easily got wrong, with answers worked out by hand.
 use harness::generate::{self, Random};
-use harness::library::{self, Answer, Figures, STUDY_BYTES};
+use harness::library::{self, Answer, Figures, CLASS_PLACES, STUDY_BYTES};
 use harness::reference::{calls as reference, report};
 use harness::studies::{from_hexadecimal, CASE_A};
 
@@ -9,7 +9,9 @@ fn report_of(study: &str) -> String {
     let bytes = from_hexadecimal(study);
     let due = report::report(&bytes);
     let mut text = vec![0; due.len()];
-    assert_eq!(library::report(&bytes, &mut text), Ok(due.len()), "{study}");
+    let [mut lower, mut upper] = [[0; CLASS_PLACES]; 2];
+    let answer = library::report(&bytes, &mut text, &mut lower, &mut upper);
+    assert_eq!(answer, Ok(due.len()), "{study}");
     assert_eq!(String::from_utf8_lossy(&text), due, "{study}");
     due
 }

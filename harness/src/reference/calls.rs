@@ -97,16 +97,10 @@ pub fn path_bounds(
     Ok(list.len())
 }
 
-pub fn class_bounds(
-    image: &[u8],
-    tree: Option<&[u8]>,
-    lower: &mut [u64],
-    upper: &mut [u64],
-) -> Answer {
-    let study = sound(image)?;
-    let meaning = Meaning::of(&study, tree)?;
+/// The bounds of all classes, each at its place, or nothing.
+fn fill_classes(study: &Study, meaning: &Meaning, lower: &mut [u64], upper: &mut [u64]) -> Answer {
     unless(lower.len().min(upper.len()) >= 256, NO_ROOM)?;
-    let occurring = by_class(&bounded_paths(&study, &meaning));
+    let occurring = by_class(&bounded_paths(study, meaning));
     for class in 0..=255u8 {
         let none = Bounds { lower: 0, upper: 0 };
         let bounds = occurring.get(&class).unwrap_or(&none);
@@ -114,6 +108,16 @@ pub fn class_bounds(
         upper[usize::from(class)] = bounds.upper;
     }
     Ok(0)
+}
+
+pub fn class_bounds(
+    image: &[u8],
+    tree: Option<&[u8]>,
+    lower: &mut [u64],
+    upper: &mut [u64],
+) -> Answer {
+    let study = sound(image)?;
+    fill_classes(&study, &Meaning::of(&study, tree)?, lower, upper)
 }
 
 pub fn load_bounds(
@@ -149,8 +153,14 @@ pub fn loads_lost(class: u8) -> Answer {
     Ok((0..8).filter(|load| class & (1 << load) != 0).count())
 }
 
-pub fn report(bytes: &[u8], text: &mut [u8]) -> Answer {
-    hand_over(report_of(bytes).as_bytes(), text)
+/// A study that does not open has no classes: the slices are left as they are, however short.
+pub fn report(bytes: &[u8], text: &mut [u8], lower: &mut [u64], upper: &mut [u64]) -> Answer {
+    let whole = report_of(bytes);
+    unless(text.len() >= whole.len(), NO_ROOM)?;
+    if let Ok(study) = opening::open(bytes) {
+        fill_classes(&study, &Meaning::Gates, lower, upper)?;
+    }
+    hand_over(whole.as_bytes(), text)
 }
 
 pub fn refusal_word(number: u8, text: &mut [u8]) -> Answer {

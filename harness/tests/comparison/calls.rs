@@ -68,6 +68,7 @@ impl Call {
             Drawn(Figures) => &[16, 20, 21, 22, 19],
             Survival => &[23],
             LoadsLost => &[],
+            // 18 of a report where the text is too short, or a slice beside it.
             Report | RefusalWord => &[18],
         }
     }

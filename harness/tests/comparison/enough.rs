@@ -53,5 +53,6 @@ pub fn assert_enough(tally: &Tally) {
         let refused = format!("full slices, refused by {number}");
         often(tally.in_full.refused_by(number), &refused);
     }
+    often(tally.reports.least(), "reports by what they are lent");
     often(tally.drawn_gates, "trees drawn from gates");
 }

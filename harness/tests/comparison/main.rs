@@ -8,6 +8,7 @@ mod lent;
 mod orders;
 mod pair;
 mod repeats;
+mod reports;
 mod shown;
 mod survival;
 mod tally;

@@ -1,6 +1,7 @@
 //! One input under both implementations: each call is made twice on equal space, and everything must be alike afterwards.
 mod classes;
 mod drawn;
+mod reports;
 mod saving;
 
 use crate::calls::{Call, Question};
@@ -11,7 +12,7 @@ use harness::asked::Asked;
 use harness::generate::{self, Random};
 use harness::library::{self, STUDY_BYTES};
 use harness::reference::calls as reference;
-use harness::reference::{opening, report};
+use harness::reference::opening;
 use harness::studies::to_hexadecimal;
 use std::fmt::Debug;
 
@@ -117,20 +118,6 @@ impl<'a> Pair<'a> {
             return vec![0; STUDY_BYTES];
         }
         image
-    }
-
-    pub fn report(&mut self, random: &mut Random) {
-        let bytes = self.bytes;
-        let need = report::report(bytes).len();
-        for room in [room(random, need), need] {
-            self.compare(
-                Call::Report,
-                &format!("into {room} bytes"),
-                Lent::bytes(random, room),
-                |lent| library::report(bytes, lent.room()),
-                |lent| reference::report(bytes, lent.room()),
-            );
-        }
     }
 
     /// An edit, and the image that it leaves.

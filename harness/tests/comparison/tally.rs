@@ -3,6 +3,7 @@ use crate::answers::{Answers, Calls};
 use crate::calls::Call;
 use crate::orders::{has_falling, Disorder};
 use crate::repeats::{is_overvoted, is_overvoted_alone, Repeats};
+use crate::reports::Reports;
 use harness::library::Figures;
 use harness::reference::image;
 use harness::reference::refusals::THRESHOLD;
@@ -30,6 +31,8 @@ pub struct Tally {
     pub disordered: Disorder,
     /// Bounds of classes in slices full of the largest number.
     pub in_full: Answers,
+    /// Reports, by what was lent for them.
+    pub reports: Reports,
     /// Trees drawn from gates, of which the library said what it said of the gates.
     pub drawn_gates: usize,
 }
@@ -104,6 +107,7 @@ impl fmt::Display for Tally {
             self.in_full.refused_by(16),
             self.in_full.refused_by(18)
         )?;
+        writeln!(line, "reports refused {}", self.reports)?;
         writeln!(
             line,
             "{} times a chance of surviving that keeps what is promised",

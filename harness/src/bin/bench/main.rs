@@ -5,6 +5,7 @@ mod timing;
 use harness::library::{self, Chances, CLASS_PLACES, LONGEST_STUDY, REPORT_BYTES, STUDY_BYTES};
 use harness::port;
 use inputs::{Drawn, Input};
+use std::cell::RefCell;
 use timing::{side_by_side, Answer, Call, Times};
 
 /// The load whose bounds are timed; every study has it.
@@ -42,8 +43,18 @@ fn print_row(input: &Input, times: Option<Times>) {
     print_row_of(input, input.bytes.len(), times);
 }
 
+thread_local! {
+    /// The slices that the library is lent for the bounds of classes beside a report; the port has its own.
+    static SLICES: RefCell<[[u64; CLASS_PLACES]; 2]> = const { RefCell::new([[0; CLASS_PLACES]; 2]) };
+}
+
+/// Asks for a report beside slices that are not cleared between calls.
+fn beside_slices(bytes: &[u8], text: &mut [u8]) -> Answer {
+    SLICES.with_borrow_mut(|[lower, upper]| library::report(bytes, text, lower, upper))
+}
+
 fn report(input: &Input) {
-    let calls: [Call<u8>; 2] = [library::report, port::report];
+    let calls: [Call<u8>; 2] = [beside_slices, port::report];
     print_row(input, side_by_side(calls, &input.bytes, REPORT_BYTES));
 }
 
@@ -146,7 +157,7 @@ fn main() {
         timing::BATCHES
     );
     println!(
-        "The lent buffer is not cleared between calls; each call clears the buffers it works on."
+        "What is lent is not cleared between calls; each call clears the buffers it works on."
     );
     let studies = inputs::studies();
     print_head("Reports");

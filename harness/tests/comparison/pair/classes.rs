@@ -9,7 +9,7 @@ use harness::library::CLASS_PLACES;
 use harness::reference::calls as reference;
 
 /// No bound is as large.
-const LARGEST: u64 = u64::MAX;
+pub const LARGEST: u64 = u64::MAX;
 
 /// Places for the bounds of any study, and one behind them in the slice for upper ones.
 const ENOUGH: [usize; 2] = [CLASS_PLACES, CLASS_PLACES + 1];
