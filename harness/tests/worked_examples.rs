@@ -4,6 +4,10 @@ use harness::library::{self, Answer, Figures, CLASS_PLACES, STUDY_BYTES};
 use harness::reference::{calls as reference, report};
 use harness::studies::{from_hexadecimal, CASE_A};
 
+/// Two components that fail at a third, and one load, which is lost when both fail.
+const CASE_B: &str =
+    "02 01 01  02 5543DE13  02 5543DE13  03 02 02 0002 0102  07 00 01000000 3C000000";
+
 /// The report, on which both implementations must agree.
 fn report_of(study: &str) -> String {
     let bytes = from_hexadecimal(study);
@@ -50,19 +54,18 @@ fn a_two_in_series() {
 
 #[test]
 fn b_remainders() {
-    let study = "02 01 01  02 5543DE13  02 5543DE13  03 02 02 0002 0102  07 00 01000000 3C000000";
     let paths = [
         "0- 0 666666667 666666667",
         "10 0 222222222 222222223",
         "11 1 111111110 111111111",
     ];
-    assert_eq!(lines(study, "P "), paths);
+    assert_eq!(lines(CASE_B, "P "), paths);
     assert_eq!(
-        lines(study, "K "),
+        lines(CASE_B, "K "),
         ["0 888888889 888888890", "1 111111110 111111111"]
     );
     // The bounds of the loss differ, so 60 minutes are enclosed and not met.
-    assert_eq!(lines(study, "CAIDI "), ["59 61"]);
+    assert_eq!(lines(CASE_B, "CAIDI "), ["59 61"]);
 }
 
 #[test]
@@ -321,5 +324,46 @@ fn numbers_of_caidi_keep_what_they_held() {
             maifi: [280_000_000; 2].into(),
         };
         assert_eq!(figures, due);
+    }
+}
+
+#[test]
+fn reports_have_the_bounds_of_classes_beside_them() {
+    let (bytes, due) = (from_hexadecimal(CASE_B), report_of(CASE_B));
+    let size = due.len();
+    for report in [library::report, reference::report] {
+        let mut text = vec![0xA5; size + 1];
+        let [mut lower, mut upper] = [[7; CLASS_PLACES + 1]; 2];
+        let refused = [
+            report(&bytes, &mut text[..size - 1], &mut lower, &mut upper),
+            report(&bytes, &mut text, &mut lower[..255], &mut upper),
+            report(&bytes, &mut text, &mut lower, &mut upper[..255]),
+            report(&bytes, &mut text, &mut [], &mut []),
+        ];
+        assert_eq!(refused, [Err(18); 4]);
+        assert_eq!(text, vec![0xA5; size + 1]);
+        assert_eq!([lower, upper], [[7; CLASS_PLACES + 1]; 2]);
+        let answer = report(&bytes, &mut text, &mut lower, &mut upper);
+        assert_eq!(answer, Ok(size));
+        assert_eq!(text, [due.as_bytes(), &[0xA5]].concat());
+        let [mut lowers, mut uppers] = [[0; CLASS_PLACES + 1]; 2];
+        (lowers[0], lowers[1], lowers[256]) = (888_888_889, 111_111_110, 7);
+        (uppers[0], uppers[1], uppers[256]) = (888_888_890, 111_111_111, 7);
+        assert_eq!([lower, upper], [lowers, uppers]);
+    }
+}
+
+#[test]
+fn refused_studies_leave_slices_as_they_are() {
+    let due = b"REFUSED 1 short\n";
+    for report in [library::report, reference::report] {
+        let mut text = [0xA5; 17];
+        assert_eq!(report(&[], &mut text[..15], &mut [], &mut []), Err(18));
+        assert_eq!(text, [0xA5; 17]);
+        assert_eq!(report(&[], &mut text, &mut [], &mut []), Ok(16));
+        assert_eq!(text[..], [&due[..], &[0xA5]].concat());
+        let [mut lower, mut upper] = [[7; CLASS_PLACES]; 2];
+        assert_eq!(report(&[], &mut text, &mut lower, &mut upper), Ok(16));
+        assert_eq!([lower, upper], [[7; CLASS_PLACES]; 2]);
     }
 }
