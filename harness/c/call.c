@@ -1,5 +1,6 @@
 /* Calls the library from C: opens a study of two components, prints the loss of its load and its figures, what an edit and a study are refused by,
- * the paths, loss and SAIFI of a drawn tree, the chances from a rate and hours, and the bytes of the study once edited. */
+ * its report with the bounds of its classes, the paths, loss and SAIFI of a drawn tree, the chances from a rate and hours, and the bytes of the study
+ * once edited. */
 #include "grid.h"
 
 #include <inttypes.h>
@@ -36,6 +37,23 @@ static void print_refusal(int64_t answer)
 static void print_bounds(const char *name, struct grid_bounds bounds)
 {
     printf("%s %" PRIu64 " %" PRIu64 "\n", name, bounds.lower, bounds.upper);
+}
+
+/* Prints the report of the study and the bounds of classes 0 and 1 beside it, and what a report with a place too few for them is refused by. */
+static int print_report(void)
+{
+    static uint8_t text[GRID_REPORT_BYTES];
+    uint64_t lower[GRID_CLASS_PLACES];
+    uint64_t upper[GRID_CLASS_PLACES];
+    int64_t size = grid_report(bytes, sizeof bytes, text, sizeof text, lower, GRID_CLASS_PLACES, upper, GRID_CLASS_PLACES);
+
+    if (size < 0)
+        return 1;
+    printf("%.*s", (int)size, (const char *)text);
+    print_bounds("CLASS 0", (struct grid_bounds){lower[0], upper[0]});
+    print_bounds("CLASS 1", (struct grid_bounds){lower[1], upper[1]});
+    print_refusal(grid_report(bytes, sizeof bytes, text, sizeof text, lower, GRID_CLASS_PLACES, upper, GRID_CLASS_PLACES - 1));
+    return 0;
 }
 
 /* Prints the bounds for the chance that a component of 1,000 FIT fails within a year, and what a rate that is too high is refused by. */
@@ -110,6 +128,8 @@ int main(void)
     print_bounds("MAIFI", figures.maifi);
     print_refusal(grid_set_probabilities(study, sizeof study, 0, 1000000001, 0, 0));
     print_refusal(grid_open(bytes, sizeof bytes - 1, study, sizeof study));
+    if (print_report() != 0)
+        return 1;
     if (print_drawn(study, sizeof study) != 0)
         return 1;
     if (print_chances() != 0)
