@@ -15,9 +15,7 @@ use Rattle.rules.specs.Limits.{mostTests, mostGateInputs}
 use Rattle.study.specs.declared.Gate.{Gate}
 use Rattle.study.specs.Places.{ShapedGate}
 use Rattle.gate_order.specs.Inputs.{unmasked, testsOf, gateInputsOf, inputCount}
-use Rattle.gate_order.specs.Breach.{orderFault}
 use Rattle.gate_order.specs.Order.{InOrder, inOrder}
-use Rattle.gate_order.proofs.Checked.{order-none}
 use Rattle.gate_order.proofs.Rows.{written-long, tests-written, inputs-written, components-own, masks-own, inputs-own}
 
 -- a gate that has its places, and no more inputs than those
@@ -101,11 +99,6 @@ module _ (g : Gate) (shaped : ShapedGate g) where
             (omega (arith, gate-inputs-few, length-map (sorted (gateInputsOf g)) (λ (a : Input). a .number)))
             ∙ shaped .input;
       }
-
--- what counts them in order counts them
-pub counted-in-order : {g h : Gate} {n : ℕ} → h ≡ inOrder g → (orderFault h ≡ 0 → n ≡ inputCount h) → ShapedGate g → n ≡ inputCount g
-counted-in-order {g} {h} same counts shaped =
-    counts (order-none h (subst InOrder (sym same) (in-order-ordered g shaped))) ∙ ap inputCount same ∙ count-in-order g shaped
 
 module _ (g : Gate) (fits : Fits g) where
   pub tests-long : length (testsOf g) ≡ g .tests

@@ -3,7 +3,7 @@ use crate::within;
 use ordering::Counted;
 use ordering::count_distinct;
 use ordering::keep_distinct;
-use ordering::sort;
+use ordering::put_in_order;
 use rules::INPUT_PLACES;
 ghost use Prim.Native.Nat.{_≤_};
 ghost use mathlib.Core.Path.{_≡_};
@@ -24,14 +24,15 @@ fn no_masks() -> [u8; INPUT_PLACES]
     [0; INPUT_PLACES]
 }
 
-// Puts the first so many gate inputs in order, in their places.
-pub fn sort_gate_inputs(count: u8, input: &mut [u8])
+// Puts the first so many gate inputs in order, in their places, and says how many of them are distinct.
+pub fn order_gate_inputs(count: u8, input: &mut [u8]) -> u8
     requires { ⌜ length (now input) ≡ mostGateInputs ⌝ }
-    ensures { λ r. ⌜ now (input .exit) ≡ put (now (input .entry)) 0 (numbers (sorted (take count (map unmasked (now (input .entry)))))) ⌝ }
+    ensures input { λ r. ⌜ now (input .exit) ≡ put (now (input .entry)) 0 (numbers (sorted (take count (map unmasked (now (input .entry)))))) ⌝ }
+    ensures many { λ r. ⌜ r ≡ length (distinct (take count (map unmasked (now (input .entry))))) ⌝ }
 {
     let n = within(count, INPUT_PLACES);
     let mut masks = no_masks();
-    sort(&mut input[..n], &mut masks[..n]);
+    put_in_order(&mut input[..n], &mut masks[..n])
 }
 
 // Whether the first so many gate inputs are in order, and how many of them are then distinct.

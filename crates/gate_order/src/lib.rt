@@ -4,20 +4,23 @@ mod tests;
 
 use gate_inputs::count_gate_inputs;
 use gate_inputs::keep_distinct_gate_inputs;
-use gate_inputs::sort_gate_inputs;
+use gate_inputs::order_gate_inputs;
 use rules::first;
 use rules::unsound_fault;
 use study::Gate;
 use tests::count_tests;
 use tests::keep_distinct_tests;
-use tests::sort_tests;
-ghost use Prim.Native.Nat.{min};
+use tests::order_tests;
+ghost use Prim.Native.Nat.{ℕ, min};
 ghost use mathlib.Core.Path.{_≡_};
+ghost use lib.ListN.{length};
+ghost use Rattle.rules.specs.Limits.{mostTests, mostGateInputs};
 ghost use Rattle.study.specs.Places.{ShapedGate};
 ghost use Rattle.gate_order.specs.Inputs.{inputCount};
 ghost use Rattle.gate_order.specs.Rows.{distinctGate};
 ghost use Rattle.gate_order.specs.Breach.{orderFault};
-ghost use Rattle.gate_order.specs.Order.{InOrder, inOrder};
+ghost use Rattle.gate_order.specs.Lent.{gateOf, PutInOrder};
+ghost use Rattle.gate_order.specs.Order.{InOrder};
 
 // As many places as a count says, and no more than there are.
 fn within(count: u8, places: usize) -> usize
@@ -30,23 +33,25 @@ fn within(count: u8, places: usize) -> usize
     places
 }
 
-// A gate with its inputs in order.
-pub fn in_order(g: Gate) -> Gate
-    ensures { λ r. ⌜ r ≡ inOrder g ⌝ }
+// Puts the inputs of a gate in order, in the places that are lent, and says how many of them are distinct, tests and gates together.
+pub fn put_in_order(
+    tests: u8,
+    component: &mut [u8],
+    mask: &mut [u8],
+    gates: u8,
+    input: &mut [u8],
+) -> u32
+    requires component { ⌜ length (now component) ≡ mostTests ⌝ }
+    requires mask { ⌜ length (now mask) ≡ mostTests ⌝ }
+    requires input { ⌜ length (now input) ≡ mostGateInputs ⌝ }
+    ensures { λ r.
+        ⌜ ((threshold : ℕ) → PutInOrder
+        (gateOf threshold tests (now (component .entry)) (now (mask .entry)) gates (now (input .entry)))
+        (gateOf threshold tests (now (component .exit)) (now (mask .exit)) gates (now (input .exit))) r) ⌝ }
 {
-    let mut component = g.component;
-    let mut mask = g.mask;
-    let mut input = g.input;
-    sort_tests(g.tests, &mut component, &mut mask);
-    sort_gate_inputs(g.gates, &mut input);
-    Gate {
-        threshold: g.threshold,
-        tests: g.tests,
-        component,
-        mask,
-        gates: g.gates,
-        input,
-    }
+    let distinct_tests = order_tests(tests, component, mask);
+    let distinct_gates = order_gate_inputs(gates, input);
+    distinct_tests as u32 + distinct_gates as u32
 }
 
 // What the inputs of a gate were found to be: 16 where they are out of order, and otherwise how many are distinct, tests and gates together.

@@ -3,7 +3,7 @@ use crate::within;
 use ordering::Counted;
 use ordering::count_distinct;
 use ordering::keep_distinct;
-use ordering::sort;
+use ordering::put_in_order;
 use rules::TEST_PLACES;
 ghost use Prim.Native.Nat.{_≤_};
 ghost use mathlib.Core.Path.{_≡_};
@@ -14,8 +14,8 @@ ghost use Rattle.ordering.specs.Distinct.{distinct};
 ghost use Rattle.ordering.specs.Thinning.{Counts, Fronted};
 ghost use Rattle.ordering.specs.Inputs.{paired, Ascending, numbers, masks, sorted};
 
-// Puts the first so many tests in order, in their places.
-pub fn sort_tests(count: u8, component: &mut [u8], mask: &mut [u8])
+// Puts the first so many tests in order, in their places, and says how many of them are distinct.
+pub fn order_tests(count: u8, component: &mut [u8], mask: &mut [u8]) -> u8
     requires components { ⌜ length (now component) ≡ mostTests ⌝ }
     requires masks { ⌜ length (now mask) ≡ mostTests ⌝ }
     ensures component { λ r.
@@ -23,9 +23,10 @@ pub fn sort_tests(count: u8, component: &mut [u8], mask: &mut [u8])
         ≡ put (now (component .entry)) 0 (numbers (sorted (take count (paired (now (component .entry)) (now (mask .entry)))))) ⌝ }
     ensures mask { λ r.
         ⌜ now (mask .exit) ≡ put (now (mask .entry)) 0 (masks (sorted (take count (paired (now (component .entry)) (now (mask .entry)))))) ⌝ }
+    ensures many { λ r. ⌜ r ≡ length (distinct (take count (paired (now (component .entry)) (now (mask .entry))))) ⌝ }
 {
     let n = within(count, TEST_PLACES);
-    sort(&mut component[..n], &mut mask[..n]);
+    put_in_order(&mut component[..n], &mut mask[..n])
 }
 
 // Whether the first so many tests are in order, and how many of them are then distinct.

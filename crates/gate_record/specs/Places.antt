@@ -4,20 +4,15 @@ use Prim.Native.Nat.{ℕ}
 use mathlib.Core.List.{List}
 use Rattle.reading.specs.Reader.{Reader, return, _>>=_}
 use Rattle.study.specs.declared.Gate.{Gate}
+use Rattle.study.specs.Absent.{absentGate}
+use Rattle.gate_order.specs.Lent.{gateOf}
 use Rattle.gate_order.specs.Order.{inOrder}
 use Rattle.gate_record.specs.Gate.{gate}
 
 -- a gate of which nothing is given, as one that is absent but for its places
-abbrev pub nothingGiven : Gate → List ℕ → List ℕ → List ℕ → Gate
-nothingGiven absent component mask input =
-    record {
-      threshold = absent .threshold;
-      tests = absent .tests;
-      component = component;
-      mask = mask;
-      gates = absent .gates;
-      input = input;
-    }
+abbrev pub nothingGiven : List ℕ → List ℕ → List ℕ → Gate
+nothingGiven component mask input =
+    gateOf (absentGate .threshold) (absentGate .tests) component mask (absentGate .gates) input
 
 -- the tests of a gate are so many, and these are their places
 abbrev pub withTestRow : ℕ → List ℕ → List ℕ → Gate → Gate

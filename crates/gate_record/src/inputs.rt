@@ -40,24 +40,28 @@ fn read_input(bytes: &[u8], at: usize, number: usize) -> ByteRead
     }
 }
 
-// So many gate inputs.
+// So many gate inputs, up to the first breach.
 fn read_input_list(bytes: &[u8], at: usize, number: usize, n: usize, input: &mut [u8]) -> RowRead
     requires { ⌜ n ≤ length (now input) ⌝ }
     ensures { λ r.
         ⌜ ((k : ℕ) (g : Gate) → ReadsAt (now (bytes .entry)) at (repeat (Gate·input number) n (withInputRow k (now (input .entry)) g)) (r .refusal) (r .next)
         (withInputRow k (now (input .exit)) g)) ⌝ }
 {
-    let mut refusal: u8 = 0;
     let mut next = at;
     let mut j: usize = 0;
     while j < n {
         let b = read_input(bytes, next, number);
-        refusal = first(refusal, b.refusal);
+        if b.refusal != 0 {
+            return RowRead {
+                refusal: b.refusal,
+                next,
+            };
+        }
         next = b.next;
         input[j] = b.value;
         j = j + 1;
     }
-    RowRead { refusal, next }
+    RowRead { refusal: 0, next }
 }
 
 // The last field, where one field is left to read: how many gate inputs there are. These go to their places.

@@ -2,8 +2,7 @@
 mod inputs;
 mod tests;
 
-use gate_order::in_order;
-use gate_order::judge_inputs;
+use gate_order::put_in_order;
 use inputs::read_inputs;
 use reading::ByteRead;
 use reading::byte_at;
@@ -14,7 +13,6 @@ use reading::map_digit;
 use rules::GATE_MAPS;
 use rules::first;
 use rules::threshold_fault;
-use study::Gate;
 use study::absent_gate;
 use tests::read_tests;
 ghost use mathlib.Core.Path.{_≡_};
@@ -23,28 +21,25 @@ ghost use lib.ListN.{length};
 ghost use Rattle.rules.specs.Limits.{gateMaps, mostTests, mostGateInputs};
 ghost use Rattle.reading.specs.Reader.{ReadsAt};
 ghost use Rattle.reading.specs.Fields.{fieldAt, fields};
+ghost use Rattle.study.specs.declared.Gate.{Gate};
+ghost use Rattle.study.specs.Absent.{absentGate};
+ghost use Rattle.gate_order.specs.Lent.{gateOf};
 ghost use Rattle.gate_record.specs.Gate.{withThreshold, threshold, gateField};
 ghost use Rattle.gate_record.specs.Places.{nothingGiven, gateInOrder};
 
+// What is known of a gate once it is read; its inputs stand in lent places.
 pub struct GateRead {
     pub refusal: u8,
     pub next: usize,
-    pub gate: Gate,
+    pub threshold: u8,
+    pub tests: u8,
+    pub gates: u8,
 }
 
 // What is known of a row once it is read.
 pub struct RowRead {
     pub refusal: u8,
     pub next: usize,
-}
-
-// What is known of a gate once its fields are read; its inputs stand in lent places.
-struct FieldsRead {
-    refusal: u8,
-    next: usize,
-    threshold: u8,
-    tests: u8,
-    gates: u8,
 }
 
 // The field of bit 0, where the bit stands in the map. It is judged after the gate's last field.
@@ -70,33 +65,26 @@ fn read_fields(
     counts: &[u8],
     number: usize,
     map: u8,
-    absent: Gate,
     component: &mut [u8],
     mask: &mut [u8],
     input: &mut [u8],
-) -> FieldsRead
+) -> GateRead
     requires map { ⌜ map < gateMaps ⌝ }
     requires component { ⌜ length (now component) ≡ mostTests ⌝ }
     requires mask { ⌜ length (now mask) ≡ mostTests ⌝ }
     requires input { ⌜ length (now input) ≡ mostGateInputs ⌝ }
     ensures { λ r.
         ⌜ ReadsAt (now (bytes .entry)) at
-        (fields (gateField (now (counts .entry)) number) map (nothingGiven absent (now (component .entry)) (now (mask .entry)) (now (input .entry))))
+        (fields (gateField (now (counts .entry)) number) map (nothingGiven (now (component .entry)) (now (mask .entry)) (now (input .entry))))
         (r .refusal) (r .next)
-        (record {
-          threshold = r .threshold;
-          tests = r .tests;
-          component = now (component .exit);
-          mask = now (mask .exit);
-          gates = r .gates;
-          input = now (input .exit);
-        }) ⌝ }
+        (gateOf (r .threshold) (r .tests) (now (component .exit)) (now (mask .exit)) (r .gates) (now (input .exit))) ⌝ }
 {
+    let absent = absent_gate();
     let t = read_threshold(bytes, at, map, absent.threshold);
     let tests = read_tests(bytes, t.next, counts, map, absent.tests, component, mask);
     let left = fields_behind(fields_behind(field_count(map), map, 0), map, 1);
     let inputs = read_inputs(bytes, tests.next, number, left, absent.gates, input);
-    FieldsRead {
+    GateRead {
         refusal: first(first(t.refusal, tests.refusal), inputs.refusal),
         next: inputs.next,
         threshold: t.value,
@@ -105,46 +93,52 @@ fn read_fields(
     }
 }
 
-// The record of the gate with this number; `counts` has the state count of each component of the study.
-pub fn read_gate(bytes: &[u8], at: usize, counts: &[u8], number: usize) -> GateRead
-    ensures { λ r. ⌜ ReadsAt (now (bytes .entry)) at (gateInOrder (now (counts .entry)) number) (r .refusal) (r .next) (r .gate) ⌝ }
+// The record of the gate with this number, whose inputs go to lent places that hold none; `counts` has the state count of each component of the study.
+pub fn read_gate(
+    bytes: &[u8],
+    at: usize,
+    counts: &[u8],
+    number: usize,
+    component: &mut [u8],
+    mask: &mut [u8],
+    input: &mut [u8],
+) -> GateRead
+    requires component { ⌜ now component ≡ absentGate .component ⌝ }
+    requires mask { ⌜ now mask ≡ absentGate .mask ⌝ }
+    requires input { ⌜ now input ≡ absentGate .input ⌝ }
+    ensures { λ r.
+        ⌜ ReadsAt (now (bytes .entry)) at (gateInOrder (now (counts .entry)) number) (r .refusal) (r .next)
+        (gateOf (r .threshold) (r .tests) (now (component .exit)) (now (mask .exit)) (r .gates) (now (input .exit))) ⌝ }
 {
-    let absent = absent_gate();
     let m = map_at(bytes, at, GATE_MAPS);
     if m.refusal != 0 {
         return GateRead {
             refusal: m.refusal,
             next: at,
-            gate: absent,
+            threshold: 0,
+            tests: 0,
+            gates: 0,
         };
     }
-    let mut component = absent.component;
-    let mut mask = absent.mask;
-    let mut input = absent.input;
     let f = read_fields(
         bytes,
         m.next,
         counts,
         number,
         m.value,
-        absent,
-        &mut component,
-        &mut mask,
-        &mut input,
-    );
-    let given = Gate {
-        threshold: f.threshold,
-        tests: f.tests,
         component,
         mask,
-        gates: f.gates,
         input,
-    };
-    let gate = in_order(given);
-    let judged = judge_inputs(gate);
+    );
+    if f.refusal != 0 {
+        return f;
+    }
+    let distinct = put_in_order(f.tests, component, mask, f.gates, input);
     GateRead {
-        refusal: first(f.refusal, threshold_fault(judged.distinct, f.threshold)),
+        refusal: threshold_fault(distinct, f.threshold),
         next: f.next,
-        gate,
+        threshold: f.threshold,
+        tests: f.tests,
+        gates: f.gates,
     }
 }

@@ -45,7 +45,7 @@ fn read_test(bytes: &[u8], at: usize, counts: &[u8]) -> TestRead
     }
 }
 
-// So many tests.
+// So many tests, up to the first breach.
 fn read_test_list(
     bytes: &[u8],
     at: usize,
@@ -61,18 +61,22 @@ fn read_test_list(
         (repeat (test (now (counts .entry))) n (withTestRow k (now (component .entry)) (now (mask .entry)) g)) (r .refusal) (r .next)
         (withTestRow k (now (component .exit)) (now (mask .exit)) g)) ⌝ }
 {
-    let mut refusal: u8 = 0;
     let mut next = at;
     let mut j: usize = 0;
     while j < n {
         let t = read_test(bytes, next, counts);
-        refusal = first(refusal, t.refusal);
+        if t.refusal != 0 {
+            return RowRead {
+                refusal: t.refusal,
+                next,
+            };
+        }
         next = t.next;
         component[j] = t.component;
         mask[j] = t.mask;
         j = j + 1;
     }
-    RowRead { refusal, next }
+    RowRead { refusal: 0, next }
 }
 
 // The field of bit 1, where the bit stands in the map: how many tests there are. These go to their places.

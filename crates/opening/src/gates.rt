@@ -1,6 +1,8 @@
 // The gate records of a study.
 use gate_record::read_gate;
 use rules::GATE_PLACES;
+use rules::INPUT_PLACES;
+use rules::TEST_PLACES;
 use study::Gate;
 use study::no_gates;
 ghost use Prim.Native.Nat.{_≤_};
@@ -26,7 +28,18 @@ pub fn read_gates(bytes: &[u8], at: usize, counts: &[u8], n: usize) -> GatesRead
     let mut gate = no_gates();
     let mut i: usize = 0;
     while i < n {
-        let r = read_gate(bytes, next, counts, i);
+        let mut component = [0u8; TEST_PLACES];
+        let mut mask = [0u8; TEST_PLACES];
+        let mut input = [0u8; INPUT_PLACES];
+        let r = read_gate(
+            bytes,
+            next,
+            counts,
+            i,
+            &mut component,
+            &mut mask,
+            &mut input,
+        );
         if r.refusal != 0 {
             return GatesRead {
                 refusal: r.refusal,
@@ -34,8 +47,14 @@ pub fn read_gates(bytes: &[u8], at: usize, counts: &[u8], n: usize) -> GatesRead
                 gate,
             };
         }
-        let g = r.gate;
-        gate[i] = g;
+        gate[i] = Gate {
+            threshold: r.threshold,
+            tests: r.tests,
+            component,
+            mask,
+            gates: r.gates,
+            input,
+        };
         next = r.next;
         i = i + 1;
     }

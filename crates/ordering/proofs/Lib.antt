@@ -1,5 +1,6 @@
 pub mod Along
 pub mod Moving
+pub mod Ordered
 pub mod Pairs
 pub mod Rises
 pub mod Sets

@@ -5,13 +5,14 @@ use mathlib.Core.Path.{_≡_, ap, subst}
 use lib.ListN.{drop}
 use borrow.Author.Needs.{needs}
 use Rattle.lists.specs.Bits.{digit}
-use Rattle.reading.specs.Fields.{whereLeft}
+use Rattle.reading.specs.Fields.{whereLeft, fields}
 use Rattle.reading.specs.Reader.{Read, Reads}
 use Rattle.reading.proofs.Calls.{asks-nothing}
 use Rattle.reading.proofs.MapBits.{first-left, second-left, third-left, three-fields}
 use Rattle.study.specs.declared.Gate.{Gate}
 use Rattle.gate_record.specs.Gate.{withThreshold, inputs, gateField}
-use Rattle.gate_record.specs.Places.{nothingGiven, withTestRow}
+use Rattle.gate_order.specs.Lent.{gateOf}
+use Rattle.gate_record.specs.Places.{withTestRow}
 use Rattle.gate_record.proofs.read_fields.Statement.{statement}
 use Rattle.gate_record.proofs.read_fields.Tie as tie
 
@@ -29,7 +30,7 @@ abbrev threshold-read : tie.After-read-tests → tie.After-read-threshold
 threshold-read c = c .before .before .before
 
 abbrev lent : tie.After-read-threshold → tie.After-slice-known
-lent c = c .before .before .before
+lent c = c .before .before .before .before
 
 abbrev start : tie.After-read-threshold → tie.Start
 start c = lent c .before .before .before
@@ -61,18 +62,24 @@ returns c =
     let tests = tests-read (counted (called .before)) in
     let threshold = threshold-read tests in
     let entry = start threshold in
-    let nothing = nothingGiven (entry .args .absent) (entry .args .component .now) (entry .args .mask .now) (entry .args .input .now) in
+    let absent = threshold .before .absent-gate in
+    let over : Gate → Gate =
+    λ a. gateOf (a .threshold) (a .tests) (entry .args .component .now) (entry .args .mask .now) (a .gates) (entry .args .input .now) in
+    let nothing = over (absent .result) in
     let g = withThreshold (threshold .read-threshold .result .value) nothing in
     let rows = tests .read-tests .last .1 .1 .1 .1 .1 in
     let h = withTestRow (tests .read-tests .result .value) (rows .0) (rows .1 .0) g in
     let last : ℕ → Read Gate =
     λ left. whereLeft left (inputs (entry .args .number)) h (drop (tests .read-tests .result .next) (entry .args .bytes .now)) in
-    three-fields (gateField (entry .args .counts .now) (entry .args .number)) (entry .args .map) nothing (entry .args .at) (entry .pre .0)
+    let read-fields : Gate → Read Gate =
+    λ a. fields (gateField (entry .args .counts .now) (entry .args .number)) (entry .args .map) (over a) (drop (entry .args .at) (entry .args .bytes .now)) in
+    subst (Reads _ _ _ _) (ap read-fields (absent .ensures))
+    (three-fields (gateField (entry .args .counts .now) (entry .args .number)) (entry .args .map) nothing (entry .args .at) (entry .pre .0)
     (threshold .read-threshold .ensures nothing) (tests .read-tests .ensures g) (c .before .first .ensures)
-    (subst (Reads _ _ _ _) (ap last (last-left (called .before))) (called .read-inputs .ensures h)) (c .first2 .ensures)
+    (subst (Reads _ _ _ _) (ap last (last-left (called .before))) (called .read-inputs .ensures h)) (c .first2 .ensures))
 
 pub read-fields-spec : {M : Type 1} → statement M
 read-fields-spec =
     tie.close
-    (tie.spec asks-nothing read-tests-requires asks-nothing fields-behind-requires fields-behind-requires-2 read-inputs-requires
+    (tie.spec asks-nothing asks-nothing read-tests-requires asks-nothing fields-behind-requires fields-behind-requires-2 read-inputs-requires
     asks-nothing asks-nothing (λ c. search needs) (λ c. search needs) (λ c. search needs) returns)
