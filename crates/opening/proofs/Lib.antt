@@ -1,4 +1,5 @@
 pub mod Answers
+pub mod Counts
 pub mod FirstBreach
 pub mod Longest
 pub mod Opened

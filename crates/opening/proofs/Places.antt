@@ -29,7 +29,7 @@ module _ {A : Type 0} (reader : ℕ → List A → Reader A) {n : ℕ} {none : L
   place-refused some = repeat-stopped (repeat-more left more (finished (set places i) read refl) refl) some
 
 -- the state counts of the first i + 1 components, once component i is placed
-states-placed : (cs : List Component) (i : ℕ) (c : Component) → i < length cs → take (suc i) (states (set cs i c)) ≡ take i (states cs) ++ (c .states ∷ [])
+pub states-placed : (cs : List Component) (i : ℕ) (c : Component) → i < length cs → take (suc i) (states (set cs i c)) ≡ take i (states cs) ++ (c .states ∷ [])
 states-placed [] i c h = absurd (not-suc-le-zero h)
 states-placed (d ∷ cs) ℕ.zero c h = refl
 states-placed (d ∷ cs) (suc i) c h = ap (λ (l : List ℕ). d .states ∷ l) (states-placed cs i c (le-of-suc-le-suc h))

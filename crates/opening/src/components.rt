@@ -7,8 +7,11 @@ use rules::width_fault;
 use study::Component;
 use study::no_components;
 ghost use Prim.Native.Nat.{_*_, _≤_};
+ghost use mathlib.Core.Path.{_≡_};
+ghost use lib.ListN.{length, take};
 ghost use Rattle.rules.specs.Limits.{mostComponents, mostJointStates};
 ghost use Rattle.reading.specs.Reader.{ReadsAt, ReadsWith, repeat};
+ghost use Rattle.study.specs.Joint.{states};
 ghost use Rattle.study.specs.Zero.{noComponents};
 ghost use Rattle.opening.specs.Opening.{componentAfter, componentRecord, placing};
 
@@ -33,10 +36,12 @@ fn read_component_after(bytes: &[u8], at: usize, joint: u32) -> ComponentRead
     }
 }
 
-// So many component records, each in its place, up to the first breach.
-pub fn read_components(bytes: &[u8], at: usize, n: usize) -> ComponentsRead
-    requires { ⌜ n ≤ mostComponents ⌝ }
-    ensures { λ r. ⌜ ReadsAt (now (bytes .entry)) at (repeat (placing componentRecord) n noComponents) (r .refusal) (r .next) (r .component) ⌝ }
+// So many component records, each in its place, up to the first breach. Their state counts go to the front of a lent row.
+pub fn read_components(bytes: &[u8], at: usize, n: usize, counts: &mut [u8]) -> ComponentsRead
+    requires count { ⌜ n ≤ mostComponents ⌝ }
+    requires row { ⌜ length (now counts) ≡ mostComponents ⌝ }
+    ensures components { λ r. ⌜ ReadsAt (now (bytes .entry)) at (repeat (placing componentRecord) n noComponents) (r .refusal) (r .next) (r .component) ⌝ }
+    ensures counts { λ r. ⌜ (r .refusal ≡ 0 → take n (now (counts .exit)) ≡ take n (states (r .component))) ⌝ }
 {
     let mut next = at;
     let mut component = no_components();
@@ -53,6 +58,7 @@ pub fn read_components(bytes: &[u8], at: usize, n: usize) -> ComponentsRead
         }
         let c = r.component;
         component[i] = c;
+        counts[i] = c.states;
         joint = joint * c.states as u32;
         next = r.next;
         i = i + 1;

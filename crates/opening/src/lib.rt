@@ -11,6 +11,7 @@ use loads::read_loads;
 use reading::ByteRead;
 use reading::byte_at;
 use reading::bytes_left;
+use rules::COMPONENT_PLACES;
 use rules::MOST_COMPONENTS;
 use rules::MOST_GATES;
 use rules::MOST_LOADS;
@@ -18,16 +19,21 @@ use rules::count_fault;
 use rules::first;
 use rules::left_fault;
 use study::Study;
-use study::state_counts;
 use study::zero_study;
 ghost use mathlib.Core.Path.{_≡_};
 ghost use Prim.Native.Nat.{_≤_};
-ghost use lib.ListN.{drop};
-ghost use Rattle.reading.specs.Reader.{ReadsWith, got};
-ghost use Rattle.study.specs.declared.Study.{Study};
-ghost use Rattle.gate_order.specs.Order.{ordered};
-ghost use Rattle.opening.specs.Opening.{count, records, refusedOpening, answer, opened};
-ghost use Rattle.opening.specs.Places.{CountsFit};
+ghost use Rattle.reading.specs.Reader.{ReadsWith};
+ghost use Rattle.opening.specs.Opening.{count, refusedOpening, opened};
+ghost use Rattle.opening.specs.Places.{CountsAhead};
+
+// What is known of a study once its counts are read.
+struct CountsRead {
+    refusal: u8,
+    next: usize,
+    components: u8,
+    gates: u8,
+    loads: u8,
+}
 
 // One of the first three bytes, which is in range where it is not refused.
 fn count_at(bytes: &[u8], at: usize, most: u8) -> ByteRead
@@ -52,68 +58,61 @@ fn refused_opening(number: u8) -> StudyAnswer
     }
 }
 
-// The answer once every record is read: the bytes must end at this place. The study has the inputs of each gate in order.
-fn ended(bytes: &[u8], at: usize, study: Study) -> StudyAnswer
-    ensures { λ r. ⌜ ((t : Study) → study ≡ ordered t → r ≡ answer (got t (drop at (now (bytes .entry))))) ⌝ }
+// Reads the first three bytes: the number of components, of gates and of loads.
+fn read_counts(bytes: &[u8]) -> CountsRead
+    ensures { λ r. ⌜ CountsAhead (now (bytes .entry)) (r .refusal) (r .next) (r .components) (r .gates) (r .loads) ⌝ }
 {
-    let left = left_fault(bytes_left(bytes, at));
-    if left != 0 {
-        return refused_opening(left);
-    }
-    StudyAnswer {
-        outcome: Outcome::Done,
-        study,
+    let c = count_at(bytes, 0, MOST_COMPONENTS);
+    let g = count_at(bytes, c.next, MOST_GATES);
+    let l = count_at(bytes, g.next, MOST_LOADS);
+    CountsRead {
+        refusal: first(first(c.refusal, g.refusal), l.refusal),
+        next: l.next,
+        components: c.value,
+        gates: g.value,
+        loads: l.value,
     }
 }
 
-// The records of a study with these counts, and the end of the bytes.
-fn open_records(bytes: &[u8], at: usize, components: u8, gates: u8, loads: u8) -> StudyAnswer
-    requires { ⌜ CountsFit components gates loads ⌝ }
-    ensures { λ r. ⌜ r ≡ answer (records components gates loads (drop at (now (bytes .entry)))) ⌝ }
+// Opens a study: the counts, the records of each kind, and the end of the bytes. The gates are read with their inputs in order.
+pub fn open(bytes: &[u8]) -> StudyAnswer
+    ensures { λ r. ⌜ r ≡ opened (now (bytes .entry)) ⌝ }
 {
-    let n = components as usize;
-    let cs = read_components(bytes, at, n);
+    let head = read_counts(bytes);
+    if head.refusal != 0 {
+        return refused_opening(head.refusal);
+    }
+    let n = head.components as usize;
+    let mut counts = [0u8; COMPONENT_PLACES];
+    let cs = read_components(bytes, head.next, n, &mut counts);
     if cs.refusal != 0 {
         return refused_opening(cs.refusal);
     }
-    let component = cs.component;
-    let counts = state_counts(component);
-    let gs = read_gates(bytes, cs.next, &counts[..n], gates as usize);
+    let gs = read_gates(bytes, cs.next, &counts[..n], head.gates as usize);
     if gs.refusal != 0 {
         return refused_opening(gs.refusal);
     }
-    let ls = read_loads(bytes, gs.next, gates, loads as usize);
+    let ls = read_loads(bytes, gs.next, head.gates, head.loads as usize);
     if ls.refusal != 0 {
         return refused_opening(ls.refusal);
     }
+    let left = left_fault(bytes_left(bytes, ls.next));
+    if left != 0 {
+        return refused_opening(left);
+    }
+    let component = cs.component;
     let gate = gs.gate;
     let load = ls.load;
     let study = Study {
-        components,
-        gates,
-        loads,
+        components: head.components,
+        gates: head.gates,
+        loads: head.loads,
         component,
         gate,
         load,
     };
-    ended(bytes, ls.next, study)
-}
-
-// Opens a study.
-pub fn open(bytes: &[u8]) -> StudyAnswer
-    ensures { λ r. ⌜ r ≡ opened (now (bytes .entry)) ⌝ }
-{
-    let c = count_at(bytes, 0, MOST_COMPONENTS);
-    if c.refusal != 0 {
-        return refused_opening(c.refusal);
+    StudyAnswer {
+        outcome: Outcome::Done,
+        study,
     }
-    let g = count_at(bytes, c.next, MOST_GATES);
-    if g.refusal != 0 {
-        return refused_opening(g.refusal);
-    }
-    let l = count_at(bytes, g.next, MOST_LOADS);
-    if l.refusal != 0 {
-        return refused_opening(l.refusal);
-    }
-    open_records(bytes, l.next, c.value, g.value, l.value)
 }
