@@ -18,7 +18,8 @@ use study::with_customers;
 use study::with_minutes;
 ghost use Prim.Native.Nat.{_<_};
 ghost use Rattle.reading.specs.Reader.{ReadsAt};
-ghost use Rattle.reading.specs.Fields.{mapBits, fieldAt, fields};
+ghost use Rattle.rules.specs.Limits.{loadMaps};
+ghost use Rattle.reading.specs.Fields.{fieldAt, whereLeft, fields};
 ghost use Rattle.study.specs.Absent.{absentLoad};
 ghost use Rattle.load_record.specs.Load.{lossGate, size, customers, minutes, loadField, load};
 
@@ -80,9 +81,9 @@ fn read_minutes(bytes: &[u8], at: usize, l: Load) -> LoadRead
     }
 }
 
-// The field of bit k, where the bit stands in the map.
+// The field of bit 0 or 1, where the bit stands in the map.
 fn read_field(bytes: &[u8], at: usize, gates: u8, map: u8, k: u8, l: Load) -> LoadRead
-    requires { ⌜ k < mapBits ⌝ }
+    requires { ⌜ k < 2 ⌝ }
     ensures { λ r. ⌜ ReadsAt (now (bytes .entry)) at (fieldAt (loadField gates) map k l) (r .refusal) (r .next) (r .load) ⌝ }
 {
     if map_digit(map, k) != 1 {
@@ -95,32 +96,36 @@ fn read_field(bytes: &[u8], at: usize, gates: u8, map: u8, k: u8, l: Load) -> Lo
     if k == 0 {
         return read_loss_gate(bytes, at, gates, l);
     }
-    if k == 1 {
-        return read_customers(bytes, at, l);
+    read_customers(bytes, at, l)
+}
+
+// The last field, where one field is left to read.
+fn read_last(bytes: &[u8], at: usize, left: u32, l: Load) -> LoadRead
+    ensures { λ r. ⌜ ReadsAt (now (bytes .entry)) at (whereLeft left minutes l) (r .refusal) (r .next) (r .load) ⌝ }
+{
+    if left != 1 {
+        return LoadRead {
+            refusal: 0,
+            next: at,
+            load: l,
+        };
     }
     read_minutes(bytes, at, l)
 }
 
 // The fields whose bit stands in the map, lowest bit first, over their absent values: as many as the map has ones.
 fn read_fields(bytes: &[u8], at: usize, gates: u8, map: u8) -> LoadRead
+    requires { ⌜ map < loadMaps ⌝ }
     ensures { λ r. ⌜ ReadsAt (now (bytes .entry)) at (fields (loadField gates) map absentLoad) (r .refusal) (r .next) (r .load) ⌝ }
 {
-    let mut refusal: u8 = 0;
-    let mut next = at;
-    let mut load = absent_load();
-    let mut left = field_count(map);
-    let mut k: u8 = 0;
-    while left != 0 {
-        let field = read_field(bytes, next, gates, map, k, load);
-        refusal = first(refusal, field.refusal);
-        next = field.next;
-        load = field.load;
-        left = fields_behind(left, map, k);
-        k = k + 1;
-    }
+    let gate = read_field(bytes, at, gates, map, 0, absent_load());
+    let customers = read_field(bytes, gate.next, gates, map, 1, gate.load);
+    let left = fields_behind(fields_behind(field_count(map), map, 0), map, 1);
+    let minutes = read_last(bytes, customers.next, left, customers.load);
+    let load = minutes.load;
     LoadRead {
-        refusal,
-        next,
+        refusal: first(first(gate.refusal, customers.refusal), minutes.refusal),
+        next: minutes.next,
         load,
     }
 }
@@ -130,11 +135,13 @@ pub fn read_load(bytes: &[u8], at: usize, gates: u8) -> LoadRead
     ensures { λ r. ⌜ ReadsAt (now (bytes .entry)) at (load gates) (r .refusal) (r .next) (r .load) ⌝ }
 {
     let m = map_at(bytes, at, LOAD_MAPS);
-    let f = read_fields(bytes, m.next, gates, m.value);
-    let l = f.load;
-    LoadRead {
-        refusal: first(m.refusal, f.refusal),
-        next: f.next,
-        load: l,
+    if m.refusal != 0 {
+        let load = absent_load();
+        return LoadRead {
+            refusal: m.refusal,
+            next: at,
+            load,
+        };
     }
+    read_fields(bytes, m.next, gates, m.value)
 }

@@ -1,5 +1,6 @@
 -- `load_record::read_field` meets its contract: the tests say which reader of the definition stands.
 use mathlib.Core.Path.{_≡_, sym, _∙_}
+use native.Mathlib.Omega.{arith}
 use borrow.Author.Tests.{eq-eqb, ne-eqb}
 use Rattle.lists.specs.Bits.{digit}
 use Rattle.reading.proofs.After.{returned}
@@ -9,7 +10,7 @@ use Rattle.load_record.proofs.read_field.Statement.{statement}
 use Rattle.load_record.proofs.read_field.Tie as tie
 
 map-digit-requires : tie.Need-map-digit-requires
-map-digit-requires c κs = c .before .pre
+map-digit-requires c κs = omega (arith, c .before .pre)
 
 returns : tie.Need-returns
 returns c = rw (← c .before .map-digit .ensures, ne-eqb _ _ (c .if1 .taken)) returned
@@ -26,13 +27,9 @@ returns-3 : tie.Need-returns-3
 unfolding loadField
 returns-3 c =
     let customers = c .before in
-    rw (stands (customers .before .before), ne-eqb _ _ (customers .before .if2 .left), eq-eqb _ _ (customers .if3 .taken)) (c .read-customers .ensures)
-
-returns-4 : tie.Need-returns-4
-unfolding loadField
-returns-4 c =
-    let minutes = c .before in
-    rw (stands (minutes .before .before), ne-eqb _ _ (minutes .before .if2 .left), ne-eqb _ _ (minutes .if3 .left)) (c .read-minutes .ensures)
+    let entry = customers .before .before .before .before in
+    let second : entry .args .k ≡ 1 = omega (arith, entry .pre, customers .if2 .left) in
+    rw (stands (customers .before), ne-eqb _ _ (customers .if2 .left), eq-eqb _ _ second) (c .read-customers .ensures)
 
 pub read-field-spec : {M : Type 1} → statement M
-read-field-spec = tie.close (tie.spec map-digit-requires returns asks-nothing returns-2 asks-nothing returns-3 asks-nothing returns-4)
+read-field-spec = tie.close (tie.spec map-digit-requires returns asks-nothing returns-2 asks-nothing returns-3)

@@ -1,55 +1,61 @@
--- `load_record::read_fields` meets its contract. Each turn reads the field of one bit, and as many fields are left as bits stand from k on (`FieldsLeft`);
--- what falls is the number of bits that the turns have still to pass.
-use Prim.Native.Nat.{_-_, _<_}
+-- `load_record::read_fields` meets its contract: the fields of bits 0, 1 and 2 are read in turn, and a map of a load has no bit behind these. What is left of
+-- the count of ones behind bits 0 and 1 is bit 2.
+use Prim.Native.Nat.{ℕ}
+use mathlib.Core.Path.{_≡_, ap, subst}
 use native.Mathlib.Omega.{arith}
-use Rattle.reading.specs.Fields.{mapBits}
+use lib.ListN.{drop}
+use Rattle.lists.specs.Bits.{digit}
+use Rattle.reading.specs.Fields.{whereLeft, fields}
+use Rattle.reading.specs.Reader.{Read, Reads}
 use Rattle.reading.proofs.Calls.{asks-nothing}
-use Rattle.reading.proofs.MapBits.{FieldsLeft, fields-start, fields-bit, fields-more, fields-done}
-use Rattle.study.specs.Absent.{absentLoad}
-use Rattle.load_record.specs.Load.{loadField}
+use Rattle.reading.proofs.MapBits.{first-left, second-left, third-left, three-fields}
+use Rattle.study.specs.declared.Load.{Load}
+use Rattle.load_record.specs.Load.{minutes, loadField}
 use Rattle.load_record.proofs.read_fields.Statement.{statement}
 use Rattle.load_record.proofs.read_fields.Tie as tie
 
-abbrev Inv-loop : tie.InvT-loop
-Inv-loop bytes at gates map refusal₀ next₀ load₀ left₀ k₀ refusal next load left k =
-    FieldsLeft (loadField gates) absentLoad bytes at map refusal next load left k
+-- the way back from the count of ones to the fields before it
+abbrev customers-read : tie.After-field-count → tie.After-read-field2
+customers-read c = c .before
 
-abbrev μ-loop : tie.MeasureT-loop
-μ-loop bytes at gates map refusal₀ next₀ load₀ left₀ k₀ refusal next load left k = mapBits - k
+abbrev start : tie.After-read-field2 → tie.Start
+start c =
+    let absent = c .before .before in
+    absent .before .before
 
-loop-holds : tie.Need-loop-holds Inv-loop μ-loop
-loop-holds c = fields-start (c .before .before .before .fits .map .fits) (c .before .absent-load .ensures) (c .field-count .ensures)
+fields-behind-requires : tie.Need-fields-behind-requires
+fields-behind-requires c κs = rw (c .field-count .ensures) (first-left _)
 
--- bit k is one of the map's
-in-map : (c : tie.In-loop Inv-loop μ-loop) → c .before .loop .k < mapBits
-in-map c = fields-bit (c .before .loop .inv) (c .loop-test .taken) .in-map
+fields-behind-requires-2 : tie.Need-fields-behind-requires-2
+fields-behind-requires-2 c κs = second-left _ _ (rw (c .before .field-count .ensures) at (c .fields-behind .ensures))
 
-read-field-requires : tie.Need-read-field-requires Inv-loop μ-loop
-read-field-requires c κs = in-map c
+-- what is left behind bit 1
+last-left : (c : tie.After-fields-behind2)
+    → c .fields-behind2 .result ≡ digit (start (customers-read (c .before .before)) .args .map) 2
+last-left c =
+    let one = c .before in
+    let counted = one .before in
+    third-left _ _ _ (start (customers-read counted) .pre) (rw (counted .field-count .ensures) at (one .fields-behind .ensures)) (c .fields-behind2 .ensures)
 
-fields-behind-requires : tie.Need-fields-behind-requires Inv-loop μ-loop
-fields-behind-requires c κs = let turn = c .before .before .before in fields-bit (turn .before .loop .inv) (turn .loop-test .taken)
-
-abbrev turn : tie.After-fields-behind Inv-loop μ-loop → tie.In-loop Inv-loop μ-loop
-turn c = c .before .before .before .before
-
-add-k : tie.Need-add-k Inv-loop μ-loop
-add-k c = omega (arith, in-map (turn c))
-
-loop-less : tie.Need-loop-less Inv-loop μ-loop
-loop-less c = omega (arith, in-map (turn c))
-
-loop-again : tie.Need-loop-again Inv-loop μ-loop
-loop-again c =
-    let read = c .before .before .before .read-field .ensures in
-    let first-breach = c .before .before .first .ensures in
-    fields-more (turn c .before .loop .inv) (turn c .loop-test .taken) read first-breach (c .fields-behind .ensures)
-
-returns : tie.Need-returns Inv-loop μ-loop
-returns c = fields-done (c .before .loop .inv) (c .loop-test .left)
+returns : tie.Need-returns
+unfolding loadField
+returns c =
+    let last = c .before .before .before in
+    let customers = customers-read (last .before .before .before) in
+    let gate = customers .before in
+    let absent = gate .before .absent-load in
+    let entry = start customers in
+    let last-of : ℕ → Read Load =
+    λ left. whereLeft left minutes (customers .read-field2 .result .load) (drop (customers .read-field2 .result .next) (entry .args .bytes .now)) in
+    let fields-of : Load → Read Load =
+    λ l. fields (loadField (entry .args .gates)) (entry .args .map) l (drop (entry .args .at) (entry .args .bytes .now)) in
+    subst (Reads _ _ _ _) (ap fields-of (absent .ensures))
+    (three-fields (loadField (entry .args .gates)) (entry .args .map) (absent .result) (entry .args .at) (entry .pre)
+    (gate .read-field .ensures) (customers .read-field2 .ensures) (c .before .first .ensures)
+    (subst (Reads _ _ _ _) (ap last-of (last-left (last .before))) (last .read-last .ensures)) (c .first2 .ensures))
 
 pub read-fields-spec : {M : Type 1} → statement M
 read-fields-spec =
     tie.close
-    (tie.spec Inv-loop μ-loop asks-nothing asks-nothing loop-holds read-field-requires asks-nothing
-    fields-behind-requires add-k loop-less loop-again returns)
+    (tie.spec asks-nothing (λ c κs. omega arith) (λ c κs. omega arith) asks-nothing fields-behind-requires fields-behind-requires-2 asks-nothing
+    asks-nothing asks-nothing returns)
