@@ -16,7 +16,8 @@ ghost use mathlib.Core.Path.{_≡_};
 ghost use mathlib.Core.Bool.{cond};
 ghost use Prim.Native.Nat.{_<_};
 ghost use Rattle.reading.specs.Reader.{ReadsAt};
-ghost use Rattle.reading.specs.Fields.{mapBits, fieldAt, fields};
+ghost use Rattle.rules.specs.Limits.{componentMaps};
+ghost use Rattle.reading.specs.Fields.{mapBits, fieldAt, whereLeft, fields};
 ghost use Rattle.study.specs.Absent.{absentComponent};
 ghost use Rattle.component_record.specs.Component.{withProbability, stateCount, probability, componentField, component};
 
@@ -93,26 +94,42 @@ fn read_field(bytes: &[u8], at: usize, map: u8, k: u8, c: Component) -> Componen
     read_probability(bytes, at, k, c)
 }
 
+// The last field, where one field is left to read.
+fn read_last(bytes: &[u8], at: usize, left: u32, c: Component) -> ComponentRead
+    ensures { λ r. ⌜ ReadsAt (now (bytes .entry)) at (whereLeft left (probability 3) c) (r .refusal) (r .next) (r .component) ⌝ }
+{
+    if left != 1 {
+        return ComponentRead {
+            refusal: 0,
+            next: at,
+            component: c,
+        };
+    }
+    read_probability(bytes, at, 3, c)
+}
+
 // The fields whose bit stands in the map, lowest bit first, over their absent values: as many as the map has ones.
 fn read_fields(bytes: &[u8], at: usize, map: u8) -> ComponentRead
+    requires { ⌜ map < componentMaps ⌝ }
     ensures { λ r. ⌜ ReadsAt (now (bytes .entry)) at (fields componentField map absentComponent) (r .refusal) (r .next) (r .component) ⌝ }
 {
-    let mut refusal: u8 = 0;
-    let mut next = at;
-    let mut component = absent_component();
-    let mut left = field_count(map);
-    let mut k: u8 = 0;
-    while left != 0 {
-        let field = read_field(bytes, next, map, k, component);
-        refusal = first(refusal, field.refusal);
-        next = field.next;
-        component = field.component;
-        left = fields_behind(left, map, k);
-        k = k + 1;
-    }
+    let states = read_field(bytes, at, map, 0, absent_component());
+    let one = read_field(bytes, states.next, map, 1, states.component);
+    let two = read_field(bytes, one.next, map, 2, one.component);
+    let counted = fields_behind(fields_behind(field_count(map), map, 0), map, 1);
+    let three = read_last(
+        bytes,
+        two.next,
+        fields_behind(counted, map, 2),
+        two.component,
+    );
+    let component = three.component;
     ComponentRead {
-        refusal,
-        next,
+        refusal: first(
+            first(first(states.refusal, one.refusal), two.refusal),
+            three.refusal,
+        ),
+        next: three.next,
         component,
     }
 }
@@ -122,10 +139,18 @@ pub fn read_component(bytes: &[u8], at: usize) -> ComponentRead
     ensures { λ r. ⌜ ReadsAt (now (bytes .entry)) at component (r .refusal) (r .next) (r .component) ⌝ }
 {
     let m = map_at(bytes, at, COMPONENT_MAPS);
+    if m.refusal != 0 {
+        let component = absent_component();
+        return ComponentRead {
+            refusal: m.refusal,
+            next: at,
+            component,
+        };
+    }
     let f = read_fields(bytes, m.next, m.value);
     let c = f.component;
     ComponentRead {
-        refusal: first(first(m.refusal, f.refusal), sum_fault(c.p1, c.p2, c.p3)),
+        refusal: first(f.refusal, sum_fault(c.p1, c.p2, c.p3)),
         next: f.next,
         component: c,
     }

@@ -1,8 +1,8 @@
--- What carries the loop over a record's fields: as many fields are left to read as bits stand in what is left of the map.
-use Prim.Native.Nat.{ℕ, zero, suc, _+_, _-_, _/_, _^_, _<_, _≤_}
+-- The fields of a record, read one behind the other: as many are left to read as bits stand in what is left of the map.
+use Prim.Native.Nat.{ℕ, zero, suc, _+_, _-_, _/_, _^_, _<_}
 use mathlib.Core.Path.{_≡_, refl, sym, ap, _∙_}
 use mathlib.Core.List.{List}
-use native.Mathlib.Nat.{div-one, div-eq-of-lt, lt-of-not-le}
+use native.Mathlib.Nat.{div-one, div-eq-of-lt}
 use native.Mathlib.Omega.{arith}
 use lib.Pow.{shr-shr}
 use lib.Count.{ones, ones-step}
@@ -14,18 +14,11 @@ use Rattle.reading.specs.Reader.{Read, Reader, Reads, refused, got, turn
 use Rattle.reading.specs.Fields.{BitLeft, fieldAt, fields, mapBits}
 use Rattle.reading.proofs.Repeats.{RepeatLeft, repeat-start, repeat-more}
 
--- From the place `at` the bits below k of the map have had their fields read, and the code holds a refusal, the next place and a value.
--- `left` bits stand from k on.
-pub record FieldsLeft {A : Type 0} (field : ℕ → A → Reader A) (absent : A) (s : List ℕ) (at map refusal next : ℕ) (value : A) (left k : ℕ) : Type 0 where
-  pub map-byte : map < 2 ^ mapBits
-  pub fields-read : RepeatLeft (fieldAt field map) mapBits absent s at refusal next value k
-  pub standing : left ≡ ones (map / 2 ^ k)
-
 -- the bits from k on are bit k and those from k + 1 on
 ones-from : (map k : ℕ) → ones (map / 2 ^ k) ≡ digit map k + ones (map / 2 ^ (k + 1))
 ones-from map k = ones-step (map / 2 ^ k) ∙ ap (λ (n : ℕ). digit map k + ones n) (shr-shr map k 1)
 
--- what is left of a map below 8, behind each of its bits
+-- what is left of a map behind each of its bits, and of a map below 8 or 16 behind its last but one
 pub first-left : (map : ℕ) → BitLeft map (ones map) 0
 first-left map = record { in-map = omega arith; counted = omega (arith, ones-from map 0, ap ones (div-one map)) }
 
@@ -37,6 +30,16 @@ unfolding ones
 third-left map left last few e e′ =
     let none : ones (map / 2 ^ 3) ≡ 0 = ap ones (div-eq-of-lt few) in
     omega (arith, e, e′, none, ones-from map 0, ones-from map 1, ones-from map 2, ap ones (div-one map))
+
+module _ (map left next : ℕ) (e : left ≡ ones map - digit map 0) (e′ : next ≡ left - digit map 1) where
+  pub third-bit : BitLeft map next 2
+  third-bit = record { in-map = omega arith; counted = omega (arith, e, e′, ones-from map 0, ones-from map 1, ones-from map 2, ap ones (div-one map)) }
+
+  pub fourth-left : (last : ℕ) → map < 16 → last ≡ next - digit map 2 → last ≡ digit map 3
+  unfolding ones
+  fourth-left last few e″ =
+      let none : ones (map / 2 ^ 4) ≡ 0 = ap ones (div-eq-of-lt few) in
+      omega (arith, e, e′, e″, none, ones-from map 0, ones-from map 1, ones-from map 2, ones-from map 3, ap ones (div-one map))
 
 module _ {A : Type 0} (field : ℕ → A → Reader A) (map : ℕ) where
   -- a bit that is clear reads nothing
@@ -53,50 +56,33 @@ module _ {A : Type 0} (field : ℕ → A → Reader A) (map : ℕ) where
       let rest : ones (map / 2 ^ (k + 1)) ≡ 0 = omega (arith, ones-from map k) in
       ap (each (turn (fieldAt field map)) n (k + 1)) (clear-turn k r clear) ∙ none-left n (k + 1) r rest
 
-  -- a map below 8 has no bit from 3 on: the fields of its first three bits are all of them
-  pub three-fields : (absent : A) (at : ℕ) {a b d : A} {s : List ℕ} {p n q n′ r n″ pq pqr : ℕ} → map < 8
-      → Reads s p n a (fieldAt field map 0 absent (drop at s))
-      → Reads s q n′ b (fieldAt field map 1 a (drop n s)) → pq ≡ first p q → Reads s r n″ d (fieldAt field map 2 b (drop n′ s)) → pqr ≡ first pq r
-      → Reads s pqr n″ d (fields field map absent (drop at s))
-  unfolding ones first
-  three-fields absent at {a} {b} {d} {s} {p} {n} {q} {n′} {r} {n″} {pq} {pqr} few one two e three e′ =
-      let turn : (refusal next : ℕ) (value : A) (k : ℕ) → Type 0 = RepeatLeft (fieldAt field map) mapBits absent s at in
-      let left₁ : turn p n a 1 = repeat-more (repeat-start refl) (omega arith) one refl in
-      let left₂ : turn pq n′ b 2 = repeat-more left₁ (omega arith) two e in
-      let left₃ : turn pqr n″ d 3 = repeat-more left₂ (omega arith) three e′ in
-      record { same = sym (none-left (mapBits - 3) 3 (asRead s pqr n″ d) (ap ones (div-eq-of-lt few))) ∙ left₃ .turns .same }
+  module _ (absent : A) (at : ℕ) {a b d : A} {s : List ℕ} {p n q n′ r n″ pq pqr : ℕ} where
+    -- the fields of the first three bits are read
+    three-read : Reads s p n a (fieldAt field map 0 absent (drop at s)) → Reads s q n′ b (fieldAt field map 1 a (drop n s)) → pq ≡ first p q
+        → Reads s r n″ d (fieldAt field map 2 b (drop n′ s)) → pqr ≡ first pq r → RepeatLeft (fieldAt field map) mapBits absent s at pqr n″ d 3
+    unfolding first
+    three-read one two e three e′ =
+        let turn : (refusal next : ℕ) (value : A) (k : ℕ) → Type 0 = RepeatLeft (fieldAt field map) mapBits absent s at in
+        let left₁ : turn p n a 1 = repeat-more (repeat-start refl) (omega arith) one refl in
+        let left₂ : turn pq n′ b 2 = repeat-more left₁ (omega arith) two e in
+        repeat-more left₂ (omega arith) three e′
 
-module _ {A : Type 0} {field : ℕ → A → Reader A} {absent : A} {s : List ℕ} {at map : ℕ} where
-  pub fields-start : {value : A} {left : ℕ} → map < 2 ^ mapBits → value ≡ absent → left ≡ ones map → FieldsLeft field absent s at map 0 at value left 0
-  fields-start fits absent-value count =
-      record { map-byte = fits; fields-read = repeat-start absent-value; standing = count ∙ sym (ap ones (div-one map)) }
-
-  module _ {refusal next : ℕ} {value : A} {left k : ℕ} (f : FieldsLeft field absent s at map refusal next value left k) where
-    -- while a field is left, k is a bit of the map byte
-    pub fields-bit : (left ≡ 0 → ⊥) → BitLeft map left k
+    -- a map below 8 has no bit from 3 on: they are all of them
+    pub three-fields : map < 8 → Reads s p n a (fieldAt field map 0 absent (drop at s)) → Reads s q n′ b (fieldAt field map 1 a (drop n s)) → pq ≡ first p q
+        → Reads s r n″ d (fieldAt field map 2 b (drop n′ s)) → pqr ≡ first pq r → Reads s pqr n″ d (fields field map absent (drop at s))
     unfolding ones
-    fields-bit some = record { in-map = lt-of-not-le (λ past. some (none past)); counted = omega (arith, f .standing, ones-from map k) }
-      where
-        none : mapBits ≤ k → left ≡ 0
-        none past =
-            let last : k ≡ mapBits = omega (arith, f .fields-read .turns .inside) in
-            f .standing ∙ ap (λ (n : ℕ). ones (map / 2 ^ n)) last ∙ ap ones (div-eq-of-lt (f .map-byte))
-
-    -- one more field
-    pub fields-more : {q n′ refusal′ left′ : ℕ} {v′ : A} → (left ≡ 0 → ⊥) → Reads s q n′ v′ (fieldAt field map k value (drop next s))
-        → refusal′ ≡ first refusal q → left′ ≡ left - digit map k → FieldsLeft field absent s at map refusal′ n′ v′ left′ (k + 1)
-    fields-more some read e fewer =
-        record {
-          map-byte = f .map-byte;
-          fields-read = repeat-more (f .fields-read) (fields-bit some .in-map) read e;
-          standing = omega (arith, fewer, f .standing, ones-from map k);
-        }
-
-    -- no field is left
-    pub fields-done : left ≡ 0 → Reads s refusal next value (fields field map absent (drop at s))
-    fields-done none =
+    three-fields few one two e three e′ =
         record {
           same =
-              sym (none-left field map (mapBits - k) k (asRead s refusal next value) (sym (f .standing) ∙ none))
-              ∙ f .fields-read .turns .same;
+              sym (none-left (mapBits - 3) 3 (asRead s pqr n″ d) (ap ones (div-eq-of-lt few)))
+              ∙ three-read one two e three e′ .turns .same;
         }
+
+    -- a map below 16 has no bit from 4 on
+    pub four-fields : {t m all : ℕ} {f : A} → map < 16 → Reads s p n a (fieldAt field map 0 absent (drop at s))
+        → Reads s q n′ b (fieldAt field map 1 a (drop n s)) → pq ≡ first p q → Reads s r n″ d (fieldAt field map 2 b (drop n′ s)) → pqr ≡ first pq r
+        → Reads s t m f (fieldAt field map 3 d (drop n″ s)) → all ≡ first pqr t → Reads s all m f (fields field map absent (drop at s))
+    unfolding ones
+    four-fields {t} {m} {all} {f} few one two e three e′ four e″ =
+        let left₄ : RepeatLeft (fieldAt field map) mapBits absent s at all m f 4 = repeat-more (three-read one two e three e′) (omega arith) four e″ in
+        record { same = sym (none-left (mapBits - 4) 4 (asRead s all m f) (ap ones (div-eq-of-lt few))) ∙ left₄ .turns .same }

@@ -1,55 +1,77 @@
--- `component_record::read_fields` meets its contract. Each turn reads the field of one bit, and as many fields are left as bits stand from k on (`FieldsLeft`);
--- what falls is the number of bits that the turns have still to pass.
-use Prim.Native.Nat.{_-_, _<_}
+-- `component_record::read_fields` meets its contract: the fields of bits 0 to 3 are read in turn, and a map of a component has no bit behind these. What is
+-- left of the count of ones behind bits 0 to 2 is bit 3.
+use Prim.Native.Nat.{ℕ}
+use mathlib.Core.Path.{_≡_, ap, subst}
 use native.Mathlib.Omega.{arith}
-use Rattle.reading.specs.Fields.{mapBits}
+use lib.ListN.{drop}
+use Rattle.lists.specs.Bits.{digit}
+use Rattle.reading.specs.Fields.{whereLeft, fields}
+use Rattle.reading.specs.Reader.{Read, Reads}
 use Rattle.reading.proofs.Calls.{asks-nothing}
-use Rattle.reading.proofs.MapBits.{FieldsLeft, fields-start, fields-bit, fields-more, fields-done}
-use Rattle.study.specs.Absent.{absentComponent}
-use Rattle.component_record.specs.Component.{componentField}
+use Rattle.reading.proofs.MapBits.{first-left, second-left, third-bit, fourth-left, four-fields}
+use Rattle.study.specs.declared.Component.{Component}
+use Rattle.component_record.specs.Component.{probability, componentField}
 use Rattle.component_record.proofs.read_fields.Statement.{statement}
 use Rattle.component_record.proofs.read_fields.Tie as tie
 
-abbrev Inv-loop : tie.InvT-loop
-Inv-loop bytes at map refusal₀ next₀ component₀ left₀ k₀ refusal next component left k =
-    FieldsLeft componentField absentComponent bytes at map refusal next component left k
+-- the way back from the count of ones to the start
+abbrev start : tie.After-field-count → tie.Start
+start c =
+    let states = c .before .before .before in
+    states .before .before .before
 
-abbrev μ-loop : tie.MeasureT-loop
-μ-loop bytes at map refusal₀ next₀ component₀ left₀ k₀ refusal next component left k = mapBits - k
+fields-behind-requires : tie.Need-fields-behind-requires
+fields-behind-requires c κs = rw (c .field-count .ensures) (first-left _)
 
-loop-holds : tie.Need-loop-holds Inv-loop μ-loop
-loop-holds c = fields-start (c .before .before .before .fits .map .fits) (c .before .absent-component .ensures) (c .field-count .ensures)
+fields-behind-requires-2 : tie.Need-fields-behind-requires-2
+fields-behind-requires-2 c κs = second-left _ _ (rw (c .before .field-count .ensures) at (c .fields-behind .ensures))
 
--- bit k is one of the map's
-in-map : (c : tie.In-loop Inv-loop μ-loop) → c .before .loop .k < mapBits
-in-map c = fields-bit (c .before .loop .inv) (c .loop-test .taken) .in-map
+fields-behind-requires-3 : tie.Need-fields-behind-requires-3
+fields-behind-requires-3 c κs =
+    third-bit _ _ _ (rw (c .before .before .field-count .ensures) at (c .before .fields-behind .ensures)) (c .fields-behind2 .ensures)
 
-read-field-requires : tie.Need-read-field-requires Inv-loop μ-loop
-read-field-requires c κs = in-map c
+-- what is left behind bit 2
+last-left : (c : tie.After-fields-behind3) → c .fields-behind3 .result ≡ digit (start (c .before .before .before) .args .map) 3
+last-left c =
+    let two = c .before in
+    let one = two .before in
+    fourth-left _ _ _ (rw (one .before .field-count .ensures) at (one .fields-behind .ensures)) (two .fields-behind2 .ensures) _
+    (start (one .before) .pre) (c .fields-behind3 .ensures)
 
-fields-behind-requires : tie.Need-fields-behind-requires Inv-loop μ-loop
-fields-behind-requires c κs = let turn = c .before .before .before in fields-bit (turn .before .loop .inv) (turn .loop-test .taken)
-
-abbrev turn : tie.After-fields-behind Inv-loop μ-loop → tie.In-loop Inv-loop μ-loop
-turn c = c .before .before .before .before
-
-add-k : tie.Need-add-k Inv-loop μ-loop
-add-k c = omega (arith, in-map (turn c))
-
-loop-less : tie.Need-loop-less Inv-loop μ-loop
-loop-less c = omega (arith, in-map (turn c))
-
-loop-again : tie.Need-loop-again Inv-loop μ-loop
-loop-again c =
-    let read = c .before .before .before .read-field .ensures in
-    let first-breach = c .before .before .first .ensures in
-    fields-more (turn c .before .loop .inv) (turn c .loop-test .taken) read first-breach (c .fields-behind .ensures)
-
-returns : tie.Need-returns Inv-loop μ-loop
-returns c = fields-done (c .before .loop .inv) (c .loop-test .left)
+returns : tie.Need-returns
+unfolding componentField
+returns c =
+    let last = c .before .before .before .before in
+    let left = last .before in
+    let counted = left .before .before .before in
+    let two = counted .before in
+    let one = two .before in
+    let states = one .before in
+    let absent = states .before .absent-component in
+    let entry = start counted in
+    let last-of : ℕ → Read Component =
+    λ n. whereLeft n (probability 3) (two .read-field3 .result .component) (drop (two .read-field3 .result .next) (entry .args .bytes .now)) in
+    let fields-of : Component → Read Component =
+    λ a. fields componentField (entry .args .map) a (drop (entry .args .at) (entry .args .bytes .now)) in
+    subst (Reads _ _ _ _) (ap fields-of (absent .ensures))
+    (four-fields componentField (entry .args .map) (absent .result) (entry .args .at) (entry .pre)
+    (states .read-field .ensures) (one .read-field2 .ensures) (c .before .before .first .ensures) (two .read-field3 .ensures) (c .before .first2 .ensures)
+    (subst (Reads _ _ _ _) (ap last-of (last-left left)) (last .read-last .ensures)) (c .first3 .ensures))
 
 pub read-fields-spec : {M : Type 1} → statement M
 read-fields-spec =
     tie.close
-    (tie.spec Inv-loop μ-loop asks-nothing asks-nothing loop-holds read-field-requires asks-nothing
-    fields-behind-requires add-k loop-less loop-again returns)
+    (tie.spec
+    asks-nothing
+    (λ c κs. omega arith)
+    (λ c κs. omega arith)
+    (λ c κs. omega arith)
+    asks-nothing
+    fields-behind-requires
+    fields-behind-requires-2
+    fields-behind-requires-3
+    asks-nothing
+    asks-nothing
+    asks-nothing
+    asks-nothing
+    returns)
