@@ -1,18 +1,37 @@
--- Laws of entries in a list: where each stands, how long it is, that its class is one, and that entries put at the front of a buffer stand there.
+-- Laws of entries: how long one is and which class it bears; and of entries in a list, where each stands, and that entries put at the front of a buffer
+-- stand there.
 use Prim.Native.Nat.{ℕ, suc, _+_, _*_, _<_, _≤_}
 use mathlib.Core.Path.{_≡_, refl, sym, ap, _∙_}
-use mathlib.Core.List.{List, []}
+use mathlib.Core.List.{List, [], _∷_, append-nil}
 use native.Mathlib.Nat.{mul-le-mul-right}
 use native.Mathlib.Omega.{arith}
-use lib.ListN.{length, getD, take, drop, length-drop}
-use lib.Seq.{length-take-le, take-append-le, drop-append-le}
+use lib.ListN.{length, getD, take, drop, length-append, length-drop}
+use lib.Seq.{length-take-le, take-append-le, drop-append-le, drop-append-seam}
 use Rattle.lists.specs.Rows.{put, joined}
 use Rattle.lists.proofs.Elements.{Every}
 use Rattle.lists.proofs.Joined.{joined-long}
 use Rattle.lists.proofs.Rows.{row-at}
 use Rattle.lists.proofs.Tabulated.{length-tabulate, getD-tabulate, tabulated}
-use Rattle.entries.specs.Entries.{entryBytes, entryAt, entriesOf}
+use Rattle.entries.specs.Entries.{classCode, classRead, entryBytes, entry, classBorne, entryAt, entriesOf}
 use Rattle.entries.specs.Lists.{EntryIn, PathList}
+use Rattle.entries.proofs.ClassBytes.{code-long, code-read}
+
+-- ---- an entry
+
+pub own-long : (marks : List ℕ) (class : ℕ) → length (entry marks class) ≡ entryBytes (length marks)
+unfolding entry
+own-long marks class = length-append marks (classCode class) ∙ ap (λ (n : ℕ). length marks + n) (code-long class)
+
+-- it bears its own class
+pub own-class : (marks : List ℕ) (class : ℕ) → classBorne (length marks) (entry marks class) ≡ class
+unfolding entry classBorne
+own-class marks class =
+    ap classRead (drop-append-seam marks (classCode class) ∙ sym (append-nil (classCode class))) ∙ code-read class []
+
+-- and so it does with one mark more in front
+pub class-behind : (mark n : ℕ) (entry : List ℕ) → classBorne (suc n) (mark ∷ entry) ≡ classBorne n entry
+unfolding classBorne
+class-behind mark n entry = refl
 
 -- ---- the entries of a list
 

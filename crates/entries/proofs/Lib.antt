@@ -1,2 +1,3 @@
 pub mod ClassBehind
+pub mod ClassBytes
 pub mod Entries

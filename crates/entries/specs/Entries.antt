@@ -14,12 +14,17 @@ blankMark = 255
 abbrev pub classPlaces : ℕ
 classPlaces = 2 ^ mostLoads
 
--- the bytes of a class in an entry, lowest first
-abbrev pub classCode : ℕ → List ℕ
+-- the bytes of a class, lowest first
+unfoldable pub classCode : ℕ → List ℕ
 classCode class = class ∷ []
 
+-- as many whichever class it is
 abbrev pub classBytes : ℕ
 classBytes = 1
+
+-- the class whose bytes stand at the front of a row
+unfoldable pub classRead : List ℕ → ℕ
+classRead bytes = getD bytes 0 0
 
 -- every byte is below
 abbrev pub byteValues : ℕ
@@ -31,11 +36,13 @@ entryBytes n = n + classBytes
 
 -- the entry with these marks and this class
 unfoldable pub entry : List ℕ → ℕ → List ℕ
+unfolding classCode
 entry marks class = marks ++ classCode class
 
 -- document 01's "bears": the class that ends an entry of n components
 unfoldable pub classBorne : ℕ → List ℕ → ℕ
-classBorne n entry = getD entry n 0
+unfolding classRead
+classBorne n entry = classRead (drop n entry)
 
 -- entry k of a list
 abbrev pub entryAt : ℕ → List ℕ → ℕ → List ℕ

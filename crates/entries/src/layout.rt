@@ -1,16 +1,10 @@
-// The layout of an entry, and the type that holds a class.
-
-// A class: bit j stands where load j is lost.
-pub type Class = u8;
-
-// As many classes as there are sets of loads.
-pub const CLASS_PLACES: usize = 256;
+// The layout of an entry: its blank mark, and the room of the longest list.
+use crate::class::CLASS_BYTES;
+use rules::COMPONENT_PLACES;
+use rules::JOINT_STATE_PLACES;
 
 // What stands for the state of a component that is blank on a path: a number that no state has.
 pub const BLANK: u8 = 255;
 
-// The bytes of a class in an entry.
-pub const CLASS_BYTES: usize = 1;
-
-// Room for the longest list: an entry of all components for each of 4,096 joint states.
-pub const LIST_BYTES: usize = 53248;
+// Room for the longest list: an entry of all components for each joint state.
+pub const LIST_BYTES: usize = JOINT_STATE_PLACES * (COMPONENT_PLACES + CLASS_BYTES);

@@ -1,6 +1,7 @@
 // Reading the entries of a list.
-use crate::layout::CLASS_BYTES;
-use crate::layout::Class;
+use crate::class::CLASS_BYTES;
+use crate::class::Class;
+use crate::class::class_from;
 ghost use Prim.Native.Nat.{_+_, _*_, _≤_};
 ghost use mathlib.Core.Path.{_≡_};
 ghost use lib.ListN.{length};
@@ -32,7 +33,7 @@ pub fn class_of(n: usize, entry: &[u8]) -> Class
     requires { ⌜ entryBytes n ≤ length (now entry) ⌝ }
     ensures { λ r. ⌜ r ≡ classBorne n (now (entry .entry)) ⌝ }
 {
-    entry[n]
+    class_from(entry, n)
 }
 
 // The class that entry k of a list bears.

@@ -1,6 +1,6 @@
 // Writing the entries of a list.
-use crate::layout::CLASS_BYTES;
-use crate::layout::Class;
+use crate::class::Class;
+use crate::class::write_class;
 use crate::layout::LIST_BYTES;
 use text::copy;
 ghost use Rattle.lists.specs.Cleared.{Cleared};
@@ -20,6 +20,5 @@ pub fn write_entry(marks: &[u8], class: Class, out: &mut [u8], at: usize) -> usi
     ensures { λ r. ⌜ Wrote (now (out .entry)) at (entry (now (marks .entry)) class) (now (out .exit)) r ⌝ }
 {
     let behind = copy(out, at, marks);
-    out[behind] = class;
-    behind + CLASS_BYTES
+    write_class(out, behind, class)
 }

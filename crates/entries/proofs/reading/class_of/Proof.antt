@@ -6,7 +6,7 @@ use Rattle.entries.proofs.reading.class_of.Tie as tie
 
 returns : tie.Need-returns
 unfolding classBorne
-returns c = search needs
+returns c = c .class-from .ensures
 
 pub class-of-spec : {M : Type 1} → statement M
-class-of-spec = tie.close (tie.spec (λ c. search needs) returns)
+class-of-spec = tie.close (tie.spec (λ c κs. search needs) returns)
