@@ -11,7 +11,8 @@ use borrow.Author.Tests.{eq-eqb}
 use Rattle.lists.specs.Product.{product}
 use Rattle.joint_states.specs.JointStates.{numberOf}
 use Rattle.joint_states.proofs.Numbered.{joint-cons}
-use Rattle.entries.specs.Entries.{blankMark, entry, classBorne}
+use Rattle.entries.specs.Entries.{blankMark}
+use Rattle.entries.proofs.Entries.{own-long, own-class, class-behind}
 use Rattle.paths.specs.Blocks.{classAt}
 use Rattle.paths.specs.Paths.{part, isBlank, paths}
 use Rattle.paths.specs.Theorems.{EachIsEntry}
@@ -35,7 +36,7 @@ own-state false s c h settled = h
 -- one component more in front
 entry-more : (c : ℕ) (cs block : List ℕ) (blank : Bool) (s : ℕ) (row : List ℕ) → s < c → IsEntry cs (classAt cs (part (product cs) s block)) row
     → IsEntry (c ∷ cs) (classAt (c ∷ cs) block) (mark blank s ∷ row)
-unfolding fits classBorne
+unfolding fits
 entry-more c cs block blank s row h rest =
     record {
       long = omega (arith, rest .long);
@@ -43,7 +44,7 @@ entry-more c cs block blank s row h rest =
       joint = s ∷ rest .joint;
       is-joint = joint-cons h (rest .is-joint);
       fitted = rw (own-fits blank s, rest .fitted) refl;
-      bears = rest .bears ∙ sym (class-part c cs block s (rest .joint) (rest .is-joint));
+      bears = class-behind (mark blank s) (length cs) row ∙ rest .bears ∙ sym (class-part c cs block s (rest .joint) (rest .is-joint));
     }
   where
     states : (k : ℕ) → k < length (c ∷ cs) → Settled (mark blank s ∷ row) k → getD (mark blank s ∷ row) k blankMark < getD (c ∷ cs) k 0
@@ -51,15 +52,15 @@ entry-more c cs block blank s row h rest =
     states (suc k) less settled = rest .states k (omega arith) settled
 
 pub each-entry : EachIsEntry
-unfolding paths entry fits classBorne numberOf
+unfolding paths fits numberOf
 each-entry [] block b zero h =
     record {
-      long = refl;
+      long = own-long [] (getD block 0 0);
       states = λ k less settled. absurd (omega arith);
       joint = [];
       is-joint = record { long = refl; below = λ k less. absurd (omega arith) };
       fitted = refl;
-      bears = refl;
+      bears = own-class [] (getD block 0 0);
     }
 each-entry [] block b (suc i) h = absurd (omega arith)
 each-entry (c ∷ cs) block b i h =

@@ -3,12 +3,13 @@
 use mathlib.Core.Path.{refl, sym, ap, _∙_}
 use mathlib.Core.List.{[], _∷_}
 use native.Mathlib.Omega.{arith}
-use lib.ListN.{getD}
+use lib.ListN.{length, getD}
 use Rattle.lists.specs.Counting.{those}
 use Rattle.lists.specs.Product.{product}
 use Rattle.joint_states.specs.JointStates.{numberOf}
 use Rattle.joint_states.proofs.Numbered.{joint-head, joint-tail, joint-none}
-use Rattle.entries.specs.Entries.{entry, classBorne}
+use Rattle.entries.specs.Entries.{entry}
+use Rattle.entries.proofs.Entries.{own-class, class-behind}
 use Rattle.paths.specs.Paths.{part, isBlank, paths}
 use Rattle.paths.specs.Ways.{mark}
 use Rattle.paths.specs.Words.{fits, fitting}
@@ -19,8 +20,8 @@ use Rattle.paths.proofs.Parts.{first-some, first-most, part-block, clas
 use Rattle.paths.proofs.Ways.{partPaths, paths-branches, headed}
 
 pub one-path-each : OnePathEach
-unfolding paths those fits numberOf entry classBorne
-one-path-each [] block b [] j = record { path = entry [] (getD block 0 0); only = refl; bears = refl }
+unfolding paths those fits numberOf
+one-path-each [] block b [] j = record { path = entry [] (getD block 0 0); only = refl; bears = own-class [] (getD block 0 0) }
 one-path-each [] block b (s ∷ x) j = absurd (omega (arith, j .long))
 one-path-each (c ∷ cs) block b [] j = absurd (joint-none j)
 one-path-each (c ∷ cs) block b (s ∷ x) j =
@@ -33,5 +34,5 @@ one-path-each (c ∷ cs) block b (s ∷ x) j =
           ∙ fitting-branches s x (partPaths cs block) blank c (joint-head j) (first-most b)
           (λ e. ap (paths cs) (blank-alike c (product cs) block e 0 s (first-some b) (joint-head j)))
           ∙ ap (headed (mark blank s)) (rest .only);
-      bears = rest .bears ∙ sym (class-part c cs block s x (joint-tail j));
+      bears = class-behind (mark blank s) (length cs) (rest .path) ∙ rest .bears ∙ sym (class-part c cs block s x (joint-tail j));
     }

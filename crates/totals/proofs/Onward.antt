@@ -11,6 +11,7 @@ use Rattle.lists.specs.Counting.{counted, sumOver}
 use Rattle.lists.proofs.SumOver.{sum-over-append, sum-over-map}
 use Rattle.units.specs.One.{one}
 use Rattle.entries.specs.Entries.{blankMark, classBorne, entry}
+use Rattle.entries.proofs.Entries.{own-class, class-behind}
 use Rattle.paths.specs.Paths.{paths}
 use Rattle.paths.proofs.Ways.{headed}
 use Rattle.probability.specs.Bounds.{factored, pathBound, total}
@@ -62,15 +63,16 @@ module _ (rounding : ℕ) (probabilities : List ℕ) where
     pub brought-headed : (i n bound mark : ℕ) (rows : List (List ℕ))
         → broughtBy rounding probabilities i (suc n) bound keep (headed mark rows)
         ≡ broughtBy rounding probabilities (i + 1) n (factored rounding probabilities i mark bound) keep rows
-    unfolding broughtBy onward classBorne
+    unfolding broughtBy onward
     brought-headed i n bound mark rows =
         sum-over-map (λ (entry : List ℕ). counted (keep (classBorne (suc n) entry)) (onward rounding probabilities i (suc n) entry bound))
         (λ (row : List ℕ). mark ∷ row) rows
+        ∙ (λ k. sumOver (λ (row : List ℕ). counted (keep (class-behind mark n row k)) (onward rounding probabilities i (suc n) (mark ∷ row) bound)) rows)
 
     -- no component is left: the one entry bears its class alone
     pub brought-leaf : (i bound class : ℕ) → broughtBy rounding probabilities i 0 bound keep (entry [] class ∷ []) ≡ counted (keep class) bound
-    unfolding broughtBy sumOver onward classBorne entry
-    brought-leaf i bound class = add-zero (counted (keep class) bound)
+    unfolding broughtBy sumOver onward
+    brought-leaf i bound class = rw (own-class [] class) (add-zero (counted (keep class) bound))
 
     brought-all : (n : ℕ) (entries : List (List ℕ)) → broughtBy rounding probabilities 0 n one keep entries ≡ total rounding probabilities n keep entries
     unfolding broughtBy
