@@ -2,9 +2,10 @@
 -- only laws that look at the bytes themselves.
 use Prim.Native.Nat.{ℕ, _+_, _≤_}
 use mathlib.Core.Path.{_≡_, refl, sym, ap, _∙_}
-use mathlib.Core.List.{List, _++_}
+use mathlib.Core.List.{List, [], _∷_, _++_}
 use native.Mathlib.Nat.{add-zero}
-use lib.ListN.{length, getD, drop, set}
+use native.Mathlib.Omega.{arith}
+use lib.ListN.{length, getD, take, drop, set, List·getD-append}
 use lib.Seq.{getD-drop}
 use Rattle.text.specs.Writing.{Room, Wrote}
 use Rattle.text.proofs.Pieces.{wrote-one}
@@ -18,6 +19,17 @@ code-long class = refl
 pub code-read : (class : ℕ) (rest : List ℕ) → classRead (classCode class ++ rest) ≡ class
 unfolding classCode classRead
 code-read class rest = refl
+
+-- it is read from so many bytes, and nothing behind them is looked at
+pub read-front : (bytes rest : List ℕ) → classBytes ≤ length bytes → classRead (bytes ++ rest) ≡ classRead bytes
+unfolding classRead
+read-front bytes rest enough = List·getD-append bytes rest 0 0 enough
+
+-- which are its own
+pub read-code : (bytes : List ℕ) → classBytes ≤ length bytes → classCode (classRead bytes) ≡ take classBytes bytes
+unfolding classCode classRead
+read-code [] enough = absurd (omega arith)
+read-code (b ∷ rest) enough = refl
 
 -- the bytes at a place, one by one
 pub read-at : (bytes : List ℕ) (at : ℕ) → getD bytes at 0 ≡ classRead (drop at bytes)

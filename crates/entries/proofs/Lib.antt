@@ -1,3 +1,4 @@
 pub mod ClassBehind
 pub mod ClassBytes
+pub mod ClassReading
 pub mod Entries

@@ -1,2 +1,3 @@
+pub mod ClassReader
 pub mod Entries
 pub mod Lists

@@ -2,17 +2,18 @@
 // the longest list takes. Not for callers from outside: those call `planning`.
 mod class;
 mod layout;
-mod reading;
+mod list;
 mod writing;
 
 pub use class::CLASS_BYTES;
 pub use class::CLASS_PLACES;
 pub use class::Class;
+pub use class::class_or;
 pub use layout::BLANK;
 pub use layout::LIST_BYTES;
-pub use reading::class_at;
-pub use reading::class_of;
-pub use reading::entry_at;
-pub use reading::list_need;
+pub use list::class_at;
+pub use list::class_of;
+pub use list::entry_at;
+pub use list::list_need;
 pub use writing::empty_list;
 pub use writing::write_entry;

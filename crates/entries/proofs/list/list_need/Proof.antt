@@ -1,12 +1,12 @@
--- `entries::reading::list_need` meets its contract: the longest list fits in memory.
+-- `entries::list::list_need` meets its contract: the longest list fits in memory.
 use native.Mathlib.Nat.{mul-le-mul}
 use native.Mathlib.Omega.{arith}
 use borrow.Author.Needs.{needs}
 use Prim.Native.Nat.{_*_, _≤_}
 use Rattle.rules.specs.Limits.{mostComponents}
 use Rattle.entries.specs.Entries.{entryBytes, listBytes}
-use Rattle.entries.proofs.reading.list_need.Statement.{statement}
-use Rattle.entries.proofs.reading.list_need.Tie as tie
+use Rattle.entries.proofs.list.list_need.Statement.{statement}
+use Rattle.entries.proofs.list.list_need.Tie as tie
 
 mul-result : tie.Need-mul-result
 mul-result c =

@@ -1,11 +1,11 @@
--- `entries::reading::class_at` meets its contract: the entry is as long as it should be.
+-- `entries::list::class_at` meets its contract: the entry is as long as it should be.
 use mathlib.Core.Path.{ap, _∙_}
 use native.Mathlib.Omega.{arith}
 use borrow.Author.Needs.{needs}
 use Rattle.entries.specs.Entries.{classBorne}
 use Rattle.entries.proofs.Entries.{entry-at-long}
-use Rattle.entries.proofs.reading.class_at.Statement.{statement}
-use Rattle.entries.proofs.reading.class_at.Tie as tie
+use Rattle.entries.proofs.list.class_at.Statement.{statement}
+use Rattle.entries.proofs.list.class_at.Tie as tie
 
 class-of-requires : tie.Need-class-of-requires
 class-of-requires c κs = omega (arith, entry-at-long _ (c .before .before .pre) (c .entry-at .ensures))

@@ -1,8 +1,8 @@
--- `entries::reading::class_of` meets its contract: the class ends the entry.
+-- `entries::list::class_of` meets its contract: the class ends the entry.
 use borrow.Author.Needs.{needs}
 use Rattle.entries.specs.Entries.{classBorne}
-use Rattle.entries.proofs.reading.class_of.Statement.{statement}
-use Rattle.entries.proofs.reading.class_of.Tie as tie
+use Rattle.entries.proofs.list.class_of.Statement.{statement}
+use Rattle.entries.proofs.list.class_of.Tie as tie
 
 returns : tie.Need-returns
 unfolding classBorne
