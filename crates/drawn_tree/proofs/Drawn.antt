@@ -20,7 +20,7 @@ use Rattle.reading.specs.Reader.{Reader, got, turn}
 use Rattle.reading.proofs.Alike.{Alike, alike-self, alike-return, alike-then, alike-finished, alike-judge, alike-cond}
 use Rattle.reading.proofs.Repeats.{run-then}
 use Rattle.drawn_tree.specs.Tree.{Tree, node, Trees, none, more, drawnClass, reached}
-use Rattle.drawn_tree.specs.Reading.{leafMark, asked, treeByte, leafRead, subtreesRead, nodeRead, treeRead}
+use Rattle.drawn_tree.specs.Reading.{leafMark, asked, treeByte, treeClass, leafRead, subtreesRead, nodeRead, treeRead}
 use Rattle.drawn_tree.specs.Filling.{painted, branchFilled, leafDrawn, nodeDrawn, treeDrawn}
 use Rattle.drawn_tree.proofs.Asked.{Free, free-kept, fits-asked}
 use Rattle.drawn_tree.proofs.Painted.{painted-twice, painted-none}
@@ -32,7 +32,7 @@ treePainted counts marks table tree = painted (λ x. fits x marks) (drawnClass t
 leaf-drawn : (counts : List ℕ) (loads : ℕ) (marks table : List ℕ) → Alike (treePainted counts marks table) (leafRead loads) (leafDrawn counts loads marks table)
 unfolding leafDrawn leafRead branchFilled drawnClass
 leaf-drawn counts loads marks table =
-    alike-then _ (alike-self treeByte) (λ class. alike-judge (leafFault loads class) (λ kept. alike-return refl))
+    alike-then _ (alike-self treeClass) (λ class. alike-judge (leafFault loads class) (λ kept. alike-return refl))
 
 -- ---- a node
 

@@ -13,6 +13,7 @@ use Rattle.rules.specs.Breach.{refuse}
 use Rattle.rules.specs.Limits.{mostComponents}
 use Rattle.rules.specs.Table.{nodeFault, badEnd, leafFault}
 use Rattle.reading.specs.Reader.{Read, refused, got, Reader, andThen}
+use Rattle.entries.proofs.ClassReading.{local-class}
 use Rattle.reading.proofs.Local.{Local, Stands, local-then, local-return, local-judge, local-judged, local-byte-or, local-cond}
 use Rattle.drawn_tree.specs.Tree.{Tree, leaf, node, more}
 use Rattle.drawn_tree.specs.Reading.{leafMark, nothingAsked, asked, leafRead, subtreesRead, nodeRead, treeRead, ended, drawnRead}
@@ -24,7 +25,7 @@ use Rattle.drawn_tree.proofs.Judged.{Judged, tree-judged}
 
 local-leaf : (loads : ℕ) → Local badEnd (leafRead loads)
 unfolding leafRead
-local-leaf loads = local-judged (leafFault loads) leaf (local-byte-or badEnd)
+local-leaf loads = local-judged (leafFault loads) leaf (local-class badEnd)
 
 local-subtrees : (read : ℕ → Reader Tree) → ((s : ℕ) → Local badEnd (read s)) → (s n : ℕ) → Local badEnd (subtreesRead read s n)
 unfolding subtreesRead

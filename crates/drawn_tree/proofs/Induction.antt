@@ -11,7 +11,7 @@ use Rattle.rules.specs.Table.{nodeFault, badEnd, behindFault, leafFault}
 use Rattle.reading.specs.Reader.{Read, refused, got, Reader, byteOr}
 use Rattle.reading.proofs.Held.{Held, Gives, held, gives-any, gives-then, gives-return, gives-judge, gives-cond}
 use Rattle.drawn_tree.specs.Drawn.{faultIn, treeIn, drawnFault, drawnTree}
-use Rattle.drawn_tree.specs.Reading.{leafMark, nothingAsked, asked, leafRead, subtreesRead, nodeRead, treeRead, ended, drawnRead}
+use Rattle.drawn_tree.specs.Reading.{leafMark, nothingAsked, asked, treeClass, leafRead, subtreesRead, nodeRead, treeRead, ended, drawnRead}
 use Rattle.drawn_tree.specs.Tree.{Tree, leaf, node, Trees, none, more}
 use Rattle.drawn_tree.proofs.Judged.{Judged, drawn-judged}
 
@@ -30,7 +30,7 @@ module _ (counts : List ℕ) (loads : ℕ) (P : List ℕ → Tree → Type 0) (s
   gives-leaf : (marks : List ℕ) → Gives (leafRead loads) (P marks)
   unfolding leafRead
   gives-leaf marks =
-      gives-then (gives-any (byteOr badEnd))
+      gives-then (gives-any treeClass)
       (λ class u. gives-judge (leafFault loads class) (λ kept. gives-return (steps .at-leaf marks class kept)))
 
   gives-subtrees : (Q : ℕ → Tree → Type 0) (read : ℕ → Reader Tree) → ((s : ℕ) → Gives (read s) (Q s)) → (s n : ℕ)

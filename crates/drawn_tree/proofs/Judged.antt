@@ -14,6 +14,7 @@ use Rattle.rules.specs.Limits.{mostComponents}
 use Rattle.rules.specs.Table.{nodeFault, badEnd, behindFault, leafFault}
 use Rattle.rules.proofs.Rows.{leaf-kept}
 use Rattle.reading.specs.Reader.{Read, refused, got, Reader}
+use Rattle.entries.proofs.ClassReading.{ends-class}
 use Rattle.reading.proofs.Ends.{EndsIn, Ends, ends-then, ends-return, ends-byte-or, ends-judge, ends-cond}
 use Rattle.drawn_tree.specs.Tree.{Tree, Trees, none, more, drawnClass, reached}
 use Rattle.drawn_tree.specs.Reading.{leafMark, nothingAsked, asked, leafRead, subtreesRead, nodeRead, treeRead, ended, drawnRead}
@@ -67,8 +68,8 @@ module _ (counts : List ℕ) (loads : ℕ) where
   ends-leaf : (n : ℕ) → Ends DrawnRow n (leafRead loads) (λ tree left. Bounded loads tree)
   unfolding leafRead drawnClass
   ends-leaf n =
-      ends-then (ends-byte-or badEnd n (λ few. end-row))
-      (λ class left taken. ends-judge (leafFault loads class) (leaf-broken loads class) (λ kept. ends-return (λ x. leaf-kept loads class kept)))
+      ends-then (ends-class badEnd end-row)
+      (λ class left u. ends-judge (leafFault loads class) (leaf-broken loads class) (λ kept. ends-return (λ x. leaf-kept loads class kept)))
 
   ends-subtrees : (read : ℕ → Reader Tree) → ((s n : ℕ) → Ends DrawnRow n (read s) (λ tree left. Bounded loads tree)) → (s k n : ℕ)
       → Ends DrawnRow n (subtreesRead read s k) (λ subtrees left. AllBounded loads subtrees)

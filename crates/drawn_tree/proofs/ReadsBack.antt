@@ -10,6 +10,8 @@ use borrow.Author.Tests.{eqb-true}
 use Rattle.rules.specs.Limits.{mostComponents}
 use Rattle.rules.specs.Table.{nodeFault, badEnd, leafFault}
 use Rattle.reading.specs.Reader.{Read, refused, got, Reader, andThen}
+use Rattle.entries.specs.Entries.{classCode}
+use Rattle.entries.proofs.ClassReading.{spells-class}
 use Rattle.reading.proofs.Spelled.{SpelledIn, Spells, spells-then, spells-return, spells-byte, spells-judge, spells-cond}
 use Rattle.drawn_tree.specs.Tree.{Tree}
 use Rattle.drawn_tree.specs.Reading.{leafMark, nothingAsked, asked, leafRead, subtreesRead, nodeRead, treeRead, ended, drawnRead}
@@ -21,8 +23,8 @@ use Rattle.drawn_tree.proofs.Judged.{Judged, tree-judged}
 spells-leaf : (loads first : ℕ) → first ≡ leafMark → Spells (first ∷ []) (leafRead loads) treeBytes
 unfolding leafRead treeBytes
 spells-leaf loads first is =
-    spells-then (spells-byte badEnd)
-    (λ class. spells-judge (leafFault loads class) (spells-return (ap (λ (b : ℕ). b ∷ class ∷ []) (sym is))))
+    spells-then (spells-class badEnd)
+    (λ class. spells-judge (leafFault loads class) (spells-return (ap (λ (b : ℕ). b ∷ classCode class) (sym is))))
 
 spells-subtrees : (read : ℕ → Reader Tree) → ((s : ℕ) → Spells [] (read s) treeBytes) → (s n : ℕ) → Spells [] (subtreesRead read s n) treesBytes
 unfolding subtreesRead treesBytes

@@ -15,14 +15,17 @@ use borrow.Author.Tests.{eqb-true, eqb-false, eq-eqb, ne-eqb, lt-leb}
 use Rattle.lists.specs.OneOf.{OneOf}
 use Rattle.rules.specs.Breach.{refuse}
 use Rattle.rules.specs.Limits.{mostComponents}
+use Rattle.rules.specs.Table.{badEnd, leafFault}
 use Rattle.rules.proofs.Rows.{leaf-kept}
-use Rattle.entries.specs.Entries.{blankMark}
+use Rattle.entries.specs.Entries.{blankMark, classCode}
+use Rattle.entries.proofs.ClassReading.{back-class}
 use Rattle.reading.specs.Reader.{Read, got, andThen, byteOr}
+use Rattle.reading.proofs.Back.{Back, back-judged}
 use Rattle.drawn_tree.specs.Drawn.{faultIn, treeIn, drawnFault, drawnTree}
 use Rattle.drawn_tree.specs.Filling.{unasked}
 use Rattle.drawn_tree.specs.Laws.{treeBytes, treesBytes}
 use Rattle.drawn_tree.specs.Reading.{leafMark, nothingAsked, leafRead, subtreesRead, nodeRead, treeRead, ended, drawnRead}
-use Rattle.drawn_tree.specs.Tree.{Tree, Trees}
+use Rattle.drawn_tree.specs.Tree.{Tree, leaf, Trees}
 use Rattle.drawn_tree.specs.WellDrawn.{WellDrawn, a-leaf, a-node, EachDrawn, no-more, one-more, WholeDrawn, Accepts}
 use Rattle.drawn_tree.proofs.Asked.{free-kept, unasked-less}
 use Rattle.drawn_tree.proofs.Induction.{EachSubtree, no-more as none-behind, one-more as one-behind, Steps, drawn-holds}
@@ -102,6 +105,12 @@ module _ (counts : List ℕ) (loads : ℕ) (few : length counts ≤ mostComponen
 
   -- ---- a well-drawn tree is read
 
+  leaf-back : (class : ℕ) → class < 2 ^ loads → Back (leafRead loads) (classCode class) (leaf class)
+  unfolding leafRead
+  leaf-back class small =
+      let no-bits : class / 2 ^ loads ≡ 0 = div-eq-of-lt small in
+      back-judged (leafFault loads) leaf (rw no-bits refl) (back-class badEnd class)
+
   mutual
     unfolding treeRead treeBytes leafRead nodeRead refuse byteOr subtreesRead
 
@@ -109,8 +118,7 @@ module _ (counts : List ℕ) (loads : ℕ) (few : length counts ≤ mostComponen
         → unasked marks < levels → treeRead counts loads levels marks (treeBytes tree ++ rest) ≡ got tree rest
     read-tree (a-leaf small) zero marks rest marked enough = absurd (omega arith)
     read-tree (a-leaf {class = class} small) (suc levels) marks rest marked enough =
-        let no-bits : class / 2 ^ loads ≡ 0 = div-eq-of-lt small in
-        rw no-bits refl
+        leaf-back class small .back rest
     read-tree (a-node inside new each) zero marks rest marked enough = absurd (omega arith)
     read-tree (a-node {above} {component} {subtrees} inside new each) (suc levels) marks rest marked enough =
         let free = marked .free component inside new in

@@ -9,9 +9,10 @@ use Rattle.rules.specs.Breach.{refuse}
 use Rattle.rules.specs.Table.{nodeFault, leafFault}
 use Rattle.joint_states.specs.JointStates.{jointStates}
 use Rattle.reading.specs.Reader.{refused, Reader, byteOr, judge, return, repeat, _>>=_, _>>_}
+use Rattle.entries.specs.ClassReader.{classOr}
 use Rattle.entries.specs.Entries.{blankMark}
 use Rattle.paths.specs.Words.{fits}
-use Rattle.drawn_tree.specs.Reading.{leafMark, asked, treeByte}
+use Rattle.drawn_tree.specs.Reading.{leafMark, asked, treeByte, treeClass}
 
 -- a table with f of each row that is kept written over what stood at the row's place
 unfoldable pub painted : (List ℕ → Bool) → (List ℕ → ℕ) → List (List ℕ) → List ℕ → List ℕ
@@ -31,9 +32,9 @@ unasked (mark ∷ marks) = truth (eqb mark blankMark) + unasked marks
 
 -- reading a leaf, a node and a tree as they are read, with the table for a value instead of the tree
 unfoldable pub leafDrawn : List ℕ → ℕ → List ℕ → List ℕ → Reader (List ℕ)
-unfolding byteOr branchFilled refuse
+unfolding classOr branchFilled refuse
 leafDrawn counts loads marks table = do
-  class ← treeByte
+  class ← treeClass
   judge (leafFault loads class)
   return (branchFilled counts marks class table)
 

@@ -7,7 +7,7 @@ use lib.ListN.{getD}
 use Rattle.lists.specs.Bits.{bit}
 use Rattle.rules.specs.Limits.{mostComponents}
 use Rattle.rules.specs.Table.{badEnd}
-use Rattle.entries.specs.Entries.{blankMark}
+use Rattle.entries.specs.Entries.{blankMark, classCode}
 use Rattle.drawn_tree.specs.Drawn.{drawnFault, drawnTree}
 use Rattle.drawn_tree.specs.Reading.{leafMark, nothingAsked, treeRead}
 use Rattle.drawn_tree.specs.Tree.{Tree, leaf, node, Trees, none, more, drawnClass}
@@ -37,7 +37,7 @@ DrawnRows = (counts : List ℕ) (loads : ℕ) (bytes : List ℕ) (n : ℕ) → d
 -- the bytes of a tree
 unfoldable mutual
   pub treeBytes : Tree → List ℕ
-  treeBytes (leaf class) = leafMark ∷ class ∷ []
+  treeBytes (leaf class) = leafMark ∷ classCode class
   treeBytes (node component subtrees) = component ∷ treesBytes subtrees
 
   pub treesBytes : Trees → List ℕ

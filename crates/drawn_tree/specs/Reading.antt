@@ -9,6 +9,7 @@ use Rattle.rules.specs.Breach.{refuse}
 use Rattle.rules.specs.Limits.{mostComponents}
 use Rattle.rules.specs.Table.{nodeFault, badEnd, behindFault, leafFault}
 use Rattle.reading.specs.Reader.{refused, Reader, byteOr, judge, return, _>>=_, _>>_}
+use Rattle.entries.specs.ClassReader.{classOr}
 use Rattle.entries.specs.Entries.{blankMark}
 use Rattle.drawn_tree.specs.Tree.{Tree, leaf, node, Trees, none, more}
 
@@ -31,11 +32,15 @@ asked marks component = not (eqb (getD marks component 0) blankMark)
 abbrev pub treeByte : Reader ℕ
 treeByte = byteOr badEnd
 
+-- a class likewise: 21 where it is not all there
+abbrev pub treeClass : Reader ℕ
+treeClass = classOr badEnd
+
 -- a leaf behind its mark: the class is judged once it is read
 unfoldable pub leafRead : ℕ → Reader Tree
-unfolding byteOr refuse
+unfolding classOr refuse
 leafRead loads = do
-  class ← treeByte
+  class ← treeClass
   judge (leafFault loads class)
   return (leaf class)
 

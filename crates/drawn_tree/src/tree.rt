@@ -2,6 +2,7 @@
 use crate::branch::fill_branch;
 use entries::BLANK;
 use entries::Class;
+use entries::class_or;
 use reading::byte_or;
 use rules::BAD_END;
 use rules::COMPONENT_PLACES;
@@ -62,7 +63,7 @@ fn draw_leaf(
     requires { ⌜ loads ≤ mostLoads ⌝ }
     ensures { λ r. ⌜ Reads (now (bytes .entry)) (r .refusal) (r .next) (now (table .exit)) (leafDrawn (now (counts .entry)) loads marks (now (table .entry)) (drop at (now (bytes .entry)))) ⌝ }
 {
-    let class = byte_or(BAD_END, bytes, at);
+    let class = class_or(BAD_END, bytes, at);
     let refusal = first(class.refusal, leaf_fault(loads, class.value as u32));
     if refusal != 0 {
         return Place {

@@ -1,4 +1,4 @@
--- `drawn_tree::tree::draw_leaf` meets its contract: the byte is read, then its rule is judged, and what is read is the branch filled (`read`).
+-- `drawn_tree::tree::draw_leaf` meets its contract: the class is read, then its rule is judged, and what is read is the branch filled (`read`).
 use Prim.Native.Nat.{ℕ}
 use mathlib.Core.List.{List}
 use denote.Ref.{now}
@@ -9,23 +9,23 @@ use Rattle.drawn_tree.specs.Filling.{branchFilled, leafDrawn}
 use Rattle.drawn_tree.proofs.tree.draw_leaf.Statement.{statement}
 use Rattle.drawn_tree.proofs.tree.draw_leaf.Tie as tie
 
-abbrev byte : tie.After-first → tie.After-byte-or
-byte c = c .before .before .before
+abbrev leaf : tie.After-first → tie.After-class-or
+leaf c = c .before .before .before
 
-abbrev start : tie.After-byte-or → tie.Start
+abbrev start : tie.After-class-or → tie.Start
 start c = c .before .before .before .before
 
 -- the parameter that is lent on has no name of its own
-abbrev marks : tie.After-byte-or → List ℕ
+abbrev marks : tie.After-class-or → List ℕ
 marks c = start c .args .t5
 
 read : (c : tie.After-first)
-    → let a = start (byte c) .args in
-    let class = byte c .byte-or .result in
-    ReadsAt (now (a .bytes)) (a .at) (leafDrawn (now (a .counts)) (a .loads) (marks (byte c)) (now (a .table))) (c .first .result) (class .next)
-    (branchFilled (now (a .counts)) (marks (byte c)) (class .value) (now (a .table)))
+    → let a = start (leaf c) .args in
+    let class = leaf c .class-or .result in
+    ReadsAt (now (a .bytes)) (a .at) (leafDrawn (now (a .counts)) (a .loads) (marks (leaf c)) (now (a .table))) (c .first .result) (class .next)
+    (branchFilled (now (a .counts)) (marks (leaf c)) (class .value) (now (a .table)))
 unfolding leafDrawn
-read c = after _ (byte c .byte-or .ensures) (judged-last _ (c .before .leaf-fault .ensures)) (c .first .ensures)
+read c = after _ (leaf c .class-or .ensures) (judged-last _ (c .before .leaf-fault .ensures)) (c .first .ensures)
 
 returns : tie.Need-returns
 returns c = refused-any (read (c .before)) (c .if1 .taken)
