@@ -3,6 +3,7 @@ use reading::bytes_left;
 use rules::LOAD_PLACES;
 ghost use Prim.Native.Nat.{_+_, _<_, _≤_};
 ghost use mathlib.Core.Path.{_≡_};
+ghost use lib.Count.{ones};
 ghost use lib.ListN.{length, drop};
 ghost use Rattle.reading.specs.Reader.{ReadsAt};
 ghost use Rattle.text.specs.Writing.{Room, Wrote};
@@ -59,4 +60,11 @@ pub fn write_class(out: &mut [u8], at: usize, class: Class) -> usize
 {
     out[at] = class;
     at + CLASS_BYTES
+}
+
+// How many bits of a class stand.
+pub fn class_ones(class: Class) -> u32
+    ensures { λ r. ⌜ r ≡ ones class ⌝ }
+{
+    u8::count_ones(class)
 }

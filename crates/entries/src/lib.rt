@@ -8,6 +8,7 @@ mod writing;
 pub use class::CLASS_BYTES;
 pub use class::CLASS_PLACES;
 pub use class::Class;
+pub use class::class_ones;
 pub use class::class_or;
 pub use layout::BLANK;
 pub use layout::LIST_BYTES;

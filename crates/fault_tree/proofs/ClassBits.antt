@@ -1,5 +1,5 @@
 -- What carries the making of a class: the bits of the loads below j are set.
-use Prim.Native.Nat.{ℕ, _+_, _*_, _%_, _^_, _<_, _≤_}
+use Prim.Native.Nat.{ℕ, _+_, _-_, _*_, _%_, _^_, _<_, _≤_}
 use mathlib.Core.Path.{_≡_, refl, ap, _∙_}
 use mathlib.Core.Bool.{Bool}
 use mathlib.Core.List.{List}
@@ -21,10 +21,11 @@ pub class-below : (truths : List Bool) (load : List Load) (n : ℕ) → classBy 
 unfolding classBy
 class-below truths load n = bits-below (λ (j : ℕ). lost truths (getD load j zeroLoad)) n
 
--- a bit of a class is one of a byte
+-- the bit of a load is one of a class
 bit-fits : (b : Bool) (j : ℕ) → j < mostLoads → boolByte b * 2 ^ j % 2 ^ mostLoads ≡ truth b * 2 ^ j
 bit-fits b j h =
-    let most : truth b * 2 ^ j ≤ 1 * 2 ^ 7 = mul-le-mul (truth-most b) (pow-le-pow-right (lit< tt) {i = j} {j = 7} (omega arith)) in
+    let most : truth b * 2 ^ j ≤ 1 * 2 ^ (mostLoads - 1) =
+    mul-le-mul (truth-most b) (pow-le-pow-right (lit< tt) {i = j} {j = mostLoads - 1} (omega arith)) in
     rw (cast-truth b) (mod-eq-of-lt (omega (arith, most)))
 
 pub record Bits (truths : List Bool) (load : List Load) (n j class : ℕ) : Type 0 where

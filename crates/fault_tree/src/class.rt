@@ -1,5 +1,6 @@
 // The class of a joint state: bit j stands when load j is lost.
 use entries::Class;
+use entries::class_ones;
 use rules::LOAD_PLACES;
 use rules::NEVER;
 use study::Load;
@@ -41,5 +42,5 @@ pub fn class_by(truths: &[bool], load: [Load; LOAD_PLACES], n: u8) -> Class
 pub fn loads_lost(class: Class) -> u32
     ensures { λ r. ⌜ r ≡ loadsLost class ⌝ }
 {
-    u8::count_ones(class)
+    class_ones(class)
 }
