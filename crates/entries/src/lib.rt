@@ -3,6 +3,7 @@
 mod class;
 mod layout;
 mod list;
+mod row;
 mod writing;
 
 pub use class::CLASS_BYTES;
@@ -16,5 +17,8 @@ pub use list::class_at;
 pub use list::class_of;
 pub use list::entry_at;
 pub use list::list_need;
+pub use row::classes_from;
+pub use row::same_classes;
+pub use row::set_class;
 pub use writing::empty_list;
 pub use writing::write_entry;

@@ -1,9 +1,10 @@
 // How paths go on at the first component of a block: in one way where it is blank, or else in one for each of its states.
 use entries::Class;
+use entries::classes_from;
+use entries::same_classes;
 ghost use Prim.Native.Nat.{_+_, _*_, _<_, _≤_};
 ghost use mathlib.Core.Path.{_≡_};
 ghost use lib.ListN.{length};
-ghost use Rattle.lists.specs.Rows.{same};
 ghost use Rattle.paths.specs.Blocks.{Block};
 ghost use Rattle.event_tree.specs.Ways.{WaysAt};
 ghost use Rattle.paths.specs.Paths.{part as Paths·part, isBlank};
@@ -16,27 +17,12 @@ pub struct Ways {
     pub size: usize,
 }
 
-// Whether two parts have the same classes. Every place is compared, whatever was found before it.
-fn same_classes(a: &[Class], b: &[Class]) -> bool
-    requires { ⌜ length (now a) ≡ length (now b) ⌝ }
-    ensures { λ r. ⌜ r ≡ same (now (a .entry)) (now (b .entry)) ⌝ }
-{
-    let mut alike = true;
-    let mut i: usize = 0;
-    while i < a.len() {
-        alike = alike & (a[i] == b[i]);
-        i = i + 1;
-    }
-    alike
-}
-
 // The part of a block that state s leads to.
 pub fn part(size: usize, s: u8, block: &[Class]) -> &[Class]
     requires { ⌜ s * size + size ≤ length (now block) ⌝ }
     ensures { λ r. ⌜ now r ≡ Paths·part size s (now (block .entry)) ⌝ }
 {
-    let from = s as usize * size;
-    &block[from..from + size]
+    classes_from(block, s as usize * size, size)
 }
 
 // Whether a component of so many states is blank in a block that has `size` classes for each of them.

@@ -52,9 +52,10 @@ module _ {t : Study} {counts table₀ : List ℕ} {all : ℕ} where
       }
 
   -- the class of x is set, and x moves on
-  pub tabled-more : {k class : ℕ} {x y table : List ℕ} → Tabled t counts table₀ all k x table → k < all → class ≡ classOf t x
-      → JointState counts y → numberOf counts y ≡ (numberOf counts x + 1) % product counts → Tabled t counts table₀ all (k + 1) y (set table k class)
-  tabled-more {k} {class} {x} {y} {table} w h e j moved =
+  pub tabled-more : {k class : ℕ} {x y table table′ : List ℕ} → Tabled t counts table₀ all k x table → k < all → class ≡ classOf t x
+      → table′ ≡ set table k class → JointState counts y → numberOf counts y ≡ (numberOf counts x + 1) % product counts
+      → Tabled t counts table₀ all (k + 1) y table′
+  tabled-more {k} {class} {x} {y} {table} w h e put j moved =
       let at : numberOf counts x ≡ k = w .number ∙ mod-eq-of-lt (rw (w .whole) at h) in
       let here : getD (classes t) k 0 ≡ class = class-at t counts x (w .same) (w .joint) k at ∙ sym e in
       let inside : k < length (classes t) = omega (arith, h, w .whole, classes-long t, ap product (w .same)) in
@@ -64,7 +65,7 @@ module _ {t : Study} {counts table₀ : List ℕ} {all : ℕ} where
         joint = j;
         number = moved ∙ ap (λ (n : ℕ). (n + 1) % product counts) at;
         whole = w .whole;
-        writing = writing-more (w .writing) inside (sym here);
+        writing = rw put (writing-more (w .writing) inside (sym here));
       }
 
   -- the place of the next class is one of the table's

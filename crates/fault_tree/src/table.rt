@@ -6,6 +6,7 @@ use crate::rows::put_rows;
 use crate::truth::gate_true;
 use crate::truth::no_truths;
 use entries::Class;
+use entries::set_class;
 use joint_states::next_joint_state;
 use rules::COMPONENT_PLACES;
 use study::Study;
@@ -49,7 +50,8 @@ fn fill_table(t: Study, counts: &[u8], x: &mut [u8], table: &mut [Class])
             truths[i] = holds;
             i = i + 1;
         }
-        table[k] = class_by(&truths, load, t.loads);
+        let class = class_by(&truths, load, t.loads);
+        set_class(table, k, class);
         next_joint_state(counts, x);
         k = k + 1;
     }

@@ -2,12 +2,14 @@
 -- the truths of the gates below i are set (`Evaluated`). The joint states left fall, and in each the gates left.
 use Prim.Native.Nat.{_-_, _<_}
 use mathlib.Core.Path.{sym, ap, _∙_}
+use mathlib.Core.Bool.{Bool}
+use mathlib.Core.List.{List}
 use native.Mathlib.Omega.{arith}
 use borrow.Author.Needs.{needs}
 use Rattle.lists.specs.Product.{product}
 use Rattle.rules.specs.Limits.{mostGates}
 use Rattle.soundness.proofs.Ranges.{loads-most, gates-most, joint-most, counts-inside, counts-small}
-use Rattle.fault_tree.specs.Classes.{classOf}
+use Rattle.fault_tree.specs.Classes.{classBy, classOf}
 use Rattle.fault_tree.proofs.GateRows.{row-true}
 use Rattle.fault_tree.proofs.SoundReadable.{gate-fits, row-readable}
 use Rattle.fault_tree.proofs.Tables.{Tabled, tabled-start, tabled-more, tabled-inside, tabled-long, tabled-done}
@@ -48,6 +50,13 @@ ended c = c .before .before .before
 
 abbrev last : tie.After-class-by Inv-loop2 μ-loop2 Inv-loop μ-loop → tie.After-loop2 Inv-loop2 μ-loop2 Inv-loop μ-loop
 last c = c .before .before
+
+-- from where the class is put, and from where the next joint state is due, to the class
+abbrev put : tie.After-next-joint-state-arg Inv-loop2 μ-loop2 Inv-loop μ-loop → tie.After-set-class Inv-loop2 μ-loop2 Inv-loop μ-loop
+put c = c .before .before .before
+
+abbrev classed : tie.After-set-class Inv-loop2 μ-loop2 Inv-loop μ-loop → tie.After-class-by Inv-loop2 μ-loop2 Inv-loop μ-loop
+classed c = c .before .before
 
 -- from the truth of a gate to the turn
 abbrev told : tie.After-gate-true Inv-loop2 μ-loop2 Inv-loop μ-loop → tie.In-loop2 Inv-loop2 μ-loop2 Inv-loop μ-loop
@@ -121,30 +130,31 @@ slice-aggregate-class-by c = sym (evaluated-long (c .before .before .loop2 .inv)
 class-by-requires : tie.Need-class-by-requires Inv-loop2 μ-loop2 Inv-loop μ-loop
 class-by-requires c κs = omega (arith, loads-most _ (ended (c .before) .before .loop .inv .sound))
 
-slice-write-table : tie.Need-slice-write-table Inv-loop2 μ-loop2 Inv-loop μ-loop
-slice-write-table c =
-    let at = ended (c .before .before) in
+set-class-requires : tie.Need-set-class-requires Inv-loop2 μ-loop2 Inv-loop μ-loop
+set-class-requires c κs =
+    let at = ended (last (c .before)) in
     tabled-inside (at .before .loop .inv) (at .loop-test .taken)
 
 next-joint-state-requires : tie.Need-next-joint-state-requires Inv-loop2 μ-loop2 Inv-loop μ-loop
-next-joint-state-requires c κs = ended (c .before .before .before) .before .loop .inv .joint
+next-joint-state-requires c κs = ended (last (classed (put c))) .before .loop .inv .joint
 
 add-k : tie.Need-add-k Inv-loop2 μ-loop2 Inv-loop μ-loop
 add-k c = omega arith
 
 loop-less : tie.Need-loop-less Inv-loop2 μ-loop2 Inv-loop μ-loop
-loop-less c = omega (arith, ended (last (c .before .before .before .before)) .loop-test .taken)
+loop-less c = omega (arith, ended (last (classed (put (c .before .before .before)))) .loop-test .taken)
 
 loop-again : tie.Need-loop-again Inv-loop2 μ-loop2 Inv-loop μ-loop
 unfolding classOf
 loop-again c =
-    let classed = c .before .before .before .before in
-    let done = last classed in
+    let own = put (c .before .before .before) in
+    let done = last (classed own) in
     let at = ended done in
     let truths = evaluated-done (done .before .loop2 .inv) (done .loop2-test .left) in
-    let class = rw truths at (classed .class-by .ensures) in
+    let t = begun (rowed (at .before)) .args .t in
+    let class = classed own .class-by .ensures ∙ ap (λ (row : List Bool). classBy row (t .load) (t .loads)) truths in
     let next = c .before .before .next-joint-state .ensures in
-    tabled-more (at .before .loop .inv) (at .loop-test .taken) class (next .0) (next .1)
+    tabled-more (at .before .loop .inv) (at .loop-test .taken) class (own .set-class .ensures) (next .0) (next .1)
 
 same-length : tie.Need-same-length Inv-loop2 μ-loop2 Inv-loop μ-loop
 same-length c =
@@ -184,7 +194,7 @@ fill-table-spec =
     loop2-again
     slice-aggregate-class-by
     class-by-requires
-    slice-write-table
+    set-class-requires
     next-joint-state-requires
     add-k
     loop-less

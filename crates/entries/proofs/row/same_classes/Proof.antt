@@ -1,10 +1,10 @@
--- `event_tree::blank::same_classes` meets its contract. The places below i are compared (`SameLeft`).
+-- `entries::row::same_classes` meets its contract. The places below i are compared (`SameLeft`).
 use Prim.Native.Nat.{_-_}
 use native.Mathlib.Omega.{arith}
 use lib.ListN.{length}
 use Rattle.lists.proofs.Same.{SameLeft, same-start, same-more, same-done}
-use Rattle.event_tree.proofs.blank.same_classes.Statement.{statement}
-use Rattle.event_tree.proofs.blank.same_classes.Tie as tie
+use Rattle.entries.proofs.row.same_classes.Statement.{statement}
+use Rattle.entries.proofs.row.same_classes.Tie as tie
 
 abbrev Inv-loop : tie.InvT-loop
 Inv-loop a b alike₀ i₀ alike i = SameLeft a b i alike
