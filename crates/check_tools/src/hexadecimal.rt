@@ -1,5 +1,8 @@
 // Bytes in hexadecimal, read and shown, and the numbers that they hold.
 use crate::numbers::separator;
+use entries::Class;
+use entries::class_or;
+use rules::SHORT;
 ghost use Prim.Native.Nat.{_*_, _≤_};
 ghost use lib.ListN.{length};
 ghost use Rattle.io.specs.Counts.{Counts};
@@ -40,6 +43,11 @@ pub fn byte_at(bytes: &[u8], at: usize) -> u8 {
         return bytes[at];
     }
     0
+}
+
+// The class at the front, and 0 where it is not all there.
+pub fn class_in(bytes: &[u8]) -> Class {
+    class_or(SHORT, bytes, 0).value
 }
 
 // The number of the four bytes at a place near the front, lowest byte first.

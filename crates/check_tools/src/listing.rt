@@ -4,12 +4,13 @@ use crate::hexadecimal::byte_at;
 use crate::numbers;
 use crate::numbers::one_if;
 use entries::BLANK;
-use entries::CLASS_BYTES;
 use entries::LIST_BYTES;
+use entries::class_of;
+use entries::entry_bytes;
 ghost use Prim.Native.Nat.{_≤_};
 ghost use mathlib.Core.Path.{_≡_};
 ghost use lib.ListN.{length};
-ghost use Rattle.entries.specs.Entries.{listBytes};
+ghost use Rattle.entries.specs.Entries.{byteValues, entryBytes, listBytes};
 ghost use Rattle.io.specs.Counts.{Counts};
 
 // Room for the longest list that there is, with a value in each byte.
@@ -30,27 +31,41 @@ pub fn front_size(bytes: &[u8], size: usize) -> usize
     }
 }
 
-// Shows a byte of an entry: the class, which ends the line, or a component's state, `-` where it is blank.
-fn show_byte(byte: u8, class: bool) {
-    if class {
-        io::write_all(1, b" ");
-        numbers::byte(byte, true);
-    } else if byte == BLANK {
+// Shows a mark of an entry: a component's state, `-` where it is blank.
+fn show_mark(mark: u8) {
+    if mark == BLANK {
         io::write_all(1, b"-");
     } else {
-        io::print_decimal(1, byte as u64);
+        io::print_decimal(1, mark as u64);
     }
 }
 
-// Shows each entry of a list on a line: its states, then its class.
-fn show_entries(list: &[u8], components: u8) {
+// Shows the marks of an entry.
+fn show_marks(marks: &[u8]) {
     let mut i: usize = 0;
-    while i < list.len() {
-        show_byte(
-            list[i],
-            i % (components as usize + CLASS_BYTES) == components as usize,
-        );
+    while i < marks.len() {
+        show_mark(marks[i]);
         i = i + 1;
+    }
+}
+
+// Shows the entry at the front of a list on a line: its states, then its class.
+fn show_entry(list: &[u8], components: u8)
+    requires { ⌜ entryBytes components ≤ length (now list) ⌝ }
+{
+    let n = components as usize;
+    show_marks(&list[..n]);
+    io::write_all(1, b" ");
+    numbers::number(class_of(n, list) as u64, true);
+}
+
+// Shows each entry of a list.
+fn show_entries(list: &[u8], components: u8) {
+    let width = entry_bytes(components as usize);
+    let mut rest = list;
+    while width <= rest.len() {
+        show_entry(rest, components);
+        rest = &rest[width..];
     }
 }
 
@@ -58,7 +73,7 @@ fn show_entries(list: &[u8], components: u8) {
 fn column_sum(list: &[u8], width: usize, column: usize) -> u64
     requires { ⌜ length (now list) ≤ listBytes ⌝ }
     requires { ⌜ 1 ≤ width ⌝ }
-    requires { ⌜ width ≤ 256 ⌝ }
+    requires { ⌜ width ≤ entryBytes byteValues ⌝ }
 {
     let mut sum: u64 = 0;
     let mut at = column;
@@ -73,7 +88,7 @@ fn column_sum(list: &[u8], width: usize, column: usize) -> u64
 fn show_sums(list: &[u8], components: u8)
     requires { ⌜ length (now list) ≤ listBytes ⌝ }
 {
-    let width = components as usize + CLASS_BYTES;
+    let width = entry_bytes(components as usize);
     let mut column: usize = 0;
     while column < width {
         numbers::number(column_sum(list, width, column), column + 1 == width);
@@ -118,7 +133,7 @@ pub fn show_held(bytes: &[u8], value: u8) {
 fn list_size(lent: &[u8], paths: u32, components: u8) -> usize
     ensures { λ r. ⌜ Counts r (now (lent .entry)) ⌝ }
 {
-    front_size(lent, paths as usize * (components as usize + CLASS_BYTES))
+    front_size(lent, paths as usize * entry_bytes(components as usize))
 }
 
 // Shows the refusal, 0 for none, and the number of paths on a line; then the list, and how many of the bytes behind it hold what all bytes held.

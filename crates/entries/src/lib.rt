@@ -6,7 +6,6 @@ mod list;
 mod row;
 mod writing;
 
-pub use class::CLASS_BYTES;
 pub use class::CLASS_PLACES;
 pub use class::Class;
 pub use class::class_ones;
@@ -16,6 +15,7 @@ pub use layout::LIST_BYTES;
 pub use list::class_at;
 pub use list::class_of;
 pub use list::entry_at;
+pub use list::entry_bytes;
 pub use list::list_need;
 pub use row::classes_from;
 pub use row::same_classes;

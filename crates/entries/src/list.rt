@@ -2,12 +2,20 @@
 use crate::class::CLASS_BYTES;
 use crate::class::Class;
 use crate::class::class_from;
-ghost use Prim.Native.Nat.{_+_, _*_, _≤_};
+ghost use Prim.Native.Nat.{_+_, _*_, _<_, _≤_};
 ghost use mathlib.Core.Path.{_≡_};
 ghost use lib.ListN.{length};
 ghost use Rattle.rules.specs.Limits.{mostComponents, mostJointStates};
-ghost use Rattle.entries.specs.Entries.{entryBytes, entryAt, classBorne};
+ghost use Rattle.entries.specs.Entries.{byteValues, entryBytes, entryAt, classBorne};
 ghost use Rattle.entries.specs.Lists.{EntryIn};
+
+// The bytes of an entry of n components.
+pub fn entry_bytes(n: usize) -> usize
+    requires { ⌜ n < byteValues ⌝ }
+    ensures { λ r. ⌜ r ≡ entryBytes n ⌝ }
+{
+    n + CLASS_BYTES
+}
 
 // The bytes that a list of so many entries of n components takes.
 pub fn list_need(n: usize, paths: u32) -> usize
@@ -15,7 +23,7 @@ pub fn list_need(n: usize, paths: u32) -> usize
     requires { ⌜ paths ≤ mostJointStates ⌝ }
     ensures { λ r. ⌜ r ≡ paths * entryBytes n ⌝ }
 {
-    paths as usize * (n + CLASS_BYTES)
+    paths as usize * entry_bytes(n)
 }
 
 // Entry k of a list whose entries have n components.
