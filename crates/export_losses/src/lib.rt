@@ -1,5 +1,6 @@
 // The classes of an opened study, and the losses of its loads, for C, by its gates or by a drawn tree.
 use answers::BoundsAnswer;
+use entries::Class;
 use export_answers::answer_outcome;
 use export_answers::counted;
 use export_answers::hand_pair;
@@ -71,7 +72,7 @@ pub fn drawn_load_bounds(
 }
 
 // How many loads are lost in a class.
-pub fn loads_lost(class: u8) -> i64
+pub fn loads_lost(class: Class) -> i64
     ensures { λ r. ⌜ CountsLost class r ⌝ }
 {
     counted(fault_tree::loads_lost(class))

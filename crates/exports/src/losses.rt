@@ -1,4 +1,5 @@
 // The classes of an opened study, and the losses of its loads, by its gates or by a drawn tree.
+use entries::Class;
 ghost use Rattle.meaning.specs.Meaning.{byGates, byTree};
 ghost use Rattle.export_answers.specs.Answers.{two};
 ghost use Rattle.export_losses.specs.Losses.{BoundsClasses, BoundsLoad, CountsLost};
@@ -57,7 +58,7 @@ pub extern "C" fn grid_drawn_load_bounds(
 
 // How many loads are lost in a class.
 #[no_mangle]
-pub extern "C" fn grid_loads_lost(class: u8) -> i64
+pub extern "C" fn grid_loads_lost(class: Class) -> i64
     ensures { λ r. ⌜ CountsLost class r ⌝ }
 {
     export_losses::loads_lost(class)
