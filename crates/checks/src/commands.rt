@@ -58,6 +58,7 @@ use crate::told::figures;
 use crate::told::survival;
 use check_tools::alter::altered;
 use check_tools::hexadecimal::byte_at;
+use check_tools::hexadecimal::class_in;
 use check_tools::hexadecimal::number_at;
 use check_tools::numbers;
 use check_tools::show::show;
@@ -222,7 +223,7 @@ fn look(letter: u8, bytes: &[u8], study: Study) {
         b'b' | b'k' => bound_sized(false, bytes, study, letter == b'k'),
         b'v' => bound_load(false, study, &[], byte_at(bytes, 0) as usize),
         b'i' => figures(false, study, &[]),
-        b'n' => numbers::number(planning::loads_lost(byte_at(bytes, 0)) as u64, true),
+        b'n' => numbers::number(planning::loads_lost(class_in(bytes)) as u64, true),
         b'e' => survival_named(bytes),
         b'w' => word_sized(bytes),
         b'x' => write_sized(bytes, study),

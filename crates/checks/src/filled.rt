@@ -6,12 +6,14 @@ use check_tools::places::front_count;
 use check_tools::places::show_filled;
 use check_tools::places::untouched_places;
 use check_tools::texts::show_text;
+use entries::CLASS_PLACES;
 use planning::CountAnswer;
 use planning::Listing;
 use planning::Outcome;
 use study::Study;
 ghost use Prim.Native.Nat.{_≤_};
 ghost use lib.ListN.{length};
+ghost use Rattle.entries.specs.Entries.{listBytes};
 
 // The refusal, 0 for none, and how many paths, classes or bytes were written, 0 where refused.
 struct Filled {
@@ -38,7 +40,7 @@ fn classes_bounded(answer: Outcome) -> Filled {
     match answer {
         Outcome::Done => Filled {
             refusal: 0,
-            count: 256,
+            count: CLASS_PLACES as u32,
         },
         Outcome::Refused(number) => Filled {
             refusal: number,
@@ -114,7 +116,7 @@ fn ask_bounds(
 
 // Lists the paths of a study into a buffer whose bytes hold a value, and shows it all.
 fn list_into(drawn: bool, study: Study, tree: &[u8], lent: &mut [u8], fill: u8, sums: bool)
-    requires { ⌜ length (now lent) ≤ 53248 ⌝ }
+    requires { ⌜ length (now lent) ≤ listBytes ⌝ }
 {
     let filled = listed(list_paths(drawn, study, tree, lent));
     show_listing(
