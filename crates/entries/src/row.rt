@@ -1,4 +1,5 @@
-// Classes in a row, one for each joint state: compared, taken from a place on, and put at a place. Elsewhere rows of classes are handed on.
+// Classes in a row, one for each joint state: compared, taken from a place on, and put at a place. Elsewhere rows of
+// classes are handed on.
 use crate::class::Class;
 ghost use Prim.Native.Nat.{_+_, _<_, _≤_};
 ghost use mathlib.Core.Path.{_≡_};
