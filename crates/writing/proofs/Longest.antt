@@ -12,7 +12,7 @@ use Rattle.lists.specs.Product.{product}
 use Rattle.lists.proofs.Joined.{joined-sum}
 use Rattle.lists.proofs.Products.{product-snoc}
 use Rattle.text.proofs.Short.{lines-short}
-use Rattle.rules.specs.Limits.{longestStudy}
+use Rattle.rules.specs.Limits.{mostLoads, longestStudy}
 use Rattle.rules.proofs.Rows.{states-kept}
 use Rattle.rules.proofs.Weights.{Weighs, weighs-none, weighs-more, weighs-few}
 use Rattle.study.specs.declared.Study.{Study}
@@ -77,7 +77,7 @@ module _ (t : Study) (s : Sound t) where
         gates-most t s,
       )
 
-  loads-size : length (loadsBytes t) ≤ 8 * 10
+  loads-size : length (loadsBytes t) ≤ mostLoads * 10
   loads-size = omega (arith, lines-short (λ (k : ℕ). loadBytes (loadAt t k)) (t .loads) 10 (λ k h. load-size (loadAt t k)), loads-most t s)
 
   pub study-size : length (studyBytes t) ≤ longestStudy
