@@ -11,8 +11,8 @@ ghost use Rattle.meaning.specs.Meaning.{byGates, byTree};
 ghost use Rattle.meaning.specs.Sources.{meaningOf};
 ghost use Rattle.loss_calls.specs.Figures.{figuresGiven};
 
-// The figures under either meaning.
-fn figures_meant(source: Source, study: Study, tree: &[u8]) -> FiguresAnswer
+// The figures by either source, of which gates look at no tree. Refused by 16, then 20, 21 or 22, then 19.
+pub fn figures_meant(source: Source, study: Study, tree: &[u8]) -> FiguresAnswer
     ensures { λ r. ⌜ r ≡ figuresGiven (meaningOf source (now (tree .entry))) study ⌝ }
 {
     let mut classes = no_classes();

@@ -27,8 +27,8 @@ fn load_breach(study: Study, load: usize) -> u8
     )
 }
 
-// The bounds under either meaning.
-fn load_meant(source: Source, study: Study, tree: &[u8], load: usize) -> BoundsAnswer
+// The bounds by either source, of which gates look at no tree. Refused by 16, 17, then 20, 21 or 22.
+pub fn load_meant(source: Source, study: Study, tree: &[u8], load: usize) -> BoundsAnswer
     ensures { λ r. ⌜ r ≡ loadBounded (meaningOf source (now (tree .entry))) study load ⌝ }
 {
     let breach = load_breach(study, load);

@@ -11,17 +11,20 @@ ghost use Rattle.meaning.specs.Meaning.{byGates, byTree};
 ghost use Rattle.meaning.specs.Sources.{meaningOf};
 ghost use Rattle.path_calls.specs.Bounds.{classesBounded, lowerOfClasses, upperOfClasses};
 
-// The bounds under either meaning.
-fn classes_meant(
+// The bounds by either source, of which gates look at no tree. Refused by 16, then 20, 21 or 22, then 18.
+pub fn classes_meant(
     source: Source,
     study: Study,
     tree: &[u8],
     lower: &mut [u64],
     upper: &mut [u64],
 ) -> Outcome
-    ensures answer { λ r. ⌜ r ≡ classesBounded (meaningOf source (now (tree .entry))) study (now (lower .entry)) (now (upper .entry)) ⌝ }
-    ensures lower { λ r. ⌜ now (lower .exit) ≡ lowerOfClasses (meaningOf source (now (tree .entry))) study (now (lower .entry)) (now (upper .entry)) ⌝ }
-    ensures upper { λ r. ⌜ now (upper .exit) ≡ upperOfClasses (meaningOf source (now (tree .entry))) study (now (lower .entry)) (now (upper .entry)) ⌝ }
+    ensures answer { λ r. ⌜ r
+        ≡ classesBounded (meaningOf source (now (tree .entry))) study (now (lower .entry)) (now (upper .entry)) ⌝ }
+    ensures lower { λ r. ⌜ now (lower .exit)
+        ≡ lowerOfClasses (meaningOf source (now (tree .entry))) study (now (lower .entry)) (now (upper .entry)) ⌝ }
+    ensures upper { λ r. ⌜ now (upper .exit)
+        ≡ upperOfClasses (meaningOf source (now (tree .entry))) study (now (lower .entry)) (now (upper .entry)) ⌝ }
 {
     let mut classes = no_classes();
     let fault = judged_classes(source, study, tree, &mut classes);

@@ -11,10 +11,11 @@ ghost use Rattle.meaning.specs.Meaning.{byGates, byTree};
 ghost use Rattle.meaning.specs.Sources.{meaningOf};
 ghost use Rattle.path_calls.specs.Listing.{pathsListed, bufferListed};
 
-// The list under either meaning.
-fn list_meant(source: Source, study: Study, tree: &[u8], buffer: &mut [u8]) -> Listing
+// The list by either source, of which gates look at no tree. Refused by 16, then 20, 21 or 22, then 18.
+pub fn list_meant(source: Source, study: Study, tree: &[u8], buffer: &mut [u8]) -> Listing
     ensures answer { λ r. ⌜ r ≡ pathsListed (meaningOf source (now (tree .entry))) study (now (buffer .entry)) ⌝ }
-    ensures buffer { λ r. ⌜ now (buffer .exit) ≡ bufferListed (meaningOf source (now (tree .entry))) study (now (buffer .entry)) ⌝ }
+    ensures buffer { λ r. ⌜ now (buffer .exit)
+        ≡ bufferListed (meaningOf source (now (tree .entry))) study (now (buffer .entry)) ⌝ }
 {
     let mut classes = no_classes();
     let fault = judged_classes(source, study, tree, &mut classes);

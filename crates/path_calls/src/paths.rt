@@ -11,17 +11,20 @@ ghost use Rattle.meaning.specs.Meaning.{byGates, byTree};
 ghost use Rattle.meaning.specs.Sources.{meaningOf};
 ghost use Rattle.path_calls.specs.Bounds.{pathsBounded, lowerOfPaths, upperOfPaths};
 
-// The bounds under either meaning.
-fn paths_meant(
+// The bounds by either source, of which gates look at no tree. Refused by 16, then 20, 21 or 22, then 18.
+pub fn paths_meant(
     source: Source,
     study: Study,
     tree: &[u8],
     lower: &mut [u64],
     upper: &mut [u64],
 ) -> CountAnswer
-    ensures answer { λ r. ⌜ r ≡ pathsBounded (meaningOf source (now (tree .entry))) study (now (lower .entry)) (now (upper .entry)) ⌝ }
-    ensures lower { λ r. ⌜ now (lower .exit) ≡ lowerOfPaths (meaningOf source (now (tree .entry))) study (now (lower .entry)) (now (upper .entry)) ⌝ }
-    ensures upper { λ r. ⌜ now (upper .exit) ≡ upperOfPaths (meaningOf source (now (tree .entry))) study (now (lower .entry)) (now (upper .entry)) ⌝ }
+    ensures answer { λ r. ⌜ r
+        ≡ pathsBounded (meaningOf source (now (tree .entry))) study (now (lower .entry)) (now (upper .entry)) ⌝ }
+    ensures lower { λ r. ⌜ now (lower .exit)
+        ≡ lowerOfPaths (meaningOf source (now (tree .entry))) study (now (lower .entry)) (now (upper .entry)) ⌝ }
+    ensures upper { λ r. ⌜ now (upper .exit)
+        ≡ upperOfPaths (meaningOf source (now (tree .entry))) study (now (lower .entry)) (now (upper .entry)) ⌝ }
 {
     let mut classes = no_classes();
     let fault = judged_classes(source, study, tree, &mut classes);
