@@ -1,25 +1,16 @@
--- The calls for classes and losses: bounds for the classes and for a load of the study that an image holds, by its
--- gates or by a drawn tree, and the loads that a class loses.
+-- The calls for the losses of loads: bounds for a load of the study that an image holds, by its gates or by a drawn tree,
+-- and the loads that a class loses.
 use Prim.Native.Nat.{ℕ}
 use mathlib.Core.Path.{_≡_}
 use mathlib.Core.List.{List}
 use lib.IntN.{ℤ, pos}
 use Rattle.answers.specs.declared.bounds.Enclosure.{Enclosure}
-use Rattle.answers.specs.Told.{Told, outcomeTold, boundsTold}
+use Rattle.answers.specs.Told.{Told, boundsTold}
 use Rattle.fault_tree.specs.Classes.{loadsLost}
 use Rattle.meaning.specs.Meaning.{Meaning}
-use Rattle.path_calls.specs.Bounds.{classesBounded, lowerOfClasses, upperOfClasses}
 use Rattle.loss_calls.specs.Bounds.{loadBounded}
 use Rattle.study_image.specs.Image.{studyIn}
-use Rattle.export_answers.specs.Answers.{answeredBy, done, leftBy, FillsPair}
-
--- the calls for the classes
-abbrev pub BoundsClasses : (m : Meaning) (study lower-was upper-was lower upper : List ℕ) → ℤ → Type 0
-BoundsClasses m study lower-was upper-was =
-    FillsPair
-    (answeredBy done (outcomeTold (classesBounded m (studyIn study) lower-was upper-was)))
-    (lowerOfClasses m (studyIn study) lower-was upper-was)
-    (upperOfClasses m (studyIn study) lower-was upper-was)
+use Rattle.export_answers.specs.Answers.{answeredBy, done, leftBy}
 
 -- a pair of bounds that is told, in two numbers: what is answered, and what is left in them
 pub record TakesPair (told : Told) (was left : Enclosure) (answer : ℤ) : Type 0 where

@@ -1,7 +1,6 @@
-// The classes of an opened study, and the losses of its loads, for C, by its gates or by a drawn tree.
+// The losses of an opened study's loads for C, by its gates or by a drawn tree, and the loads that a class loses.
 use answers::BoundsAnswer;
 use entries::Class;
-use export_answers::answer_outcome;
 use export_answers::counted;
 use export_answers::hand_pair;
 use export_answers::refused;
@@ -9,23 +8,7 @@ use study_image::read_image;
 ghost use Rattle.answers.specs.Told.{boundsTold};
 ghost use Rattle.meaning.specs.Meaning.{byGates, byTree};
 ghost use Rattle.export_answers.specs.Answers.{two};
-ghost use Rattle.export_losses.specs.Losses.{BoundsClasses, TakesPair, BoundsLoad, CountsLost};
-
-// Bounds for the classes of a study, at places 0 to 255 of two slices. Refused by 16, 18, in this order.
-pub fn class_bounds(study: &[u8], lower: &mut [u64], upper: &mut [u64]) -> i64
-    ensures { λ r. ⌜ BoundsClasses byGates (now (study .entry))
-        (now (lower .entry)) (now (upper .entry)) (now (lower .exit)) (now (upper .exit)) r ⌝ }
-{
-    answer_outcome(path_calls::class_bounds(read_image(study), lower, upper))
-}
-
-// The same by a drawn tree in place of the study's gates. Refused by 16, then 20, 21 or 22, then 18.
-pub fn drawn_class_bounds(study: &[u8], tree: &[u8], lower: &mut [u64], upper: &mut [u64]) -> i64
-    ensures { λ r. ⌜ BoundsClasses (byTree (now (tree .entry))) (now (study .entry))
-        (now (lower .entry)) (now (upper .entry)) (now (lower .exit)) (now (upper .exit)) r ⌝ }
-{
-    answer_outcome(path_calls::drawn_class_bounds(read_image(study), tree, lower, upper))
-}
+ghost use Rattle.export_losses.specs.Losses.{TakesPair, BoundsLoad, CountsLost};
 
 // Hands on the bounds that a call answered.
 fn hand_bounds(answer: BoundsAnswer, lower: &mut u64, upper: &mut u64) -> i64

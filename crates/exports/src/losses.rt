@@ -1,31 +1,8 @@
-// The classes of an opened study, and the losses of its loads, by its gates or by a drawn tree.
+// The losses of an opened study's loads, by its gates or by a drawn tree, and the loads that a class loses.
 use entries::Class;
 ghost use Rattle.meaning.specs.Meaning.{byGates, byTree};
 ghost use Rattle.export_answers.specs.Answers.{two};
-ghost use Rattle.export_losses.specs.Losses.{BoundsClasses, BoundsLoad, CountsLost};
-
-// Bounds for the classes of a study, at places 0 to 255 of two slices. Refused by 16, 18, in this order.
-#[no_mangle]
-pub extern "C" fn grid_class_bounds(study: &[u8], lower: &mut [u64], upper: &mut [u64]) -> i64
-    ensures { λ r. ⌜ BoundsClasses byGates (now (study .entry))
-        (now (lower .entry)) (now (upper .entry)) (now (lower .exit)) (now (upper .exit)) r ⌝ }
-{
-    export_losses::class_bounds(study, lower, upper)
-}
-
-// The same by a drawn tree in place of the study's gates. Refused by 16, then 20, 21 or 22, then 18.
-#[no_mangle]
-pub extern "C" fn grid_drawn_class_bounds(
-    study: &[u8],
-    tree: &[u8],
-    lower: &mut [u64],
-    upper: &mut [u64],
-) -> i64
-    ensures { λ r. ⌜ BoundsClasses (byTree (now (tree .entry))) (now (study .entry))
-        (now (lower .entry)) (now (upper .entry)) (now (lower .exit)) (now (upper .exit)) r ⌝ }
-{
-    export_losses::drawn_class_bounds(study, tree, lower, upper)
-}
+ghost use Rattle.export_losses.specs.Losses.{BoundsLoad, CountsLost};
 
 // Bounds for the loss of a load, in two numbers. Refused by 16, 17, in this order.
 #[no_mangle]

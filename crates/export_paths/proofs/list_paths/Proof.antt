@@ -1,6 +1,6 @@
 -- `export_paths::list_paths` meets its contract: the call's own, for the study that the image holds.
-use Rattle.export_answers.proofs.Signed.{handed-on}
-use Rattle.export_paths.specs.Paths.{ListsPaths}
+use mathlib.Core.Path.{_∙_}
+use Rattle.export_answers.proofs.Signed.{handed}
 use borrow.Author.Needs.{needs}
 use Rattle.export_paths.proofs.list_paths.Statement.{statement}
 use Rattle.export_paths.proofs.list_paths.Tie as tie
@@ -8,9 +8,11 @@ use Rattle.export_paths.proofs.list_paths.Tie as tie
 returns : tie.Need-returns
 returns c =
     let asked = c .before .before .before in
-    let listed = rw (asked .before .before .read-image .ensures) at (asked .list-paths .ensures) in
-    handed-on (ListsPaths _ _ _ _) (c .answer-listing .ok)
-    (record { answered = rw (listed .0) at (c .answer-listing .ensures); listed = listed .1 })
+    let listed = rw (asked .before .before .read-image .ensures) at (asked .list-meant .ensures) in
+    record {
+      answered = handed _ (c .answer-listing .ok) ∙ rw (listed .0) at (c .answer-listing .ensures);
+      listed = listed .1;
+    }
 
 pub list-paths-spec : {M : Type 1} → statement M
 list-paths-spec =
