@@ -1,11 +1,11 @@
--- `export_losses::loads_lost` meets its contract: the count is handed on.
+-- `export_losses::loads::loads_lost` meets its contract: the count is handed on.
 use mathlib.Core.Path.{ap, _∙_}
 use lib.IntN.{pos}
 use Rattle.export_answers.proofs.Signed.{handed-on}
 use Rattle.export_losses.specs.Losses.{CountsLost}
 use borrow.Author.Needs.{needs}
-use Rattle.export_losses.proofs.loads_lost.Statement.{statement}
-use Rattle.export_losses.proofs.loads_lost.Tie as tie
+use Rattle.export_losses.proofs.loads.loads_lost.Statement.{statement}
+use Rattle.export_losses.proofs.loads.loads_lost.Tie as tie
 
 returns : tie.Need-returns
 returns c = handed-on (CountsLost _) (c .counted .ok) (c .counted .ensures ∙ ap pos (c .before .loads-lost .ensures))

@@ -1,16 +1,17 @@
-// The figures of an opened study for C, by its gates or by a drawn tree, each in two numbers.
+// The interruption figures of an opened study for C, by its gates or by a drawn tree, each in two numbers.
 use answers::Caidi;
 use answers::FiguresAnswer;
 use export_answers::counted;
 use export_answers::hand_pair;
 use export_answers::refused;
+use meaning::Source;
 use study_image::read_image;
 ghost use Prim.Native.Nat.{_+_};
 ghost use mathlib.Core.Path.{_≡_};
 ghost use Rattle.answers.specs.Told.{result, caidiValues};
-ghost use Rattle.meaning.specs.Meaning.{byGates, byTree};
+ghost use Rattle.meaning.specs.Sources.{meaningOf};
 ghost use Rattle.export_answers.specs.Answers.{pairs, two, leftBy};
-ghost use Rattle.export_figures.specs.Figures.{TakesFigures, GivesFigures};
+ghost use Rattle.export_losses.specs.Figures.{TakesFigures, GivesFigures};
 
 // Hands CAIDI over where it is stated; answers how many figures are stated, the three others among them.
 fn hand_caidi(caidi: Caidi, lower: &mut u64, upper: &mut u64) -> u32
@@ -62,43 +63,9 @@ fn hand_figures(
 }
 
 // SAIFI, SAIDI, CAIDI and MAIFI, lower and upper bound of each in a number of its own; answers how many are stated,
-// since CAIDI may not be. Refused by 16, 19, in this order.
+// since CAIDI may not be. Gates look at no tree. Refused by 16, then 20, 21 or 22, then 19.
 pub fn figures(
-    study: &[u8],
-    saifi_lower: &mut u64,
-    saifi_upper: &mut u64,
-    saidi_lower: &mut u64,
-    saidi_upper: &mut u64,
-    caidi_lower: &mut u64,
-    caidi_upper: &mut u64,
-    maifi_lower: &mut u64,
-    maifi_upper: &mut u64,
-) -> i64
-    ensures { λ r. ⌜ GivesFigures byGates (now (study .entry))
-        (two (now («saifi_lower» .entry)) (now («saifi_upper» .entry)))
-        (two (now («saidi_lower» .entry)) (now («saidi_upper» .entry)))
-        (two (now («caidi_lower» .entry)) (now («caidi_upper» .entry)))
-        (two (now («maifi_lower» .entry)) (now («maifi_upper» .entry)))
-        (two (now («saifi_lower» .exit)) (now («saifi_upper» .exit)))
-        (two (now («saidi_lower» .exit)) (now («saidi_upper» .exit)))
-        (two (now («caidi_lower» .exit)) (now («caidi_upper» .exit)))
-        (two (now («maifi_lower» .exit)) (now («maifi_upper» .exit))) r ⌝ }
-{
-    hand_figures(
-        loss_calls::figures(read_image(study)),
-        saifi_lower,
-        saifi_upper,
-        saidi_lower,
-        saidi_upper,
-        caidi_lower,
-        caidi_upper,
-        maifi_lower,
-        maifi_upper,
-    )
-}
-
-// The same by a drawn tree in place of the study's gates. Refused by 16, then 20, 21 or 22, then 19.
-pub fn drawn_figures(
+    source: Source,
     study: &[u8],
     tree: &[u8],
     saifi_lower: &mut u64,
@@ -110,7 +77,7 @@ pub fn drawn_figures(
     maifi_lower: &mut u64,
     maifi_upper: &mut u64,
 ) -> i64
-    ensures { λ r. ⌜ GivesFigures (byTree (now (tree .entry))) (now (study .entry))
+    ensures { λ r. ⌜ GivesFigures (meaningOf source (now (tree .entry))) (now (study .entry))
         (two (now («saifi_lower» .entry)) (now («saifi_upper» .entry)))
         (two (now («saidi_lower» .entry)) (now («saidi_upper» .entry)))
         (two (now («caidi_lower» .entry)) (now («caidi_upper» .entry)))
@@ -121,7 +88,7 @@ pub fn drawn_figures(
         (two (now («maifi_lower» .exit)) (now («maifi_upper» .exit))) r ⌝ }
 {
     hand_figures(
-        loss_calls::drawn_figures(read_image(study), tree),
+        loss_calls::figures_meant(source, read_image(study), tree),
         saifi_lower,
         saifi_upper,
         saidi_lower,
