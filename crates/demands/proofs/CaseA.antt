@@ -29,7 +29,7 @@ use Rattle.report_lines.specs.Paths.{markBytes, entryLine, pathLine, pathLines}
 use Rattle.report_lines.specs.Classes.{bearing, classesWith, classesBorne, classLine, classLines}
 use Rattle.report_lines.specs.Loads.{loadLine, loadLines}
 use Rattle.report_lines.specs.Figures.{caidiLine, allFigures, figureLines}
-use Rattle.report_text.specs.Report.{classesText, lossesText, modelText, refusedText, textBy, reportText}
+use Rattle.report_text.specs.Report.{pathsText, classesText, lossesText, modelText, refusedText, textBy, reportText}
 use Rattle.demands.specs.CaseA.{CaseA, OverOne}
 
 pub case-a : CaseA
@@ -43,7 +43,7 @@ unfolding each refuse outside byte word mapByte
     modelOf pathsOf probabilityTable total classBorne tabulate figuresBy quotientDown quotientUp
     those sumOver joined field numberLine boundsEnd boundsLine itemLine decimalWithin decimal
     markBytes entryLine pathLine pathLines bearing classesWith classesBorne classLine classLines loadLine loadLines caidiLine allFigures figureLines
-    classesText lossesText modelText textBy reportText
+    pathsText classesText lossesText modelText textBy reportText
 case-a = refl
 
 pub over-one : OverOne

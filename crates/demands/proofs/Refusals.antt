@@ -22,10 +22,11 @@ use Rattle.loss_calls.specs.Figures.{figuresFault, figuresGiven}
 use Rattle.lent_text.specs.Lent.{textFault, written}
 use Rattle.lent_text.proofs.Handed.{reported-tells}
 use Rattle.words.specs.Words.{refusalWord}
-use Rattle.report_text.specs.Report.{reportText}
+use Rattle.report_text.specs.Lent.{reportFault}
+use Rattle.report_text.proofs.Reported.{report-tells}
 use Rattle.demands.specs.Calls.{Call, anEdit, listPaths, pathBounds, classBounds, loadBounds, figures, writeStudy}
 use Rattle.demands.specs.Calls.{callTold, callBreaches, callValues, studyAfter, Lent, callLent}
-use Rattle.demands.specs.Demand1.{OfEach, Kept, FrontFilled, KeptBehind, Refuses, CallsRefuse, TextRefuses, TextsRefuse}
+use Rattle.demands.specs.Demand1.{OfEach, Kept, FrontFilled, KeptBehind, Refuses, CallsRefuse, TextRefuses, ReportRefuses, TextsRefuse}
 use Rattle.demands.proofs.Edited.{edit-tells, edit-kept}
 
 -- ---- any call
@@ -82,5 +83,9 @@ text-refuses : (text buffer : List ℕ) → TextRefuses text buffer
 unfolding textFault written
 text-refuses text buffer = refuses _ _ _ (reported-tells text buffer) (refl, tt)
 
+report-refuses : (bytes text lower upper : List ℕ) → ReportRefuses bytes text lower upper
+unfolding reportFault
+report-refuses bytes text lower upper = refuses _ _ _ (report-tells bytes text lower upper) (refl, (refl, (refl, tt)))
+
 pub texts-refuse : TextsRefuse
-texts-refuse = record { report = λ bytes. text-refuses (reportText bytes); word = λ number. text-refuses (refusalWord number) }
+texts-refuse = record { report = report-refuses; word = λ number. text-refuses (refusalWord number) }

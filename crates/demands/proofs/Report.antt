@@ -2,7 +2,7 @@
 -- slices, and its paths in the buffer.
 use Prim.Native.Nat.{ℕ, _<_}
 use mathlib.Core.Path.{_≡_, refl, sym, ap, _∙_}
-use mathlib.Core.List.{List, [], _∷_, _++_, map, append-nil}
+use mathlib.Core.List.{List, [], _∷_, _++_, map, append-nil, append-assoc}
 use native.Mathlib.Omega.{arith}
 use lib.Dec.{eqb}
 use lib.ListN.{length, getD, length-map}
@@ -39,7 +39,7 @@ use Rattle.report_lines.specs.Loads.{loadLine, loadLines}
 use Rattle.report_lines.specs.Paths.{entryLine, pathLine, pathLines}
 use Rattle.report_lines.proofs.Borne.{borne-class}
 use Rattle.report_lines.proofs.Listed.{class-lines-alike}
-use Rattle.report_text.specs.Report.{classesText, lossesText, modelText, textBy, reportText}
+use Rattle.report_text.specs.Report.{pathsText, classesText, lossesText, modelText, textBy, reportText}
 use Rattle.report_text.proofs.Longest
 use Rattle.report_text.proofs.Opened.{text-done}
 use Rattle.path_calls.specs.Bounds.{pairBreach}
@@ -112,16 +112,21 @@ module _ (t : Study) (is-sound : Sound t) (shaped : Shaped t) (p : ℕ) (lent : 
       (length-take-le (t .loads) (t .load) (omega (arith, shaped .loads, loads-most t is-sound)))
       ∙ ap joined (tabulate-alike _ _ (t .loads) load-line)
 
-  -- the loads and the figures stand in one text of losses
-  flat : (a b c l f : List ℕ) → joined (a ∷ b ∷ c ∷ joined (l ∷ f ∷ []) ∷ []) ≡ joined (a ∷ b ∷ c ∷ l ∷ f ∷ [])
+  -- the number of paths and their lines stand in one text, and so do the loads and the figures
+  flat : (a b c l f : List ℕ) → joined (joined (a ∷ b ∷ []) ∷ c ∷ joined (l ∷ f ∷ []) ∷ []) ≡ joined (a ∷ b ∷ c ∷ l ∷ f ∷ [])
   unfolding joined
-  flat a b c l f = ap (λ (r : List ℕ). a ++ (b ++ (c ++ r))) (append-nil (l ++ (f ++ [])))
+  flat a b c l f =
+      ap (λ (r : List ℕ). (a ++ (b ++ [])) ++ (c ++ r)) (append-nil (l ++ (f ++ [])))
+      ∙ ap (λ (r : List ℕ). (a ++ r) ++ (c ++ (l ++ (f ++ [])))) (append-nil b)
+      ∙ append-assoc a b (c ++ (l ++ (f ++ [])))
 
   text-said : modelText m ≡ textSaid t p lent
-  unfolding modelText lossesText
+  unfolding modelText pathsText lossesText
   text-said =
       let figures = ap figureLines (sym (the-figures byGates t is-sound refl)) in
-      (λ i. joined (numberLine (letters "PATHS") (sym number i) ∷ paths-said i ∷ classes-said i ∷ joined (loads-said i ∷ figures i ∷ []) ∷ []))
+      (λ i.
+      joined
+      (joined (numberLine (letters "PATHS") (sym number i) ∷ paths-said i ∷ []) ∷ classes-said i ∷ joined (loads-said i ∷ figures i ∷ []) ∷ []))
       ∙ flat _ _ _ _ _
 
 -- ---- the claims

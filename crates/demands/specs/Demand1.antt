@@ -17,6 +17,8 @@ use Rattle.opening.specs.Laws.{IsRefused}
 use Rattle.opening.specs.Opening.{opened}
 use Rattle.lent_text.specs.Lent.{reported, written}
 use Rattle.words.specs.Words.{refusalWord}
+use Rattle.report_text.specs.Lent.{reportBreaches, reportLowers, reportUppers}
+use Rattle.report_text.specs.Lent.{reported as reportGiven, bufferReported, lowerReported, upperReported}
 use Rattle.report_text.specs.Report.{reportText}
 use Rattle.demands.specs.Calls.{Call, anEdit, callTold, callBreaches, callValues, numbersBehind, studyAfter}
 use Rattle.demands.specs.Calls.{Lent, callLent}
@@ -89,9 +91,20 @@ TextRefuses text buffer =
     Refuses (countTold (reported text buffer)) (roomFault (length text) (length buffer) ∷ []) (length text ∷ [])
     (record { before = buffer; after = written text buffer; result = text } ∷ [])
 
+-- the report of any bytes: 18 for its text, then for two slices, which need a place for each class where the bytes open
+-- and none where they do not; its value is the number of bytes, and the bounds of the study's classes fill the slices
+abbrev pub ReportRefuses : (bytes text lower upper : List ℕ) → Type 0
+ReportRefuses bytes text lower upper =
+    Refuses (countTold (reportGiven bytes text lower upper)) (reportBreaches bytes text lower upper)
+    (length (reportText bytes) ∷ [])
+    (record { before = text; after = bufferReported bytes text lower upper; result = reportText bytes }
+    ∷ record { before = lower; after = lowerReported bytes text lower upper; result = reportLowers bytes }
+    ∷ record { before = upper; after = upperReported bytes text lower upper; result = reportUppers bytes }
+    ∷ [])
+
 -- So it is of the report of any bytes, and of the word of any number.
 pub record TextsRefuse : Type 0 where
-  pub report : (bytes buffer : List ℕ) → TextRefuses (reportText bytes) buffer
+  pub report : (bytes text lower upper : List ℕ) → ReportRefuses bytes text lower upper
   pub word : (number : ℕ) (buffer : List ℕ) → TextRefuses (refusalWord number) buffer
 
 -- Every later call refuses a study that is not sound by 16, and by 16 no other; so one that told values had a sound

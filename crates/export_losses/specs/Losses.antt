@@ -1,5 +1,5 @@
--- The calls for the losses of loads: bounds for a load of the study that an image holds, by its gates or by a drawn tree,
--- and the loads that a class loses.
+-- The calls for the losses of loads: bounds for a load of the study that an image holds, by its gates or by a drawn
+-- tree, and the loads that a class loses.
 use Prim.Native.Nat.{ℕ}
 use mathlib.Core.Path.{_≡_}
 use mathlib.Core.List.{List}

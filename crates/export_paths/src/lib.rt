@@ -1,5 +1,5 @@
-// The paths and classes of an opened study for C, by its gates or by a drawn tree: the list of its paths, and bounds for
-// each path and class. Gates look at no tree.
+// The paths and classes of an opened study for C, by its gates or by a drawn tree: the list of its paths, and bounds
+// for each path and class. Gates look at no tree.
 use export_answers::answer_count;
 use export_answers::answer_listing;
 use export_answers::answer_outcome;

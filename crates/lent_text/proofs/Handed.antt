@@ -44,16 +44,7 @@ module _ (text buffer : List ℕ) {fault : ℕ} (is-fault : fault ≡ roomFault 
       let kept = sym judged ∙ none in
       (sym (answered-done Refused _ _ kept), wrote .holds ∙ sym (filled-done _ text buffer kept))
 
--- ---- what a caller may read of the buffer
-
 -- the number of bytes is told, or the breach
 pub reported-tells : (text buffer : List ℕ) → countTold (reported text buffer) ≡ tells (textFault text buffer) (length text ∷ [])
 unfolding reported
 reported-tells text buffer = answered-tells Refused (textFault text buffer) (Count (length text)) countTold (length text ∷ []) (λ n. refl) refl
-
--- the bytes that are counted stand inside the buffer
-pub told-inside : (text buffer : List ℕ) (answer : CountAnswer) (size : ℕ) → answer ≡ reported text buffer → answer ≡ Count size → size ≤ length buffer
-told-inside text buffer answer size e is-written =
-    let told = ap countTold (sym e ∙ is-written) in
-    let same : length text ≡ size = cc (values-told _ _ (size ∷ []) (reported-tells text buffer) told) in
-    omega (arith, same, fault-kept text buffer (no-breach _ _ (size ∷ []) (reported-tells text buffer) told))

@@ -1,5 +1,5 @@
 -- What a report answers and leaves: where nothing has a breach, where something has one, and where the bytes do not open.
-use Prim.Native.Nat.{ℕ}
+use Prim.Native.Nat.{ℕ, _≤_}
 use mathlib.Core.Path.{_≡_, refl, sym, ap, _∙_}
 use mathlib.Core.Bool.{Bool, true, false}
 use mathlib.Core.List.{List, [], _∷_}
@@ -15,12 +15,13 @@ use Rattle.rules.specs.Table.{roomFault}
 use Rattle.rules.proofs.Kept.{Neither, list-none, list-last, list-more, first-last, both-kept}
 use Rattle.rules.proofs.Rows.{room-none, room-kept}
 use Rattle.answers.specs.Answered.{filled}
+use Rattle.answers.specs.Told.{tells, countTold}
 use Rattle.answers.specs.declared.counts.CountAnswer.{CountAnswer}
 use Rattle.answers.specs.declared.counts.CountAnswer.the-variants.{Count, Refused as NoCount}
 use Rattle.answers.specs.declared.outcome.Outcome.{Outcome}
 use Rattle.answers.specs.declared.outcome.Outcome.the-variants.{Done, Refused}
 use Rattle.answers.specs.declared.outcome.StudyAnswer.{StudyAnswer}
-use Rattle.answers.proofs.Answered.{answered-done, answered-refused, filled-done, filled-refused}
+use Rattle.answers.proofs.Answered.{answered-done, answered-refused, answered-tells, no-breach, values-told, filled-done, filled-refused}
 use Rattle.opening.specs.Opening.{opened}
 use Rattle.meaning.specs.Meaning.{byGates, modelOf}
 use Rattle.evaluation.specs.Bounds.{classLowers, classUppers}
@@ -130,3 +131,24 @@ module _ (bytes : List ℕ) {answer : StudyAnswer} (is : answer ≡ opened bytes
       → text′ ≡ written (refusedText n) text → ReportsBytes bytes text lower upper text′ lower upper r
   unopened-reported {n} text lower upper refused is-answer is-text =
       by-outcome refused (rw (← text-refused bytes is refused) (put-unopened (refusedText n) text lower upper is-answer is-text))
+
+-- ---- what a caller may read of the buffer
+
+-- the number of bytes is told, or the breach
+pub report-tells : (bytes text lower upper : List ℕ)
+    → countTold (reported bytes text lower upper) ≡ tells (reportFault bytes text lower upper) (length (reportText bytes) ∷ [])
+unfolding reported
+report-tells bytes text lower upper =
+    answered-tells NoCount (reportFault bytes text lower upper) (Count (length (reportText bytes))) countTold (length (reportText bytes) ∷ []) (λ n. refl) refl
+
+-- the bytes that are counted stand inside the buffer
+pub report-inside : (bytes text lower upper : List ℕ) (answer : CountAnswer) (size : ℕ) → answer ≡ reported bytes text lower upper → answer ≡ Count size
+    → size ≤ length text
+unfolding reportFault
+report-inside bytes text lower upper answer size e is-count =
+    let told = ap countTold (sym e ∙ is-count) in
+    let tells = report-tells bytes text lower upper in
+    let same : length (reportText bytes) ≡ size = cc (values-told _ _ (size ∷ []) tells told) in
+    let none = no-breach _ _ (size ∷ []) tells told in
+    let room = text-room (reportText bytes) (placesBy (opened bytes .outcome)) text lower upper none in
+    omega (arith, same, room .fits)

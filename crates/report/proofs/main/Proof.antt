@@ -4,8 +4,8 @@ use mathlib.Core.Path.{_≡_, sym}
 use native.Mathlib.Omega.{arith}
 use lib.ListN.{length}
 use lib.Seq.{length-take-le}
-use Rattle.lent_text.proofs.Handed.{told-inside}
 use Rattle.report_text.specs.Report.{reportBytes}
+use Rattle.report_text.proofs.Reported.{report-inside}
 use borrow.Author.Needs.{needs}
 use Rattle.report.proofs.main.Statement.{statement}
 use Rattle.report.proofs.main.Tie as tie
@@ -16,7 +16,7 @@ inside c =
     let reported = c .before .before .before in
     let same : length (reported .report .last .1 .0) ≡ reportBytes = search needs in
     let whole = reported .before .before .before .empty-text .ensures in
-    omega (arith, told-inside _ _ _ _ (reported .report .ensures .0) (c .answer .given .1), same, whole)
+    omega (arith, report-inside _ _ _ _ _ _ (reported .report .ensures .0) (c .answer .given .1), same, whole)
 
 pub main-spec : {M : Type 1} → statement M
 main-spec =
