@@ -28,7 +28,8 @@ use Rattle.opening.proofs.Opened.Study.{opened-sound}
 use Rattle.meaning.specs.Meaning.{Meaning, meaningFault, modelOf}
 use Rattle.evaluation.specs.Bounds.{pathLowers, pathUppers, classLowers, classUppers, loadLowers, loadUppers}
 use Rattle.evaluation.specs.Figures.{figuresBy}
-use Rattle.path_calls.specs.Bounds.{pairFault, pairBreach, pathsBounded, lowerOfPaths, upperOfPaths, classesBounded, lowerOfClasses, upperOfClasses}
+use Rattle.evaluation.specs.Rooms.{pairFault}
+use Rattle.path_calls.specs.Bounds.{pairBreach, pathsBounded, lowerOfPaths, upperOfPaths, classesBounded, lowerOfClasses, upperOfClasses}
 use Rattle.path_calls.specs.Listing.{pathList, listFault, pathsListed, bufferListed}
 use Rattle.loss_calls.specs.Bounds.{lossOf, lossFault, loadBounded}
 use Rattle.loss_calls.specs.Figures.{figuresFault, figuresGiven}

@@ -33,7 +33,8 @@ use Rattle.meaning.specs.Meaning.{byTree, modelOf}
 use Rattle.probability.specs.Totals.{lowerBounds, upperBounds, lowerClasses, upperClasses, lowerLoss, upperLoss, lowerLoads, upperLoads}
 use Rattle.indices.specs.Figures.{customersSum, figuresOf}
 use Rattle.indices.proofs.Bare.{bare, bare-same, customers-bare, figures-bare}
-use Rattle.path_calls.specs.Bounds.{pairFault, pairBreach, pathsBounded, classesBounded}
+use Rattle.evaluation.specs.Rooms.{pairFault}
+use Rattle.path_calls.specs.Bounds.{pairBreach, pathsBounded, classesBounded}
 use Rattle.path_calls.specs.Listing.{listFault, pathsListed, bufferListed}
 use Rattle.loss_calls.specs.Bounds.{lossFault, loadBounded}
 use Rattle.loss_calls.specs.Figures.{figuresFault, figuresGiven}

@@ -22,7 +22,7 @@ use Rattle.soundness.proofs.Checked.{check-refuses, none-unsound}
 use Rattle.drawn_tree.specs.Laws.{DrawnRow}
 use Rattle.drawn_tree.proofs.Judged.{drawn-rows}
 use Rattle.meaning.specs.Meaning.{Meaning, byGates, byTree, meaningFault}
-use Rattle.path_calls.specs.Bounds.{pairFault}
+use Rattle.evaluation.specs.Rooms.{pairFault}
 use Rattle.demands.specs.Calls.{Call, anEdit, listPaths, pathBounds, classBounds, loadBounds, figures, writeStudy}
 use Rattle.demands.specs.Calls.{callTold, callBreaches, callValues, meaningNumbers, numbersBehind}
 use Rattle.demands.specs.Demand1.{UnsoundRefused, NumbersListed}

@@ -1,11 +1,6 @@
-<<<<<<< HEAD
-// The losses of an opened study, by its gates or by a drawn tree: bounds for the loss of a load, and the figures; and the
-// loads that a class loses.
-use entries::Class;
-=======
 // The losses of an opened study, by its gates or by a drawn tree: bounds for the loss of a load, and the figures; and
 // the loads that a class loses.
->>>>>>> edcc8e8 (Keep the lines of the crates for C below 120 columns)
+use entries::Class;
 use meaning::Source;
 ghost use Rattle.meaning.specs.Meaning.{byGates, byTree};
 ghost use Rattle.export_answers.specs.Answers.{two};
