@@ -2,7 +2,8 @@
 -- many bytes a class takes and where it stands.
 use Prim.Native.Nat.{ℕ, _+_, _*_, _^_}
 use mathlib.Core.List.{List, [], _∷_, _++_}
-use lib.ListN.{getD, take, drop}
+use lib.ListN.{getD, drop}
+use Rattle.lists.specs.Rows.{rowAt}
 use Rattle.lists.specs.Tabulate.{tabulate}
 use Rattle.rules.specs.Limits.{mostComponents, mostLoads, mostJointStates}
 
@@ -46,7 +47,7 @@ classBorne n entry = classRead (drop n entry)
 
 -- entry k of a list
 abbrev pub entryAt : ℕ → List ℕ → ℕ → List ℕ
-entryAt n list k = take (entryBytes n) (drop (k * entryBytes n) list)
+entryAt n list k = rowAt (entryBytes n) list k
 
 -- the entries of a list of so many paths
 unfoldable pub entriesOf : ℕ → ℕ → List ℕ → List (List ℕ)

@@ -1,6 +1,6 @@
 -- What a text handed over answers and leaves in the lent buffer, where it fits and where it does not.
 use Prim.Native.Nat.{ℕ, _≤_}
-use mathlib.Core.Path.{_≡_, refl, sym, ap, _∙_}
+use mathlib.Core.Path.{_≡_, refl, sym, _∙_}
 use mathlib.Core.List.{List, [], _∷_}
 use native.Mathlib.Omega.{arith}
 use lib.ListN.{length}
@@ -8,10 +8,9 @@ use Rattle.rules.specs.Table.{roomFault}
 use Rattle.rules.proofs.Kept.{list-last}
 use Rattle.rules.proofs.Rows.{room-kept}
 use Rattle.text.specs.Writing.{Room, Wrote}
-use Rattle.answers.specs.declared.counts.CountAnswer.{CountAnswer}
 use Rattle.answers.specs.declared.counts.CountAnswer.the-variants.{Count, Refused}
 use Rattle.answers.specs.Told.{tells, countTold}
-use Rattle.answers.proofs.Answered.{answered-done, answered-refused, answered-tells, no-breach, values-told, filled-done, filled-refused}
+use Rattle.answers.proofs.Answered.{answered-done, answered-refused, answered-tells, filled-done, filled-refused}
 use Rattle.lent_text.specs.Lent.{textFault, reported, written}
 
 -- without a breach the text fits

@@ -1,16 +1,13 @@
 -- Laws of the values of a function as a list.
 use Prim.Native.Nat.{ℕ, zero, suc, _+_, _<_}
 use mathlib.Core.Path.{_≡_, refl, sym, ap, _∙_}
-use mathlib.Core.Bool.{Bool, true, false}
 use mathlib.Core.List.{List, [], _∷_}
 use mathlib.Core.Logic.{⊎-elim}
 use native.Mathlib.Nat.{not-suc-le-zero, le-of-suc-le-suc, eq-or-lt-of-le}
 use native.Mathlib.Numerals.{add-one}
 use native.Mathlib.Omega.{arith}
-use lib.Dec.{eqb}
-use lib.ListN.{length, getD, set, length-append, length-set, List·getD-append}
-use lib.Seq.{getD-at, getD-set-same, getD-set-other, ext-getD}
-use borrow.Author.Tests.{eqb-true, eqb-false}
+use lib.ListN.{length, getD, length-append, List·getD-append}
+use lib.Seq.{getD-at, ext-getD}
 use Rattle.lists.specs.Tabulate.{tabulate}
 
 module _ {A : Type 0} where
@@ -39,17 +36,3 @@ module _ {A : Type 0} where
   unfolding tabulate
   tabulate-alike f g zero same = refl
   tabulate-alike f g (suc n) same = rw (tabulate-alike f g n (λ k h. same k (omega arith)), same n (omega arith)) refl
-
-  -- one value anew
-  pub tabulate-set : (f g : ℕ → A) (n i : ℕ) (a : A) → i < n → g i ≡ a → ((k : ℕ) → (k ≡ i → ⊥) → g k ≡ f k) → set (tabulate f n) i a ≡ tabulate g n
-  tabulate-set f g n i a h here there =
-      tabulated g n (set (tabulate f n) i a) a (length-set (tabulate f n) i a ∙ length-tabulate f n) (λ k less. at k less (eqb k i) refl)
-    where
-      at : (k : ℕ) → k < n → (b : Bool) → eqb k i ≡ b → getD (set (tabulate f n) i a) k a ≡ g k
-      at k less true same =
-          ap (λ (p : ℕ). getD (set (tabulate f n) i a) p a) (eqb-true k i same)
-          ∙ getD-set-same (tabulate f n) i a a (rw (length-tabulate f n) h)
-          ∙ sym here
-          ∙ ap g (sym (eqb-true k i same))
-      at k less false other =
-          getD-set-other (tabulate f n) i k a a (eqb-false k i other) ∙ getD-tabulate f n k a less ∙ sym (there k (eqb-false k i other))

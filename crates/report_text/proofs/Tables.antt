@@ -1,13 +1,12 @@
 -- The lines from tables that the code has filled are those from the tables that the report speaks of.
 use Prim.Native.Nat.{ℕ, _≤_}
 use mathlib.Core.Path.{_≡_, sym, ap, _∙_}
-use mathlib.Core.List.{List, _++_}
+use mathlib.Core.List.{List}
 use native.Mathlib.Omega.{arith}
-use lib.ListN.{length, getD, take, drop}
-use lib.Seq.{length-take-le, drop-at}
+use lib.ListN.{length, getD, take}
+use lib.Seq.{length-take-le}
 use Rattle.lists.specs.Rows.{put}
-use Rattle.lists.specs.Tabulate.{tabulate}
-use Rattle.lists.proofs.Fronts.{getD-put, put-front, put-taken}
+use Rattle.lists.proofs.Fronts.{getD-put, put-taken}
 use Rattle.lists.proofs.Tabulated.{length-tabulate}
 use Rattle.text.specs.Writing.{Wrote}
 use Rattle.rules.specs.Limits.{mostLoads}
@@ -16,8 +15,6 @@ use Rattle.answers.specs.declared.figures.FiguresAnswer.{FiguresAnswer}
 use Rattle.entries.specs.Entries.{classPlaces, entriesOf}
 use Rattle.model.specs.Listed.{Listed}
 use Rattle.model.specs.Model.{Model, components, pathsOf}
-use Rattle.totals.specs.Places.{Placed}
-use Rattle.totals.proofs.Placed.{placed-put}
 use Rattle.evaluation.specs.Bounds.{classLowers, classUppers, loadLowers, loadUppers}
 use Rattle.evaluation.specs.Figures.{figuresBy}
 use Rattle.evaluation.specs.Losses.{LossesOf}
@@ -27,17 +24,6 @@ use Rattle.report_lines.specs.Loads.{loadLines}
 use Rattle.report_lines.proofs.Borne.{borne-class}
 use Rattle.report_lines.proofs.Listed.{class-lines-alike}
 use Rattle.report_text.specs.Report.{classesText}
-
--- what is put over values at the first places hides them
-pub placed-over : {places : ℕ} {value : ℕ → ℕ} {d d′ : List ℕ} → Placed places value d d′ → places ≤ length d → (x : List ℕ) → length x ≡ places
-    → put d′ 0 x ≡ put d 0 x
-placed-over {places} {value} {d} {d′} placed room x long =
-    let values = tabulate value places in
-    let many : length values ≡ places = length-tabulate value places in
-    sym (put-front d′ x long)
-    ∙ ap (λ (l : List ℕ). x ++ drop places l) (placed-put placed room ∙ sym (put-front d values many))
-    ∙ ap (λ (l : List ℕ). x ++ l) (drop-at values (drop places d) places many)
-    ∙ put-front d x long
 
 -- bounds for each class
 pub lowers-long : (m : Model) → length (classLowers m) ≡ classPlaces

@@ -1,17 +1,17 @@
 -- Laws of values at the first places of a lent slice. What carries a loop that sets them one by one: those below j are set, and those ahead are still as
 -- they were, so that a loop may read what it adds to.
 use Prim.Native.Nat.{ℕ, _+_, _<_, _≤_}
-use mathlib.Core.Path.{_≡_, refl, sym, subst, _∙_}
+use mathlib.Core.Path.{_≡_, refl, sym, ap, subst, _∙_}
 use mathlib.Core.Bool.{Bool, true, false}
-use mathlib.Core.List.{List}
+use mathlib.Core.List.{List, _++_}
 use native.Mathlib.Omega.{arith}
 use lib.Dec.{eqb, ltb}
-use lib.ListN.{length, getD, set, replicate, length-set, getD-replicate}
-use lib.Seq.{getD-set-same, getD-set-other, ext-getD}
+use lib.ListN.{length, getD, drop, set, replicate, length-set, getD-replicate}
+use lib.Seq.{drop-at, getD-set-same, getD-set-other, ext-getD}
 use borrow.Author.Tests.{eqb-true, eqb-false, ltb-true, ltb-false}
 use Rattle.lists.specs.Rows.{put}
 use Rattle.lists.specs.Tabulate.{tabulate}
-use Rattle.lists.proofs.Fronts.{getD-put, put-behind}
+use Rattle.lists.proofs.Fronts.{getD-put, put-front, put-behind}
 use Rattle.lists.proofs.Puts.{put-size}
 use Rattle.lists.proofs.Tabulated.{length-tabulate, getD-tabulate}
 use Rattle.totals.specs.Places.{Placed, Cleared}
@@ -79,3 +79,14 @@ placed-put {places} {value} {d} {d′} a room =
 
 pub zeros-cleared : {places : ℕ} {d : List ℕ} → d ≡ replicate places 0 → Cleared places d d
 zeros-cleared {places} {d} e = record { size = refl; here = λ p h. rw e (getD-replicate {A = ℕ} places p 0 0 h); behind = λ k h. refl }
+
+-- what is put over values at the first places hides them
+pub placed-over : {places : ℕ} {value : ℕ → ℕ} {d d′ : List ℕ} → Placed places value d d′ → places ≤ length d → (x : List ℕ) → length x ≡ places
+    → put d′ 0 x ≡ put d 0 x
+placed-over {places} {value} {d} {d′} placed room x long =
+    let values = tabulate value places in
+    let many : length values ≡ places = length-tabulate value places in
+    sym (put-front d′ x long)
+    ∙ ap (λ (l : List ℕ). x ++ drop places l) (placed-put placed room ∙ sym (put-front d values many))
+    ∙ ap (λ (l : List ℕ). x ++ l) (drop-at values (drop places d) places many)
+    ∙ put-front d x long

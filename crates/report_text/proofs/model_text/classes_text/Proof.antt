@@ -12,12 +12,13 @@ use Rattle.entries.specs.Entries.{classPlaces, entriesOf}
 use Rattle.entries.proofs.Entries.{entries-long}
 use Rattle.model.specs.InHand.{modelHeld}
 use Rattle.model.proofs.InHand.{held-number, listed-room}
+use Rattle.totals.proofs.Placed.{placed-over}
 use Rattle.evaluation.specs.Bounds.{classLowers, classUppers}
 use Rattle.evaluation.proofs.PairPut.{PairRoom}
 use Rattle.report_lines.specs.Classes.{classLines}
 use Rattle.report_lines.proofs.Borne.{borne-few}
 use Rattle.report_text.specs.Report.{classesText}
-use Rattle.report_text.proofs.Tables.{placed-over, lowers-long, uppers-long, classes-are}
+use Rattle.report_text.proofs.Tables.{lowers-long, uppers-long, classes-are}
 use borrow.Author.Needs.{needs}
 use Rattle.report_text.proofs.model_text.classes_text.Statement.{statement}
 use Rattle.report_text.proofs.model_text.classes_text.Tie as tie
