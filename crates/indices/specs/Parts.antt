@@ -3,8 +3,8 @@ use mathlib.Core.Bool.{Bool, true, not}
 use Rattle.rules.specs.Limits.{momentary}
 use Rattle.study.specs.declared.Load.{Load}
 
--- a short load: its losses are momentary. One that states no restore time has 0 minutes, and so is short. These take
--- part in MAIFI's sum over P
+-- a short load: its losses are momentary. One without a restore time is among them, at 0 minutes. These take part in
+-- MAIFI's sum over P
 unfoldable pub short : Load → Bool
 unfolding momentary
 short l = momentary (l .minutes)
