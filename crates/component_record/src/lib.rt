@@ -96,7 +96,8 @@ fn read_field(bytes: &[u8], at: usize, map: u8, k: u8, c: Component) -> Componen
 
 // The last field, where one field is left to read.
 fn read_last(bytes: &[u8], at: usize, left: u32, c: Component) -> ComponentRead
-    ensures { λ r. ⌜ ReadsAt (now (bytes .entry)) at (whereLeft left (probability 3) c) (r .refusal) (r .next) (r .component) ⌝ }
+    ensures { λ r.
+        ⌜ ReadsAt (now (bytes .entry)) at (whereLeft left (probability 3) c) (r .refusal) (r .next) (r .component) ⌝ }
 {
     if left != 1 {
         return ComponentRead {

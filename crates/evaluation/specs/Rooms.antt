@@ -1,4 +1,5 @@
--- Bounds worked out of a model go to two lent slices, one for lower and one for upper bounds: when they are refused, and what is answered and left.
+-- Bounds worked out of a model go to two lent slices, one for lower and one for upper bounds: when they are refused,
+-- and what is answered and left.
 use Prim.Native.Nat.{ℕ}
 use mathlib.Core.Path.{_≡_}
 use mathlib.Core.List.{List, [], _∷_}
@@ -26,7 +27,8 @@ abbrev pub pathsRoom : Model → List ℕ → List ℕ → ℕ
 pathsRoom m lower upper = pairRoom (length (pathsOf m)) lower upper
 
 -- what is answered, and what each slice is left with: filled where there is no breach, and otherwise as it was
-pub record PairPut {A : Type 0} (refused : ℕ → A) (breach : ℕ) (done : A) (lowers uppers lower-was upper-was lower upper : List ℕ) (answer : A) : Type 0 where
+pub record PairPut {A : Type 0} (refused : ℕ → A) (breach : ℕ) (done : A)
+    (lowers uppers lower-was upper-was lower upper : List ℕ) (answer : A) : Type 0 where
   pub answer-is : answer ≡ answered refused breach done
   pub lower-is : lower ≡ filled breach lowers lower-was
   pub upper-is : upper ≡ filled breach uppers upper-was
@@ -34,7 +36,8 @@ pub record PairPut {A : Type 0} (refused : ℕ → A) (breach : ℕ) (done : A) 
 -- the bounds of paths, with their number for an answer
 abbrev pub PathBoundsPut : Model → (lower-was upper-was lower upper : List ℕ) → CountAnswer → Type 0
 PathBoundsPut m lower-was upper-was =
-    PairPut NoCount (pathsRoom m lower-was upper-was) (Count (length (pathsOf m))) (pathLowers m) (pathUppers m) lower-was upper-was
+    PairPut NoCount (pathsRoom m lower-was upper-was) (Count (length (pathsOf m)))
+    (pathLowers m) (pathUppers m) lower-was upper-was
 
 -- the bounds of classes
 abbrev pub ClassBoundsPut : Model → (lower-was upper-was lower upper : List ℕ) → Outcome → Type 0

@@ -15,7 +15,8 @@ ghost use Rattle.model.specs.InHand.{modelHeld, InHand};
 ghost use Rattle.evaluation.specs.Bounds.{classLowers, classUppers};
 ghost use Rattle.evaluation.specs.Rooms.{ClassBoundsPut};
 
-// Writes the bounds of all classes into slices that have the room: the totals are added up in the slices themselves, whatever stood there.
+// Writes the bounds of all classes into slices that have the room: the totals are added up in the slices themselves,
+// whatever stood there.
 pub fn write_classes(model: HeldModel, classes: &[Class], lower: &mut [u64], upper: &mut [u64])
     requires { ⌜ InHand model (now classes) ⌝ }
     requires { ⌜ classPlaces ≤ length (now lower) ⌝ }

@@ -33,10 +33,12 @@ fn write_paths(
     requires { ⌜ paths ≤ length (now upper) ⌝ }
     ensures lower { λ r.
         ⌜ now (lower .exit)
-        ≡ put (now (lower .entry)) 0 (lowerBounds (now (probabilities .entry)) n (entriesOf n paths (now (list .entry)))) ⌝ }
+        ≡ put (now (lower .entry)) 0
+        (lowerBounds (now (probabilities .entry)) n (entriesOf n paths (now (list .entry)))) ⌝ }
     ensures upper { λ r.
         ⌜ now (upper .exit)
-        ≡ put (now (upper .entry)) 0 (upperBounds (now (probabilities .entry)) n (entriesOf n paths (now (list .entry)))) ⌝ }
+        ≡ put (now (upper .entry)) 0
+        (upperBounds (now (probabilities .entry)) n (entriesOf n paths (now (list .entry)))) ⌝ }
 {
     path_bounds(DOWN, probabilities, n, list, paths, lower);
     path_bounds(UP, probabilities, n, list, paths, upper);

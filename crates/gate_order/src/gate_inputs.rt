@@ -27,7 +27,9 @@ fn no_masks() -> [u8; INPUT_PLACES]
 // Puts the first so many gate inputs in order, in their places, and says how many of them are distinct.
 pub fn order_gate_inputs(count: u8, input: &mut [u8]) -> u8
     requires { ⌜ length (now input) ≡ mostGateInputs ⌝ }
-    ensures input { λ r. ⌜ now (input .exit) ≡ put (now (input .entry)) 0 (numbers (sorted (take count (map unmasked (now (input .entry)))))) ⌝ }
+    ensures input { λ r.
+        ⌜ now (input .exit)
+        ≡ put (now (input .entry)) 0 (numbers (sorted (take count (map unmasked (now (input .entry)))))) ⌝ }
     ensures many { λ r. ⌜ r ≡ length (distinct (take count (map unmasked (now (input .entry))))) ⌝ }
 {
     let n = within(count, INPUT_PLACES);

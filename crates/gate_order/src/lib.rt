@@ -33,7 +33,8 @@ fn within(count: u8, places: usize) -> usize
     places
 }
 
-// Puts the inputs of a gate in order, in the places that are lent, and says how many of them are distinct, tests and gates together.
+// Puts the inputs of a gate in order, in the places that are lent, and says how many of them are distinct, tests and
+// gates together.
 pub fn put_in_order(
     tests: u8,
     component: &mut [u8],
@@ -54,7 +55,8 @@ pub fn put_in_order(
     distinct_tests as u32 + distinct_gates as u32
 }
 
-// What the inputs of a gate were found to be: 16 where they are out of order, and otherwise how many are distinct, tests and gates together.
+// What the inputs of a gate were found to be: 16 where they are out of order, and otherwise how many are distinct,
+// tests and gates together.
 pub struct InputsJudged {
     pub refusal: u8,
     pub distinct: u32,

@@ -58,7 +58,8 @@ fn read_threshold(bytes: &[u8], at: usize, map: u8, absent: u8) -> ByteRead
     byte_at(bytes, at)
 }
 
-// The fields whose bit stands in the map, lowest bit first, over a gate of which nothing is given: as many as the map has ones.
+// The fields whose bit stands in the map, lowest bit first, over a gate of which nothing is given: as many as the map
+// has ones.
 fn read_fields(
     bytes: &[u8],
     at: usize,
@@ -75,7 +76,8 @@ fn read_fields(
     requires input { ⌜ length (now input) ≡ mostGateInputs ⌝ }
     ensures { λ r.
         ⌜ ReadsAt (now (bytes .entry)) at
-        (fields (gateField (now (counts .entry)) number) map (nothingGiven (now (component .entry)) (now (mask .entry)) (now (input .entry))))
+        (fields (gateField (now (counts .entry)) number) map
+        (nothingGiven (now (component .entry)) (now (mask .entry)) (now (input .entry))))
         (r .refusal) (r .next)
         (gateOf (r .threshold) (r .tests) (now (component .exit)) (now (mask .exit)) (r .gates) (now (input .exit))) ⌝ }
 {
@@ -93,7 +95,8 @@ fn read_fields(
     }
 }
 
-// The record of the gate with this number, whose inputs go to lent places that hold none; `counts` has the state count of each component of the study.
+// The record of the gate with this number, whose inputs go to lent places that hold none; `counts` has the state count
+// of each component of the study.
 pub fn read_gate(
     bytes: &[u8],
     at: usize,

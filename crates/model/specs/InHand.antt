@@ -1,4 +1,5 @@
--- A model in hand: what the code holds of a model by value, beside a table that has the class of each joint state by its number.
+-- A model in hand: what the code holds of a model by value, beside a table that has the class of each joint state by
+-- its number.
 use Prim.Native.Nat.{ℕ, _*_, _≤_}
 use mathlib.Core.Path.{_≡_}
 use mathlib.Core.List.{List}

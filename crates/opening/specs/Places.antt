@@ -16,8 +16,8 @@ pub record CountsFit (components gates loads : ℕ) : Type 0 where
   pub gates-fit : gates ≤ mostGates
   pub loads-fit : loads ≤ mostLoads
 
--- the counts are read, and the records are ahead: a refusal is that of the opening, and otherwise the counts fit and the
--- records decide
+-- the counts are read, and the records are ahead: a refusal is that of the opening, and otherwise the counts fit and
+-- the records decide
 pub record CountsAhead (bytes : List ℕ) (refusal next components gates loads : ℕ) : Type 0 where
   pub refused : (refusal ≡ 0 → ⊥) → refusedOpening refusal ≡ opened bytes
   pub ahead : refusal ≡ 0 → answer (records components gates loads (drop next bytes)) ≡ opened bytes

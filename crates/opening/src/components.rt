@@ -36,11 +36,14 @@ fn read_component_after(bytes: &[u8], at: usize, joint: u32) -> ComponentRead
     }
 }
 
-// So many component records, each in its place, up to the first breach. Their state counts go to the front of a lent row.
+// So many component records, each in its place, up to the first breach. Their state counts go to the front of a lent
+// row.
 pub fn read_components(bytes: &[u8], at: usize, n: usize, counts: &mut [u8]) -> ComponentsRead
     requires count { ⌜ n ≤ mostComponents ⌝ }
     requires row { ⌜ length (now counts) ≡ mostComponents ⌝ }
-    ensures components { λ r. ⌜ ReadsAt (now (bytes .entry)) at (repeat (placing componentRecord) n noComponents) (r .refusal) (r .next) (r .component) ⌝ }
+    ensures components { λ r.
+        ⌜ ReadsAt (now (bytes .entry)) at (repeat (placing componentRecord) n noComponents)
+        (r .refusal) (r .next) (r .component) ⌝ }
     ensures counts { λ r. ⌜ (r .refusal ≡ 0 → take n (now (counts .exit)) ≡ take n (states (r .component))) ⌝ }
 {
     let mut next = at;

@@ -1,4 +1,5 @@
-// Opens a study: bytes to a study, refused with the number of the first breach. Not for callers from outside: those call `planning`.
+// Opens a study: bytes to a study, refused with the number of the first breach. Not for callers from outside: those
+// call `planning`.
 mod components;
 mod gates;
 mod loads;
@@ -74,7 +75,8 @@ fn read_counts(bytes: &[u8]) -> CountsRead
     }
 }
 
-// Opens a study: the counts, the records of each kind, and the end of the bytes. The gates are read with their inputs in order.
+// Opens a study: the counts, the records of each kind, and the end of the bytes. The gates are read with their inputs
+// in order.
 pub fn open(bytes: &[u8]) -> StudyAnswer
     ensures { λ r. ⌜ r ≡ opened (now (bytes .entry)) ⌝ }
 {

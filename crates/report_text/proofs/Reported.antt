@@ -21,41 +21,33 @@ use Rattle.answers.specs.declared.counts.CountAnswer.the-variants.{Count, Refus
 use Rattle.answers.specs.declared.outcome.Outcome.{Outcome}
 use Rattle.answers.specs.declared.outcome.Outcome.the-variants.{Done, Refused}
 use Rattle.answers.specs.declared.outcome.StudyAnswer.{StudyAnswer}
-use Rattle.answers.proofs.Answered.{answered-done, answered-refused, answered-tells, no-breach, values-told, filled-done, filled-refused}
+use Rattle.answers.proofs.Answered.{answered-tells, no-breach, values-told, filled-done, filled-refused}
 use Rattle.opening.specs.Opening.{opened}
 use Rattle.meaning.specs.Meaning.{byGates, modelOf}
 use Rattle.evaluation.specs.Bounds.{classLowers, classUppers}
 use Rattle.evaluation.specs.Rooms.{pairFault}
-use Rattle.evaluation.proofs.PairPut.{PairRoom, pair-room}
+use Rattle.evaluation.proofs.PairPut.{PairRoom, pair-room, pair-refused, pair-done}
 use Rattle.report_text.specs.Lent.{roomBreaches, ReportPut, ModelReported, placesBy, boundsBy, reportFault, reported, bufferReported, lowerReported, upperReported}
 use Rattle.report_text.specs.Report.{refusedText, reportText}
 use Rattle.report_text.proofs.Opened.{text-done, text-refused}
 
 -- ---- a text and bounds for so many places
 
-module _ (report : List ℕ) (places : ℕ) (lowers uppers text lower upper : List ℕ) where
-  abbrev breach : ℕ
-  breach = firstBreach (roomBreaches report places text lower upper)
-
-  pub put-refused : {found : ℕ} → found ≡ breach → (found ≡ 0 → ⊥) → ReportPut report places lowers uppers text lower upper text lower upper (NoCount found)
-  put-refused {found} is some =
-      let broken : breach ≡ 0 → ⊥ = λ none. some (is ∙ none) in
+module _ (report : List ℕ) {breach : ℕ} (lowers uppers text lower upper : List ℕ) where
+  pub put-refused : {found : ℕ} → found ≡ breach → (found ≡ 0 → ⊥) → ReportPut report breach lowers uppers text lower upper text lower upper (NoCount found)
+  put-refused is some =
       record {
-        answer-is = ap NoCount is ∙ sym (answered-refused NoCount breach (Count (length report)) broken);
-        text-is = sym (filled-refused breach report text broken);
-        lower-is = sym (filled-refused breach lowers lower broken);
-        upper-is = sym (filled-refused breach uppers upper broken);
+        text-is = sym (filled-refused breach report text (λ none. some (is ∙ none)));
+        bounds = pair-refused NoCount (Count (length report)) lowers uppers lower upper is some;
       }
 
   pub put-done : {text′ lower′ upper′ : List ℕ} {size : ℕ} → breach ≡ 0 → Wrote text 0 report text′ size → lower′ ≡ put lower 0 lowers → upper′ ≡ put upper 0 uppers
-      → ReportPut report places lowers uppers text lower upper text′ lower′ upper′ (Count size)
+      → ReportPut report breach lowers uppers text lower upper text′ lower′ upper′ (Count size)
   put-done {size = size} none wrote low high =
       let number : size ≡ length report = omega (arith, wrote .behind) in
       record {
-        answer-is = ap Count number ∙ sym (answered-done NoCount breach (Count (length report)) none);
         text-is = wrote .holds ∙ sym (filled-done breach report text none);
-        lower-is = low ∙ sym (filled-done breach lowers lower none);
-        upper-is = high ∙ sym (filled-done breach uppers upper none);
+        bounds = rw number (pair-done NoCount (Count (length report)) lowers uppers lower upper none low high);
       }
 
 -- where there is no breach, each has the room
@@ -96,14 +88,18 @@ module _ (report text lower upper : List ℕ) where
       go false some = filled-refused breach [] slice (eqb-false breach 0 some)
 
   pub put-unopened : {text′ : List ℕ} {answer : CountAnswer} → answer ≡ handed report text → text′ ≡ written report text
-      → ReportPut report 0 [] [] text lower upper text′ lower upper answer
+      → ReportPut report (firstBreach (roomBreaches report 0 text lower upper)) [] [] text lower upper text′ lower upper answer
   unfolding handed written
   put-unopened is-answer is-text =
+      let breach = firstBreach (roomBreaches report 0 text lower upper) in
       record {
-        answer-is = rw (text-decides) is-answer;
         text-is = rw (text-decides) is-text;
-        lower-is = sym (nothing-filled (firstBreach (roomBreaches report 0 text lower upper)) lower);
-        upper-is = sym (nothing-filled (firstBreach (roomBreaches report 0 text lower upper)) upper);
+        bounds =
+            record {
+              answer-is = rw (text-decides) is-answer;
+              lower-is = sym (nothing-filled breach lower);
+              upper-is = sym (nothing-filled breach upper);
+            };
       }
 
 -- ---- bytes, by what opening answers
@@ -117,11 +113,14 @@ ReportsBytes bytes text lower upper text′ lower′ upper′ r =
 
 module _ (bytes : List ℕ) {answer : StudyAnswer} (is : answer ≡ opened bytes) where
   by-outcome : {o : Outcome} {text lower upper text′ lower′ upper′ : List ℕ} {r : CountAnswer} → answer .outcome ≡ o
-      → ReportPut (reportText bytes) (placesBy o) (boundsBy o (classLowers (modelOf byGates (answer .study))))
-      (boundsBy o (classUppers (modelOf byGates (answer .study)))) text lower upper text′ lower′ upper′ r
+      → ReportPut (reportText bytes) (firstBreach (roomBreaches (reportText bytes) (placesBy o) text lower upper))
+      (boundsBy o (classLowers (modelOf byGates (answer .study)))) (boundsBy o (classUppers (modelOf byGates (answer .study))))
+      text lower upper text′ lower′ upper′ r
       → ReportsBytes bytes text lower upper text′ lower′ upper′ r
   unfolding reported reportFault
-  by-outcome told made = rw (← is, told) (made .answer-is, (made .text-is, (made .lower-is, made .upper-is)))
+  by-outcome told made =
+      let bounds = made .bounds in
+      rw (← is, told) (bounds .answer-is, (made .text-is, (bounds .lower-is, bounds .upper-is)))
 
   pub opened-reported : {text lower upper text′ lower′ upper′ : List ℕ} {r : CountAnswer} → answer .outcome ≡ Done
       → ModelReported (modelOf byGates (answer .study)) text lower upper text′ lower′ upper′ r → ReportsBytes bytes text lower upper text′ lower′ upper′ r

@@ -1,5 +1,5 @@
--- What the call for a report answers, and what it leaves of what it was lent: a buffer for the text, and two slices for the bounds of the study's
--- classes, which are not looked at where the study does not open.
+-- What the call for a report answers, and what it leaves of what it was lent: a buffer for the text, and two slices
+-- for the bounds of the study's classes, which are not looked at where the study does not open.
 use Prim.Native.Nat.{ℕ}
 use mathlib.Core.Path.{_≡_}
 use mathlib.Core.List.{List, [], _∷_}
@@ -16,7 +16,7 @@ use Rattle.model.specs.Model.{Model}
 use Rattle.opening.specs.Opening.{opened}
 use Rattle.meaning.specs.Meaning.{byGates, modelOf}
 use Rattle.evaluation.specs.Bounds.{classLowers, classUppers}
-use Rattle.evaluation.specs.Rooms.{pairFault}
+use Rattle.evaluation.specs.Rooms.{pairFault, PairPut}
 use Rattle.report_text.specs.Report.{modelText, reportText}
 
 -- 18 for a text, then 18 for two slices of which each needs so many places
@@ -24,18 +24,22 @@ abbrev pub roomBreaches : List ℕ → ℕ → (text lower upper : List ℕ) →
 roomBreaches report places text lower upper =
     roomFault (length report) (length text) ∷ pairFault places (length lower) (length upper) ∷ []
 
--- what is answered and left with a text of so many bytes, and bounds for so many places
-pub record ReportPut (report : List ℕ) (places : ℕ) (lowers uppers text-was lower-was upper-was text lower upper : List ℕ)
-    (answer : CountAnswer) : Type 0 where
-  pub answer-is : answer ≡ answered NoCount (firstBreach (roomBreaches report places text-was lower-was upper-was)) (Count (length report))
-  pub text-is : text ≡ filled (firstBreach (roomBreaches report places text-was lower-was upper-was)) report text-was
-  pub lower-is : lower ≡ filled (firstBreach (roomBreaches report places text-was lower-was upper-was)) lowers lower-was
-  pub upper-is : upper ≡ filled (firstBreach (roomBreaches report places text-was lower-was upper-was)) uppers upper-was
+-- what is answered and left with this text, these bounds and this breach
+pub record ReportPut (report : List ℕ) (breach : ℕ) (lowers uppers : List ℕ)
+    (text-was lower-was upper-was text lower upper : List ℕ) (answer : CountAnswer) : Type 0 where
+  pub text-is : text ≡ filled breach report text-was
+  pub bounds : PairPut NoCount breach (Count (length report)) lowers uppers lower-was upper-was lower upper answer
 
 -- ---- a model
 
+-- its text, and a place for each class in both slices
+abbrev pub modelBreach : Model → (text lower upper : List ℕ) → ℕ
+modelBreach m text lower upper = firstBreach (roomBreaches (modelText m) classPlaces text lower upper)
+
 abbrev pub ModelReported : Model → (text-was lower-was upper-was text lower upper : List ℕ) → CountAnswer → Type 0
-ModelReported m = ReportPut (modelText m) classPlaces (classLowers m) (classUppers m)
+ModelReported m text-was lower-was upper-was =
+    ReportPut (modelText m) (modelBreach m text-was lower-was upper-was) (classLowers m) (classUppers m)
+    text-was lower-was upper-was
 
 -- ---- bytes, by what opening answers
 
@@ -65,7 +69,8 @@ reportUppers bytes = boundsBy (opened bytes .outcome) (classUppers (modelOf byGa
 -- the answer: the number of bytes of the text
 unfoldable pub reported : List ℕ → (text lower upper : List ℕ) → CountAnswer
 unfolding answered reportFault
-reported bytes text lower upper = answered NoCount (reportFault bytes text lower upper) (Count (length (reportText bytes)))
+reported bytes text lower upper =
+    answered NoCount (reportFault bytes text lower upper) (Count (length (reportText bytes)))
 
 -- what the buffer and the two slices then hold
 abbrev pub bufferReported : List ℕ → (text lower upper : List ℕ) → List ℕ

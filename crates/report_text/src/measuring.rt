@@ -17,8 +17,8 @@ ghost use Rattle.model.specs.InHand.{modelHeld, InHand};
 ghost use Rattle.model.specs.Listed.{Listed};
 ghost use Rattle.report_text.specs.Report.{reportBytes, modelText};
 
-// Writes the text into a buffer with room for any report, from the list of the paths alone: the totals of each class are added up by
-// themselves, which takes longer than adding up those of all.
+// Writes the text into a buffer with room for any report, from the list of the paths alone: the totals of each class
+// are added up by themselves, which takes longer than adding up those of all.
 fn listed_text(
     model: HeldModel,
     classes: &[Class],

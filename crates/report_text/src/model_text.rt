@@ -43,8 +43,8 @@ pub fn paths_text(
     path_lines(out, first, first_components(&table, n), n, list, paths)
 }
 
-// Writes the lines of the classes, whose bounds are added up in the lent slices. Which of them occur is told by the list of the paths: they are
-// counted where the lower bounds come to stand.
+// Writes the lines of the classes, whose bounds are added up in the lent slices. Which of them occur is told by the
+// list of the paths: they are counted where the lower bounds come to stand.
 fn classes_text(
     model: HeldModel,
     classes: &[Class],

@@ -60,13 +60,15 @@ fn sound_report(t: Study, text: &mut [u8], lower: &mut [u64], upper: &mut [u64])
     model_report(hold(t), &classes, text, lower, upper)
 }
 
-// Writes the report of a study's bytes at the front of a lent buffer, and answers how many bytes it has; where the study opens, the bounds of its
-// classes go to the front of two slices, a place for each class. Refused by 18, in the buffer or the slices.
+// Writes the report of a study's bytes at the front of a lent buffer, and answers how many bytes it has; where the
+// study opens, the bounds of its classes go to the front of two slices, a place for each class. Refused by 18, in the
+// buffer or the slices.
 pub fn report(bytes: &[u8], text: &mut [u8], lower: &mut [u64], upper: &mut [u64]) -> CountAnswer
     ensures answer { λ r.
         ⌜ r ≡ reported (now (bytes .entry)) (now (text .entry)) (now (lower .entry)) (now (upper .entry)) ⌝ }
     ensures text { λ r.
-        ⌜ now (text .exit) ≡ bufferReported (now (bytes .entry)) (now (text .entry)) (now (lower .entry)) (now (upper .entry)) ⌝ }
+        ⌜ now (text .exit)
+        ≡ bufferReported (now (bytes .entry)) (now (text .entry)) (now (lower .entry)) (now (upper .entry)) ⌝ }
     ensures lower { λ r.
         ⌜ now (lower .exit)
         ≡ lowerReported (now (bytes .entry)) (now (text .entry)) (now (lower .entry)) (now (upper .entry)) ⌝ }

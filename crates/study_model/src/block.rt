@@ -1,4 +1,5 @@
-// What is in use of arrays that have room for any model: the state counts of its components, and the classes of its joint states.
+// What is in use of arrays that have room for any model: the state counts of its components, and the classes of its
+// joint states.
 use entries::Class;
 use study::joint_states;
 ghost use Prim.Native.Nat.{ℕ, _<_, _≤_};

@@ -38,7 +38,9 @@ fn with_states(
 // The probabilities of all component places.
 pub fn probability_table(component: [Component; COMPONENT_PLACES]) -> [u32; PROBABILITY_PLACES]
     requires { ⌜ ((i : ℕ) → i < mostComponents
-        → getD component i zeroComponent .p1 + getD component i zeroComponent .p2 + getD component i zeroComponent .p3 ≤ one) ⌝ }
+        → getD component i zeroComponent .p1
+        + getD component i zeroComponent .p2
+        + getD component i zeroComponent .p3 ≤ one) ⌝ }
     ensures { λ r. ⌜ r ≡ placeProbabilities component ⌝ }
 {
     let mut table = [0u32; PROBABILITY_PLACES];

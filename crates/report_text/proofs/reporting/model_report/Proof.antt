@@ -59,7 +59,7 @@ text-fault-requires c κs =
     (start list .pre, list .list-whole .ensures)
 
 returns : tie.Need-returns
-returns c = put-refused _ _ _ _ _ _ _ (fault-is (c .before)) (c .if1 .taken)
+returns c = put-refused _ _ _ _ _ _ (fault-is (c .before)) (c .if1 .taken)
 
 model-text-requires : tie.Need-model-text-requires
 model-text-requires c κs =
@@ -88,7 +88,7 @@ returns-2 c =
     let call = written c in
     let judged = kept (call .before) .before in
     let none = sym (fault-is judged) ∙ kept (call .before) .if1 .left in
-    put-done _ _ _ _ _ _ _ none (call .model-text .ensures .0) (call .model-text .ensures .1 .0) (call .model-text .ensures .1 .1)
+    put-done _ _ _ _ _ _ none (call .model-text .ensures .0) (call .model-text .ensures .1 .0) (call .model-text .ensures .1 .1)
 
 pub model-report-spec : {M : Type 1} → statement M
 model-report-spec =
