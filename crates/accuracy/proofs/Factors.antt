@@ -14,8 +14,8 @@ use Rattle.lists.specs.Counting.{sum}
 use Rattle.lists.proofs.SumBelow.{sum-scaled, sum-only}
 use Rattle.lists.proofs.SumOver.{sum-over-none}
 use Rattle.units.specs.One.{one}
-use Rattle.joint_states.specs.JointStates.{jointStates}
-use Rattle.entries.specs.Entries.{blankMark}
+use Rattle.joint_states.specs.JointStates.{joint_states}
+use Rattle.entries.specs.Entries.{blank_mark}
 use Rattle.paths.specs.Words.{fits}
 use Rattle.model.specs.Good.{StateProbabilities}
 use Rattle.probability.specs.Exact.{exact}
@@ -26,7 +26,7 @@ use Rattle.accuracy.proofs.Marks.{Marked, marked-none, marked-later}
 -- the factor of component k: its marked state's probability, and one where it is blank
 abbrev pub factor : List (List ℕ) → List ℕ → ℕ → ℕ
 factor rows entry k =
-    cond (eqb (get_or entry k blankMark) blankMark) one (get_or (get_or rows k []) (get_or entry k blankMark) 0)
+    cond (eqb (get_or entry k blank_mark) blank_mark) one (get_or (get_or rows k []) (get_or entry k blank_mark) 0)
 
 -- the product of the first n factors
 unfoldable pub factors : (ℕ → ℕ) → ℕ → ℕ
@@ -44,22 +44,22 @@ module _ (row : List ℕ) (rows : List (List ℕ)) (c m : ℕ) (cs entry : List 
   rest = exact rows cs (λ (x : List ℕ). fits x entry)
 
   -- the same, where the mark of the first component is met; nothing fits where it is not
-  abbrev whereMet : Bool → ℕ
-  whereMet met = exact rows cs (λ (x : List ℕ). met && fits x entry)
+  abbrev where_met : Bool → ℕ
+  where_met met = exact rows cs (λ (x : List ℕ). met && fits x entry)
 
-  unmet : whereMet false ≡ 0
-  unmet = exact-terms rows cs (λ (x : List ℕ). false && fits x entry) ∙ sum-over-none (jointStates cs)
+  unmet : where_met false ≡ 0
+  unmet = exact-terms rows cs (λ (x : List ℕ). false && fits x entry) ∙ sum-over-none (joint_states cs)
 
   states-met : (blank : Bool) → sum (λ (s : ℕ). get_or row s 0) c ≡ one → (blank ≡ false → m < c)
-      → sum (λ (s : ℕ). get_or row s 0 * whereMet (blank || eqb m s)) c ≡ cond blank one (get_or row m 0) * rest
+      → sum (λ (s : ℕ). get_or row s 0 * where_met (blank || eqb m s)) c ≡ cond blank one (get_or row m 0) * rest
   states-met true whole below = sum-scaled (λ (s : ℕ). get_or row s 0) rest c ∙ ap (λ (n : ℕ). n * rest) whole
   states-met false whole below =
-      sum-only (λ (s : ℕ). get_or row s 0 * whereMet (eqb m s)) c m (below refl) others
-      ∙ ap (λ (met : Bool). get_or row m 0 * whereMet met) (eq-eqb m m refl)
+      sum-only (λ (s : ℕ). get_or row s 0 * where_met (eqb m s)) c m (below refl) others
+      ∙ ap (λ (met : Bool). get_or row m 0 * where_met met) (eq-eqb m m refl)
     where
-      others : (s : ℕ) → (s ≡ m → ⊥) → get_or row s 0 * whereMet (eqb m s) ≡ 0
+      others : (s : ℕ) → (s ≡ m → ⊥) → get_or row s 0 * where_met (eqb m s) ≡ 0
       others s other =
-          ap (λ (met : Bool). get_or row s 0 * whereMet met) (ne_eqb m s (λ same. other (sym same)))
+          ap (λ (met : Bool). get_or row s 0 * where_met met) (ne_eqb m s (λ same. other (sym same)))
           ∙ ap (λ (n : ℕ). get_or row s 0 * n) unmet
           ∙ mul-zero (get_or row s 0)
 
@@ -71,7 +71,7 @@ exact-fitting (c ∷ cs) [] entry known marked = absurd (known-none known)
 exact-fitting (c ∷ cs) (row ∷ rows) [] known marked = absurd (marked-none marked)
 exact-fitting (c ∷ cs) (row ∷ rows) (m ∷ entry) known marked =
     exact-first row rows c cs (λ (x : List ℕ). fits x (m ∷ entry))
-    ∙ states-met row rows c m cs entry (eqb m blankMark) (first-whole known)
-    (λ settled. marked.below 0 (omega arith) (eqb-false m blankMark settled))
+    ∙ states-met row rows c m cs entry (eqb m blank_mark) (first-whole known)
+    (λ settled. marked.below 0 (omega arith) (eqb-false m blank_mark settled))
     ∙ ap (λ (n : ℕ). factor (row ∷ rows) (m ∷ entry) 0 * n) (exact-fitting cs rows entry (later-known known) (marked-later marked))
     ∙ sym (factors-first (factor (row ∷ rows) (m ∷ entry)) (length cs))

@@ -16,15 +16,15 @@ use Rattle.units.specs.Rounding.{down, up, scale}
 use Rattle.units.specs.Within.{Within}
 use Rattle.units.proofs.Rounding.{up-most, down-exact, up-exact}
 use Rattle.units.proofs.Within.{within-one, within_first, within-expanded, within-product}
-use Rattle.entries.specs.Entries.{blankMark}
+use Rattle.entries.specs.Entries.{blank_mark}
 use Rattle.lists.specs.Rows.{joined}
 use Rattle.model.specs.Good.{Counted, StateProbabilities}
-use Rattle.model.specs.Model.{classesOf, pathsOf, probabilityTable}
+use Rattle.model.specs.Model.{classes_of, paths_of, probability_table}
 use Rattle.model.proofs.Classes.{good-block}
 use Rattle.model.proofs.Table.{whole-most, table-place}
-use Rattle.probability.specs.Bounds.{factored, pathBound}
-use Rattle.probability.specs.Probabilities.{probabilityAt}
-use Rattle.accuracy.specs.Accuracy.{settledCount, PathWithin}
+use Rattle.probability.specs.Bounds.{factored, path_bound}
+use Rattle.probability.specs.Probabilities.{probability_at}
+use Rattle.accuracy.specs.Accuracy.{settled_count, PathWithin}
 use Rattle.accuracy.proofs.Factors.{factor, factors, exact-fitting}
 use Rattle.accuracy.proofs.Marks.{Marked, paths-marked}
 
@@ -32,11 +32,11 @@ use Rattle.accuracy.proofs.Marks.{Marked, paths-marked}
 record Bounded (lower upper settled x w : ℕ) : Type 0 where
   within : Within lower upper (settled - 1) x w
   most : upper ≤ one
-  first-lower : settled ≡ 0 → lower ≡ one
-  first-upper : settled ≡ 0 → upper ≡ one
+  first_lower : settled ≡ 0 → lower ≡ one
+  first_upper : settled ≡ 0 → upper ≡ one
 
 bounded-start : Bounded one one 0 1 1
-bounded-start = record { within = within-one; most = omega arith; first-lower = λ none. refl; first-upper = λ none. refl }
+bounded-start = record { within = within-one; most = omega arith; first_lower = λ none. refl; first_upper = λ none. refl }
 
 module _ {lower upper settled x w : ℕ} (bounded : Bounded lower upper settled x w) where
   within-settled : (p : ℕ) → p ≤ one → Within (scale down lower p) (scale up upper p) (settled + 1 - 1) (x * p) (w * one)
@@ -44,8 +44,8 @@ module _ {lower upper settled x w : ℕ} (bounded : Bounded lower upper settled 
     where
       first : settled ≡ 0 → Within (scale down lower p) (scale up upper p) (settled + 1 - 1) (x * p) (w * one)
       first none =
-          let within = rw (bounded.first-lower none, bounded.first-upper none, none) at bounded.within in
-          rw (bounded.first-lower none, bounded.first-upper none, none, down-exact p, up-exact p) (within_first within p)
+          let within = rw (bounded.first_lower none, bounded.first_upper none, none) at bounded.within in
+          rw (bounded.first_lower none, bounded.first_upper none, none, down-exact p, up-exact p) (within_first within p)
 
       further : 0 < settled → Within (scale down lower p) (scale up upper p) (settled + 1 - 1) (x * p) (w * one)
       further some =
@@ -57,8 +57,8 @@ module _ {lower upper settled x w : ℕ} (bounded : Bounded lower upper settled 
       record {
         within = within-settled p h;
         most = up-most upper p bounded.most h;
-        first-lower = λ none. absurd (omega arith);
-        first-upper = λ none. absurd (omega arith);
+        first_lower = λ none. absurd (omega arith);
+        first_upper = λ none. absurd (omega arith);
       }
 
   bounded-blank : Bounded lower upper (settled + 0) (x * one) (w * one)
@@ -67,8 +67,8 @@ module _ {lower upper settled x w : ℕ} (bounded : Bounded lower upper settled 
       (record {
         within = within-expanded bounded.within one;
         most = bounded.most;
-        first-lower = bounded.first-lower;
-        first-upper = bounded.first-upper;
+        first_lower = bounded.first_lower;
+        first_upper = bounded.first_upper;
       })
 
   -- one more component: blank, or settled in a state of probability p, which the table holds
@@ -80,24 +80,24 @@ module _ {lower upper settled x w : ℕ} (bounded : Bounded lower upper settled 
 module _ (counts : List ℕ) (rows : List (List ℕ)) (entry : List ℕ) (few : Counted counts) (known : StateProbabilities counts rows)
     (marked : Marked counts entry) where
   path-bounded : (i : ℕ) → i ≤ length counts
-      → Bounded (pathBound down (joined rows) i entry) (pathBound up (joined rows) i entry) (settledCount i entry)
+      → Bounded (path_bound down (joined rows) i entry) (path_bound up (joined rows) i entry) (settled_count i entry)
       (factors (factor rows entry) i) (one ^ i)
-  unfolding pathBound factored settledCount count_true sum factors
+  unfolding path_bound factored settled_count count_true sum factors
   path-bounded zero h = bounded-start
   path-bounded (suc i) h =
       rw (pow-suc one i)
-      (bounded-more (path-bounded i (omega arith)) (eqb (get_or entry i blankMark) blankMark) (probabilityAt (joined rows) i (get_or entry i blankMark))
-      (get_or (get_or rows i []) (get_or entry i blankMark) 0)
-      (λ settled. table-place known i (get_or entry i blankMark) h (omega (arith, state settled, few.most i h)))
-      (λ settled. whole-most (known.whole i h) (get_or entry i blankMark)))
+      (bounded-more (path-bounded i (omega arith)) (eqb (get_or entry i blank_mark) blank_mark) (probability_at (joined rows) i (get_or entry i blank_mark))
+      (get_or (get_or rows i []) (get_or entry i blank_mark) 0)
+      (λ settled. table-place known i (get_or entry i blank_mark) h (omega (arith, state settled, few.most i h)))
+      (λ settled. whole-most (known.whole i h) (get_or entry i blank_mark)))
     where
-      state : eqb (get_or entry i blankMark) blankMark ≡ false → get_or entry i blankMark < get_or counts i 0
-      state settled = marked.below i h (eqb-false (get_or entry i blankMark) blankMark settled)
+      state : eqb (get_or entry i blank_mark) blank_mark ≡ false → get_or entry i blank_mark < get_or counts i 0
+      state settled = marked.below i h (eqb-false (get_or entry i blank_mark) blank_mark settled)
 
 pub path-within : PathWithin
-unfolding pathsOf probabilityTable
+unfolding paths_of probability_table
 path-within m good i h =
-    let entry = get_or (pathsOf m) i [] in
-    let marked = paths-marked m.counts (classesOf m) (good-block m good) i h in
+    let entry = get_or (paths_of m) i [] in
+    let marked = paths-marked m.counts (classes_of m) (good-block m good) i h in
     rw (exact-fitting m.counts m.probabilities entry good.probabilities marked)
     (path-bounded m.counts m.probabilities entry good.counts good.probabilities marked (length m.counts) (omega arith)).within

@@ -8,9 +8,9 @@ use lib.Dec.{eqb}
 use lib.ListN.{length, get_or, take}
 use borrow.Author.Tests.{eq-eqb, ne_eqb, eqb-true}
 use Rattle.lists.specs.Rows.{put}
-use Rattle.lists.proofs.Fronts.{put-behind, put-taken, getD-put}
+use Rattle.lists.proofs.Fronts.{put-behind, put-taken, get_d-put}
 use Rattle.answers.specs.Answered.{answered, filled}
-use Rattle.answers.specs.Told.{Told, result, refusal, numberTold, tells}
+use Rattle.answers.specs.Told.{Told, result, refusal, number_told, tells}
 
 module _ {A : Type 0} (refused : ℕ → A) (breach : ℕ) (done : A) where
   pub answered-done : breach ≡ 0 → answered refused breach done ≡ done
@@ -41,17 +41,17 @@ module _ (breach : ℕ) (values : List ℕ) where
   tells-refusal = answered-refused refusal breach (result values)
 
   -- the number that it tells is the breach
-  pub tells-number : numberTold (tells breach values) ≡ breach
+  pub tells-number : number_told (tells breach values) ≡ breach
   unfolding tells answered
   tells-number = go (eqb breach 0) refl
     where
-      go : (b : Bool) → eqb breach 0 ≡ b → numberTold (cond b (result values) (refusal breach)) ≡ breach
+      go : (b : Bool) → eqb breach 0 ≡ b → number_told (cond b (result values) (refusal breach)) ≡ breach
       go true none = sym (eqb-true breach 0 none)
       go false some = refl
 
   -- where a result is told there is no breach
   pub no-breach : {told : Told} (others : List ℕ) → told ≡ tells breach values → told ≡ result others → breach ≡ 0
-  no-breach others is done = sym tells-number ∙ ap numberTold (sym is ∙ done)
+  no-breach others is done = sym tells-number ∙ ap number_told (sym is ∙ done)
 
   -- and the values told are its own
   pub values-told : {told : Told} (others : List ℕ) → told ≡ tells breach values → told ≡ result others → values ≡ others
@@ -63,7 +63,7 @@ module _ (breach : ℕ) (values : List ℕ) where
 
   -- and it is the number told
   pub breach-told : {told : Told} (n : ℕ) → told ≡ tells breach values → told ≡ refusal n → breach ≡ n
-  breach-told n is refused = sym tells-number ∙ ap numberTold (sym is ∙ refused)
+  breach-told n is refused = sym tells-number ∙ ap number_told (sym is ∙ refused)
 
 module _ (breach : ℕ) (values slice : List ℕ) where
   pub filled-done : breach ≡ 0 → filled breach values slice ≡ put slice 0 values
@@ -78,7 +78,7 @@ module _ (breach : ℕ) (values slice : List ℕ) where
   filled-taken none = ap (take (length values)) (filled-done none) ∙ put-taken slice values refl
 
   pub filled-front : breach ≡ 0 → (k : ℕ) → k < length values → get_or (filled breach values slice) k 0 ≡ get_or values k 0
-  filled-front none k h = ap (λ (s : List ℕ). get_or s k 0) (filled-done none) ∙ getD-put slice values k 0 h
+  filled-front none k h = ap (λ (s : List ℕ). get_or s k 0) (filled-done none) ∙ get_d-put slice values k 0 h
 
   pub filled-behind : (k : ℕ) → length values ≤ k → get_or (filled breach values slice) k 0 ≡ get_or slice k 0
   unfolding filled answered

@@ -25,9 +25,9 @@ pub data Told : Type 0 where
   refusal : ℕ → Told
 
 -- the number in the refusal table, 0 where the call finished with its result
-abbrev pub numberTold : Told → ℕ
-numberTold (result values) = 0
-numberTold (refusal n) = n
+abbrev pub number_told : Told → ℕ
+number_told (result values) = 0
+number_told (refusal n) = n
 
 -- what a call with this first breach and these values tells
 unfoldable pub tells : ℕ → List ℕ → Told
@@ -36,56 +36,56 @@ tells breach values = answered refusal breach (result values)
 
 -- ---- the values of a result, in the order of the papers
 
-abbrev pub pairValues : Enclosure → List ℕ
-pairValues pair = pair.lower ∷ pair.upper ∷ []
+abbrev pub pair_values : Enclosure → List ℕ
+pair_values pair = pair.lower ∷ pair.upper ∷ []
 
 -- none where CAIDI is not stated
-abbrev pub caidiValues : Caidi → List ℕ
-caidiValues (Stated pair) = pairValues pair
-caidiValues NotStated = []
+abbrev pub caidi_values : Caidi → List ℕ
+caidi_values (Stated pair) = pair_values pair
+caidi_values NotStated = []
 
-abbrev pub figureValues : FigureValues → List ℕ
-figureValues figures = pairValues figures.saifi ++ (pairValues figures.saidi ++ (caidiValues figures.caidi ++ pairValues figures.maifi))
+abbrev pub figure_values : FigureValues → List ℕ
+figure_values figures = pair_values figures.saifi ++ (pair_values figures.saidi ++ (caidi_values figures.caidi ++ pair_values figures.maifi))
 
-abbrev pub chanceValues : ChanceBounds → List ℕ
-chanceValues chances = pairValues chances.survival ++ pairValues chances.failure
+abbrev pub chance_values : ChanceBounds → List ℕ
+chance_values chances = pair_values chances.survival ++ pair_values chances.failure
 
 -- ---- the answers
 
 -- of opening, the edits and the call for class bounds: only that it is done
-abbrev pub outcomeTold : Outcome → Told
-outcomeTold Done = result []
-outcomeTold (Refused n) = refusal n
+abbrev pub outcome_told : Outcome → Told
+outcome_told Done = result []
+outcome_told (Refused n) = refusal n
 
 -- of the call for the list: the number of paths
-abbrev pub listingTold : Listing → Told
-listingTold (Listed count) = result (count.paths ∷ [])
-listingTold (NotListed n) = refusal n
+abbrev pub listing_told : Listing → Told
+listing_told (Listed count) = result (count.paths ∷ [])
+listing_told (NotListed n) = refusal n
 
 -- of the calls for path bounds and for a text: the number of paths, or of bytes
-abbrev pub countTold : CountAnswer → Told
-countTold (Count n) = result (n ∷ [])
-countTold (NoCount n) = refusal n
+abbrev pub count_told : CountAnswer → Told
+count_told (Count n) = result (n ∷ [])
+count_told (NoCount n) = refusal n
 
 -- of the call for a load: the pair itself
-abbrev pub boundsTold : BoundsAnswer → Told
-boundsTold (Bounds pair) = result (pairValues pair)
-boundsTold (NoBounds n) = refusal n
+abbrev pub bounds_told : BoundsAnswer → Told
+bounds_told (Bounds pair) = result (pair_values pair)
+bounds_told (NoBounds n) = refusal n
 
 -- of the call for the figures, what it tells of one or of all: the values that are wanted of them
-abbrev pub figuresToldOf : (FigureValues → List ℕ) → FiguresAnswer → Told
-figuresToldOf wanted (Figures figures) = result (wanted figures)
-figuresToldOf wanted (NoFigures n) = refusal n
+abbrev pub figures_told_of : (FigureValues → List ℕ) → FiguresAnswer → Told
+figures_told_of wanted (Figures figures) = result (wanted figures)
+figures_told_of wanted (NoFigures n) = refusal n
 
 -- a pair for each that is stated
-abbrev pub figuresTold : FiguresAnswer → Told
-figuresTold = figuresToldOf figureValues
+abbrev pub figures_told : FiguresAnswer → Told
+figures_told = figures_told_of figure_values
 
 -- of the call for the chance of surviving, likewise
-abbrev pub survivalToldOf : (ChanceBounds → List ℕ) → SurvivalAnswer → Told
-survivalToldOf wanted (Chances chances) = result (wanted chances)
-survivalToldOf wanted (NoChances n) = refusal n
+abbrev pub survival_told_of : (ChanceBounds → List ℕ) → SurvivalAnswer → Told
+survival_told_of wanted (Chances chances) = result (wanted chances)
+survival_told_of wanted (NoChances n) = refusal n
 
 -- its pair, then that of failure
-abbrev pub survivalTold : SurvivalAnswer → Told
-survivalTold = survivalToldOf chanceValues
+abbrev pub survival_told : SurvivalAnswer → Told
+survival_told = survival_told_of chance_values

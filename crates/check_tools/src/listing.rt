@@ -1,7 +1,7 @@
 // Shows what a call for a list of paths answers, and what the lent bytes then hold: the entries at their front, and how many bytes behind
 // them kept their value.
 ghost use Rattle.std.specs.Prelude.{◌≤◌, ◌≡◌, length};
-ghost use Rattle.entries.specs.Entries.{byteValues, entryBytes, listBytes};
+ghost use Rattle.entries.specs.Entries.{byte_values, entry_bytes, list_bytes};
 ghost use Rattle.io.specs.Counts.{IsPrefixLen};
 
 use crate::hexadecimal::byte_at;
@@ -11,7 +11,7 @@ use entries::{BLANK, LIST_BYTES, class_of, entry_bytes};
 
 // Room for the longest list that there is, with a value in each byte.
 pub fn filled_list(fill: u8) -> [u8; LIST_BYTES]
-    ensures { listBytes ≡ length result }
+    ensures { list_bytes ≡ length result }
 {
     [fill; LIST_BYTES]
 }
@@ -47,7 +47,7 @@ fn show_marks(marks: &[u8]) {
 
 // Shows the entry at the front of a list on a line: its states, then its class.
 fn show_entry(list: &[u8], components: u8)
-    requires { entryBytes components ≤ length list.now }
+    requires { entry_bytes components ≤ length list.now }
 {
     let n = components as usize;
     show_marks(&list[..n]);
@@ -67,9 +67,9 @@ fn show_entries(list: &[u8], components: u8) {
 
 // The sum of the bytes in a column of entries of this width.
 fn column_sum(list: &[u8], width: usize, column: usize) -> u64
-    requires list_len_bound { length list.now ≤ listBytes }
+    requires list_len_bound { length list.now ≤ list_bytes }
     requires le_width { 1 ≤ width }
-    requires width_bound { width ≤ entryBytes byteValues }
+    requires width_bound { width ≤ entry_bytes byte_values }
 {
     let mut sum: u64 = 0;
     let mut at = column;
@@ -82,7 +82,7 @@ fn column_sum(list: &[u8], width: usize, column: usize) -> u64
 
 // Shows the sum of each column of a list on a line.
 fn show_sums(list: &[u8], components: u8)
-    requires { length list.now ≤ listBytes }
+    requires { length list.now ≤ list_bytes }
 {
     let width = entry_bytes(components as usize);
     let mut column: usize = 0;
@@ -94,7 +94,7 @@ fn show_sums(list: &[u8], components: u8)
 
 // Shows the entries of a list, or the sums of its columns; nothing where there is no entry.
 fn show_list(list: &[u8], components: u8, sums: bool)
-    requires { length list.now ≤ listBytes }
+    requires { length list.now ≤ list_bytes }
 {
     if list.len() == 0 {
         return;
@@ -134,7 +134,7 @@ fn list_size(lent: &[u8], paths: u32, components: u8) -> usize
 
 // Shows the refusal, 0 for none, and the number of paths on a line; then the list, and how many of the bytes behind it hold what all bytes held.
 pub fn show_listing(refusal: u8, paths: u32, lent: &[u8], components: u8, fill: u8, sums: bool)
-    requires { length lent.now ≤ listBytes }
+    requires { length lent.now ≤ list_bytes }
 {
     numbers::two(refusal as u64, paths as u64);
     let size = list_size(lent, paths, components);

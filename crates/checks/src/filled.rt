@@ -1,6 +1,6 @@
 // Makes the calls that fill lent space, and shows what each answers and what it wrote.
 ghost use Rattle.std.specs.Prelude.{◌≤◌, length};
-ghost use Rattle.entries.specs.Entries.{listBytes};
+ghost use Rattle.entries.specs.Entries.{list_bytes};
 
 use check_tools::listing::{filled_list, front_size, show_listing};
 use check_tools::places::{front_count, show_filled, untouched_places};
@@ -111,7 +111,7 @@ fn ask_bounds(
 
 // Lists the paths of a study into a buffer whose bytes hold a value, and shows it all.
 fn list_into(drawn: bool, study: Study, tree: &[u8], lent: &mut [u8], fill: u8, sums: bool)
-    requires { length lent.old ≤ listBytes }
+    requires { length lent.old ≤ list_bytes }
 {
     let filled = listed(list_paths(drawn, study, tree, lent));
     show_listing(

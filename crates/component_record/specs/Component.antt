@@ -1,18 +1,18 @@
 -- Reading a component record. Bit 0: the state count. Bits 1, 2, 3: the probability of state 1, 2, 3.
 use Rattle.std.specs.Prelude.{ℕ, cond, eqb}
-use Rattle.rules.specs.Limits.{componentMaps}
-use Rattle.rules.specs.Table.{statesFault, noStateFault, sumFault}
+use Rattle.rules.specs.Limits.{component_maps}
+use Rattle.rules.specs.Table.{states_fault, no_state_fault, sum_fault}
 use Rattle.reading.specs.Reader.{Reader, byte, word, judge, return, ◌>>=◌, ◌>>◌}
-use Rattle.reading.specs.Fields.{fieldsByMap}
+use Rattle.reading.specs.Fields.{fields_by_map}
 use Rattle.study.specs.declared.Component.{Component}
-use Rattle.study.specs.Absent.{absentComponent}
+use Rattle.study.specs.Absent.{absent_component}
 
-abbrev pub withStates : ℕ → Component → Component
-withStates states c = record { states = states; p1 = c.p1; p2 = c.p2; p3 = c.p3 }
+abbrev pub with_states : ℕ → Component → Component
+with_states states c = record { states = states; p1 = c.p1; p2 = c.p2; p3 = c.p3 }
 
 -- p as the probability of a state
-abbrev pub withProbability : ℕ → ℕ → Component → Component
-withProbability state p c =
+abbrev pub with_probability : ℕ → ℕ → Component → Component
+with_probability state p c =
     record {
       states = c.states;
       p1 = cond (eqb state 1) p c.p1;
@@ -20,25 +20,25 @@ withProbability state p c =
       p3 = cond (eqb state 3) p c.p3;
     }
 
-unfoldable pub stateCount : Component → Reader Component
-stateCount c = do
+unfoldable pub state_count : Component → Reader Component
+state_count c = do
   states ← byte
-  judge (statesFault states)
-  return (withStates states c)
+  judge (states_fault states)
+  return (with_states states c)
 
 -- refusal 5 is judged before the field
 unfoldable pub probability : ℕ → Component → Reader Component
 probability state c = do
-  judge (noStateFault c.states state)
+  judge (no_state_fault c.states state)
   p ← word
-  return (withProbability state p c)
+  return (with_probability state p c)
 
-unfoldable pub componentField : ℕ → Component → Reader Component
-componentField k c = cond (eqb k 0) (stateCount c) (probability k c)
+unfoldable pub component_field : ℕ → Component → Reader Component
+component_field k c = cond (eqb k 0) (state_count c) (probability k c)
 
 -- the sum is judged after the last field
 unfoldable pub component : Reader Component
 component = do
-  c ← fieldsByMap componentMaps componentField absentComponent
-  judge (sumFault c.p1 c.p2 c.p3)
+  c ← fields_by_map component_maps component_field absent_component
+  judge (sum_fault c.p1 c.p2 c.p3)
   return c

@@ -1,10 +1,10 @@
 // Reads one component record. Not for callers from outside.
 ghost use Rattle.std.specs.Prelude.{◌≡◌, cond, ◌<◌};
 ghost use Rattle.reading.specs.Reader.{ReadsAt};
-ghost use Rattle.rules.specs.Limits.{componentMaps};
-ghost use Rattle.reading.specs.Fields.{mapBits, field_at, whereLeft, fields};
-ghost use Rattle.study.specs.Absent.{absentComponent};
-ghost use Rattle.component_record.specs.Component.{withProbability, stateCount, probability, componentField, component};
+ghost use Rattle.rules.specs.Limits.{component_maps};
+ghost use Rattle.reading.specs.Fields.{map_bits, field_at, where_left, fields};
+ghost use Rattle.study.specs.Absent.{absent_component};
+ghost use Rattle.component_record.specs.Component.{with_probability, state_count, probability, component_field, component};
 
 use reading::{byte_at, field_count, fields_behind, map_at, map_digit, word_at};
 use rules::{COMPONENT_MAPS, first, no_state_fault, states_fault, sum_fault};
@@ -26,7 +26,7 @@ fn chosen(this: bool, new: u32, old: u32) -> u32
 
 // The component with p as the probability of a state.
 fn with_probability(state: u8, p: u32, c: Component) -> Component
-    ensures { result ≡ withProbability state p c }
+    ensures { result ≡ with_probability state p c }
 {
     Component {
         states: c.states,
@@ -38,7 +38,7 @@ fn with_probability(state: u8, p: u32, c: Component) -> Component
 
 // The field of bit 0.
 fn read_state_count(bytes: &[u8], at: usize, c: Component) -> ComponentRead
-    ensures { ReadsAt bytes.now at (stateCount c) result.refusal result.next result.component }
+    ensures { ReadsAt bytes.now at (state_count c) result.refusal result.next result.component }
 {
     let b = byte_at(bytes, at);
     ComponentRead {
@@ -68,8 +68,8 @@ fn read_probability(bytes: &[u8], at: usize, state: u8, c: Component) -> Compone
 
 // The field of bit k, where the bit stands in the map.
 fn read_field(bytes: &[u8], at: usize, map: u8, k: u8, c: Component) -> ComponentRead
-    requires { k < mapBits }
-    ensures { ReadsAt bytes.now at (field_at componentField map k c) result.refusal result.next result.component }
+    requires { k < map_bits }
+    ensures { ReadsAt bytes.now at (field_at component_field map k c) result.refusal result.next result.component }
 {
     if map_digit(map, k) != 1 {
         return ComponentRead {
@@ -86,7 +86,7 @@ fn read_field(bytes: &[u8], at: usize, map: u8, k: u8, c: Component) -> Componen
 
 // The last field, where one field is left to read.
 fn read_last(bytes: &[u8], at: usize, left: u32, c: Component) -> ComponentRead
-    ensures { ReadsAt bytes.now at (whereLeft left (probability 3) c) result.refusal result.next result.component }
+    ensures { ReadsAt bytes.now at (where_left left (probability 3) c) result.refusal result.next result.component }
 {
     if left != 1 {
         return ComponentRead {
@@ -100,8 +100,8 @@ fn read_last(bytes: &[u8], at: usize, left: u32, c: Component) -> ComponentRead
 
 // The fields whose bit stands in the map, lowest bit first, over their absent values: as many as the map has ones.
 fn read_fields(bytes: &[u8], at: usize, map: u8) -> ComponentRead
-    requires { map < componentMaps }
-    ensures { ReadsAt bytes.now at (fields componentField map absentComponent) result.refusal result.next result.component }
+    requires { map < component_maps }
+    ensures { ReadsAt bytes.now at (fields component_field map absent_component) result.refusal result.next result.component }
 {
     let states = read_field(bytes, at, map, 0, absent_component());
     let one = read_field(bytes, states.next, map, 1, states.component);

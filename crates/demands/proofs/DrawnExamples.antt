@@ -8,26 +8,26 @@ use lib.ListN.{length}
 use Rattle.lists.specs.Rows.{put}
 use Rattle.lists.specs.Run.{each}
 use Rattle.lists.specs.Tabulate.{tabulate}
-use Rattle.units.specs.Rounding.{quotientDown, quotientUp}
+use Rattle.units.specs.Rounding.{quotient_down, quotient_up}
 use Rattle.ordering.specs.Inputs.{paired, placed, sorted}
 use Rattle.rules.specs.Breach.{refuse, outside}
-use Rattle.study.specs.Absent.{absentGate}
-use Rattle.study.specs.Zero.{zeroStudy}
-use Rattle.gate_order.specs.Order.{inOrder, ordered}
-use Rattle.entries.specs.Entries.{classBorne}
-use Rattle.model.specs.Model.{pathsOf, probabilityTable}
+use Rattle.study.specs.Absent.{absent_gate}
+use Rattle.study.specs.Zero.{zero_study}
+use Rattle.gate_order.specs.Order.{in_order, ordered}
+use Rattle.entries.specs.Entries.{class_borne}
+use Rattle.model.specs.Model.{paths_of, probability_table}
 use Rattle.probability.specs.Bounds.{total}
-use Rattle.probability.specs.Totals.{pathBounds}
-use Rattle.reading.specs.Fields.{mapByte}
+use Rattle.probability.specs.Totals.{path_bounds}
+use Rattle.reading.specs.Fields.{map_byte}
 use Rattle.reading.specs.Reader.{byte, word}
-use Rattle.component_record.specs.Component.{stateCount, probability, componentField, component}
-use Rattle.gate_record.specs.Gate.{threshold, inputsByte, test, tests, gateField, gate}
-use Rattle.load_record.specs.Load.{lossGate, size, customers, minutes, loadField, load}
+use Rattle.component_record.specs.Component.{state_count, probability, component_field, component}
+use Rattle.gate_record.specs.Gate.{threshold, inputs_byte, test, tests, gate_field, gate}
+use Rattle.load_record.specs.Load.{loss_gate, size, customers, minutes, load_field, load}
 use Rattle.answers.specs.Answered.{answered}
-use Rattle.opening.specs.Opening.{count, componentAfter, componentRecord, records, study, answer, opened}
-use Rattle.evaluation.specs.Figures.{figuresBy}
+use Rattle.opening.specs.Opening.{count, component_after, component_record, records, study, answer, opened}
+use Rattle.evaluation.specs.Figures.{figures_by}
 use Rattle.rules.proofs.Kept.{front_kept, front-broken}
-use Rattle.drawn_tree.specs.Drawn.{drawnFault}
+use Rattle.drawn_tree.specs.Drawn.{drawn_fault}
 use Rattle.study.specs.declared.Study.{Study}
 use Rattle.answers.specs.declared.counts.Listing.TheVariants.{Refused as NotListed}
 use Rattle.answers.specs.declared.figures.FiguresAnswer.TheVariants.{Refused as NoFigures}
@@ -35,17 +35,17 @@ use Rattle.answers.specs.declared.outcome.Outcome.TheVariants.{Done}
 use Rattle.answers.proofs.Answered.{answered-refused}
 use Rattle.soundness.specs.Sound.{Sound}
 use Rattle.soundness.proofs.Checked.{none-unsound}
-use Rattle.meaning.specs.Meaning.{byTree, meaningFault, modelOf}
-use Rattle.path_calls.specs.Listing.{listFault, pathsListed}
-use Rattle.loss_calls.specs.Figures.{figuresFault, figuresGiven}
-use Rattle.demands.specs.DrawnExamples.{DrawnExample, to, refusedBy, likeCaseA, neverLost, alwaysLost, lostByLeaf}
+use Rattle.meaning.specs.Meaning.{by_tree, meaning_fault, model_of}
+use Rattle.path_calls.specs.Listing.{list_fault, paths_listed}
+use Rattle.loss_calls.specs.Figures.{figures_fault, figures_given}
+use Rattle.demands.specs.DrawnExamples.{DrawnExample, to, refused_by, like_case_a, never_lost, always_lost, lost_by_leaf}
 use Rattle.demands.specs.DrawnExamples.{RefusedBy, DrawnRowHolds, DrawnExamples}
-use Rattle.demands.specs.WorkedExamples.{Results, caseAOpens, noLossGateOpens}
-use Rattle.demands.proofs.Given.{resultsOf, answer-sound, gives}
+use Rattle.demands.specs.WorkedExamples.{Results, case_aOpens, no_loss_gate_opens}
+use Rattle.demands.proofs.Given.{results_of, answer-sound, gives}
 
 -- a tree that is refused beside a sound study
-tree-refused : (t : Study) (tree : List ℕ) (n : ℕ) → Sound t → meaningFault (byTree tree) t ≡ n → (n ≡ 0 → ⊥) → RefusedBy t tree n
-unfolding pathsListed listFault figuresGiven figuresFault
+tree-refused : (t : Study) (tree : List ℕ) (n : ℕ) → Sound t → meaning_fault (by_tree tree) t ≡ n → (n ≡ 0 → ⊥) → RefusedBy t tree n
+unfolding paths_listed list_fault figures_given figures_fault
 tree-refused t tree n sound is some =
     record {
       list = λ buffer. rw (front_kept _ _ (none-unsound t sound), ← front-broken _ (sym is) some) (answered-refused NotListed _ _ some);
@@ -55,39 +55,39 @@ tree-refused t tree n sound is some =
 -- ---- the rows
 
 module _ (e : DrawnExample) (opens : opened e.bytes ≡ e.opening) (done : e.opening.outcome ≡ Done) where
-  is-sound : Sound e.opening.study
-  is-sound = answer-sound e.bytes opens done
+  is_sound : Sound e.opening.study
+  is_sound = answer-sound e.bytes opens done
 
   -- a tree that is refused
-  refused : (n : ℕ) → e.comes ≡ refusedBy n → meaningFault (byTree e.tree) e.opening.study ≡ n → (n ≡ 0 → ⊥) → DrawnRowHolds e
-  refused n comes is some = record { opening = opens; comes = rw comes (tree-refused e.opening.study e.tree n is-sound is some) }
+  refused : (n : ℕ) → e.comes ≡ refused_by n → meaning_fault (by_tree e.tree) e.opening.study ≡ n → (n ≡ 0 → ⊥) → DrawnRowHolds e
+  refused n comes is some = record { opening = opens; comes = rw comes (tree-refused e.opening.study e.tree n is_sound is some) }
 
   -- a tree that is not
-  holds : (r : Results) → e.comes ≡ to r → meaningFault (byTree e.tree) e.opening.study ≡ 0
-      → resultsOf (modelOf (byTree e.tree) e.opening.study) ≡ r
-      → length (modelOf (byTree e.tree) e.opening.study).loads ≡ e.opening.study.loads → DrawnRowHolds e
+  holds : (r : Results) → e.comes ≡ to r → meaning_fault (by_tree e.tree) e.opening.study ≡ 0
+      → results_of (model_of (by_tree e.tree) e.opening.study) ≡ r
+      → length (model_of (by_tree e.tree) e.opening.study).loads ≡ e.opening.study.loads → DrawnRowHolds e
   holds r comes kept computed number =
-      record { opening = opens; comes = rw comes (gives (byTree e.tree) e.opening.study is-sound kept r computed number) }
+      record { opening = opens; comes = rw comes (gives (by_tree e.tree) e.opening.study is_sound kept r computed number) }
 
 pub drawn-examples : DrawnExamples
-unfolding each refuse outside byte word mapByte
-    stateCount probability componentField component
-    threshold inputsByte test tests gateField gate
-    lossGate size customers minutes loadField load
-    count componentAfter componentRecord records study answered answer opened
-    put paired placed sorted inOrder ordered
-    absentGate zeroStudy caseAOpens noLossGateOpens drawnFault likeCaseA neverLost alwaysLost lostByLeaf
-    modelOf pathsOf probabilityTable pathBounds total classBorne tabulate figuresBy quotientDown quotientUp
+unfolding each refuse outside byte word map_byte
+    state_count probability component_field component
+    threshold inputs_byte test tests gate_field gate
+    loss_gate size customers minutes load_field load
+    count component_after component_record records study answered answer opened
+    put paired placed sorted in_order ordered
+    absent_gate zero_study case_aOpens no_loss_gate_opens drawn_fault like_case_a never_lost always_lost lost_by_leaf
+    model_of paths_of probability_table path_bounds total class_borne tabulate figures_by quotient_down quotient_up
 drawn-examples = (
-  holds _ refl refl likeCaseA refl refl refl refl,
+  holds _ refl refl like_case_a refl refl refl refl,
   (
-    holds _ refl refl likeCaseA refl refl refl refl,
+    holds _ refl refl like_case_a refl refl refl refl,
     (
-      holds _ refl refl neverLost refl refl refl refl,
+      holds _ refl refl never_lost refl refl refl refl,
       (
-        holds _ refl refl alwaysLost refl refl refl refl,
+        holds _ refl refl always_lost refl refl refl refl,
         (
-          holds _ refl refl lostByLeaf refl refl refl refl,
+          holds _ refl refl lost_by_leaf refl refl refl refl,
           (
             refused _ refl refl _ refl refl (λ none. omega (arith, none)),
             (

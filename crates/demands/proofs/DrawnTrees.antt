@@ -7,7 +7,7 @@ use Rattle.demands.specs.DrawnTrees.{DrawnReads}
 pub drawn-reads : DrawnReads
 drawn-reads =
     record {
-      first-breach = Rattle.drawn_tree.proofs.FirstBreach.drawn-reads;
+      is_first_breach = Rattle.drawn_tree.proofs.FirstBreach.drawn-reads;
       numbers = Rattle.drawn_tree.proofs.Judged.drawn-rows;
       bytes = Rattle.drawn_tree.proofs.ReadsBack.reads-back;
     }

@@ -10,27 +10,27 @@ use Rattle.model.specs.Good.{Good}
 use Rattle.model.specs.Model.{Model, components}
 use Rattle.accuracy.specs.Accuracy.{whole_of}
 use Rattle.indices.specs.Enclosed.{LossesEnclosed}
-use Rattle.indices.specs.Figures.{customersLost, lossSum}
+use Rattle.indices.specs.Figures.{customers_lost, loss_sum}
 use Rattle.indices.specs.Parts.{short}
-use Rattle.indices.proofs.Enclosed.{saifi-encloses, saidi-encloses, caidi-encloses, maifi-encloses}
+use Rattle.indices.proofs.Enclosed.{saifi_encloses, saidi_encloses, caidi_encloses, maifi_encloses}
 use Rattle.indices.proofs.Parted.{sums-parted}
 use Rattle.rules.proofs.Kept.{both-kept}
 use Rattle.rules.proofs.Rows.{customers-kept}
-use Rattle.answers.specs.Told.{figureValues}
+use Rattle.answers.specs.Told.{figure_values}
 use Rattle.answers.proofs.Told.{figures-told}
-use Rattle.meaning.specs.Meaning.{meaningFault, modelOf}
+use Rattle.meaning.specs.Meaning.{meaning_fault, model_of}
 use Rattle.meaning.proofs.Tables.{meant-good}
-use Rattle.evaluation.specs.Bounds.{loadLowers, loadUppers}
-use Rattle.evaluation.specs.Figures.{modelFigures}
+use Rattle.evaluation.specs.Bounds.{load_lowers, load_uppers}
+use Rattle.evaluation.specs.Figures.{model_figures}
 use Rattle.evaluation.proofs.LossOrder.{lower-at, upper-at}
-use Rattle.loss_calls.specs.Figures.{customersOf, figuresFault}
-use Rattle.demands.specs.Calls.{figures as forFigures}
+use Rattle.loss_calls.specs.Figures.{customers_of, figures_fault}
+use Rattle.demands.specs.Calls.{figures as for_figures}
 use Rattle.demands.specs.Demand2.{FiguresAnswered}
-use Rattle.demands.specs.Within.{exactLost, FiguresEnclose, ShortByMinutes, LossesParted, ModelFiguresEnclose}
+use Rattle.demands.specs.Within.{exact_lost, FiguresEnclose, ShortByMinutes, LossesParted, ModelFiguresEnclose}
 use Rattle.demands.proofs.Bounds.{losses-within}
 use Rattle.demands.proofs.Finished.{finished}
 
-losses-enclosed : (m : Model) → Good m → LossesEnclosed (loadLowers m) (loadUppers m) (exactLost m) (whole_of m) (length m.loads)
+losses-enclosed : (m : Model) → Good m → LossesEnclosed (load_lowers m) (load_uppers m) (exact_lost m) (whole_of m) (length m.loads)
 losses-enclosed m good =
     record {
       whole = one-le-pow (components m) one (omega arith);
@@ -41,25 +41,25 @@ losses-enclosed m good =
 pub model-figures-enclose : ModelFiguresEnclose
 model-figures-enclose m good customers =
     record {
-      saifi-encloses = saifi-encloses _ m.loads (losses-enclosed m good) customers;
-      saidi-encloses = saidi-encloses _ m.loads (losses-enclosed m good) customers;
-      caidi-encloses = caidi-encloses _ m.loads (losses-enclosed m good);
-      maifi-encloses = maifi-encloses _ m.loads (losses-enclosed m good) customers;
+      saifi_encloses = saifi_encloses _ m.loads (losses-enclosed m good) customers;
+      saidi_encloses = saidi_encloses _ m.loads (losses-enclosed m good) customers;
+      caidi_encloses = caidi_encloses _ m.loads (losses-enclosed m good);
+      maifi_encloses = maifi_encloses _ m.loads (losses-enclosed m good) customers;
     }
 
 pub short-by-minutes : ShortByMinutes
 unfolding short
-short-by-minutes = record { short-load = λ l h. le-leb l.minutes 5 h; other-load = λ l h. lt-leb l.minutes 5 h; none-stated = refl }
+short-by-minutes = record { short_load = λ l h. le-leb l.minutes 5 h; other_load = λ l h. lt-leb l.minutes 5 h; none_stated = refl }
 
 pub losses-parted : LossesParted
-unfolding lossSum
-losses-parted p loads = sums-parted (customersLost p) loads
+unfolding loss_sum
+losses-parted p loads = sums-parted (customers_lost p) loads
 
 pub figures-answered : FiguresAnswered
-unfolding figuresFault modelOf
+unfolding figures_fault model_of
 figures-answered meaning t values told =
-    let done = finished (forFigures meaning) t (figureValues values) told in
-    let m = modelOf meaning t in
-    let same = figures-told (modelFigures m) values done.are in
-    let customers = customers-kept (customersOf t) (both-kept (meaningFault meaning t) _ done.none-behind).right in
-    subst (FiguresEnclose m) same (model-figures-enclose m (meant-good meaning t done.is-sound) customers)
+    let done = finished (for_figures meaning) t (figure_values values) told in
+    let m = model_of meaning t in
+    let same = figures-told (model_figures m) values done.are in
+    let customers = customers-kept (customers_of t) (both-kept (meaning_fault meaning t) _ done.none_behind).right in
+    subst (FiguresEnclose m) same (model-figures-enclose m (meant-good meaning t done.is_sound) customers)

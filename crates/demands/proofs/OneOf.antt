@@ -7,7 +7,7 @@ use mathlib.Core.Logic.{inl, inr}
 use lib.Dec.{eqb}
 use borrow.Author.Tests.{eq-eqb}
 use Rattle.lists.specs.OneOf.{OneOf}
-use Rattle.rules.specs.Breach.{refuse, first, firstBreach, unlessAbsent}
+use Rattle.rules.specs.Breach.{refuse, first, first_breach, unless_absent}
 
 -- none, or one of these numbers
 abbrev pub NoneOr : List ℕ → ℕ → Type 0
@@ -18,8 +18,8 @@ unfolding refuse
 of-refuse numbers n true here = inr here
 of-refuse numbers n false here = inl refl
 
-pub of-unless : (numbers : List ℕ) (absent value breach : ℕ) → NoneOr numbers breach → NoneOr numbers (unlessAbsent absent value breach)
-unfolding unlessAbsent
+pub of-unless : (numbers : List ℕ) (absent value breach : ℕ) → NoneOr numbers breach → NoneOr numbers (unless_absent absent value breach)
+unfolding unless_absent
 of-unless numbers absent value breach here = go (eqb value absent)
   where
     go : (b : Bool) → NoneOr numbers (cond b 0 breach)
@@ -34,13 +34,13 @@ of-first numbers a b one other = go (eqb a 0)
     go true = other
     go false = one
 
-pub of_none : (numbers : List ℕ) → NoneOr numbers (firstBreach [])
-unfolding firstBreach
+pub of_none : (numbers : List ℕ) → NoneOr numbers (first_breach [])
+unfolding first_breach
 of_none numbers = inl refl
 
-pub of-more : (numbers : List ℕ) (b : ℕ) (bs : List ℕ) → NoneOr numbers b → NoneOr numbers (firstBreach bs) → NoneOr numbers (firstBreach (b ∷ bs))
-unfolding firstBreach
-of-more numbers b bs = of-first numbers b (firstBreach bs)
+pub of-more : (numbers : List ℕ) (b : ℕ) (bs : List ℕ) → NoneOr numbers b → NoneOr numbers (first_breach bs) → NoneOr numbers (first_breach (b ∷ bs))
+unfolding first_breach
+of-more numbers b bs = of-first numbers b (first_breach bs)
 
 -- whether a number is in a list, as a test that computes
 abbrev pub among : List ℕ → ℕ → Bool

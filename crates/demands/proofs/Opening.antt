@@ -1,5 +1,5 @@
 -- What opening keeps, by what it refuses and how much of its bytes it reads: the laws stand beside opening.
-use Rattle.opening.proofs.FirstBreach.{first-breach as breach-law}
+use Rattle.opening.proofs.FirstBreach.{is_first_breach as breach-law}
 use Rattle.opening.proofs.Longest.{longest-opens}
 use Rattle.opening.proofs.Opened.Study.{opened-sound as sound-law}
 use Rattle.opening.proofs.Taken.Study.{opening-rows, longest-study as longest-law}
@@ -8,8 +8,8 @@ use Rattle.demands.specs.Demand1.{OpenedSound, FirstBreach, OpeningNumbers, Long
 pub opened-sound : OpenedSound
 opened-sound = sound-law
 
-pub first-breach : FirstBreach
-first-breach = breach-law
+pub is_first_breach : FirstBreach
+is_first_breach = breach-law
 
 pub opening-numbers : OpeningNumbers
 opening-numbers = opening-rows

@@ -4,28 +4,28 @@ use Prim.Native.Nat.{ℕ}
 use mathlib.Core.Path.{◌≡◌, refl, ap, ◌∙◌}
 use mathlib.Core.List.{List, [], ◌∷◌}
 use lib.ListN.{length, get_or, take}
-use Rattle.rules.specs.Breach.{firstBreach}
+use Rattle.rules.specs.Breach.{first_breach}
 use Rattle.study.specs.declared.Study.{Study}
 use Rattle.answers.specs.Answered.{filled}
-use Rattle.answers.specs.Told.{Told, refusal, tells, outcomeTold, listingTold, countTold, boundsTold, figuresTold}
+use Rattle.answers.specs.Told.{Told, refusal, tells, outcome_told, listing_told, count_told, bounds_told, figures_told}
 use Rattle.answers.specs.declared.bounds.BoundsAnswer.TheVariants.{Refused as NoBounds}
 use Rattle.answers.specs.declared.counts.CountAnswer.TheVariants.{Refused as NoCount}
 use Rattle.answers.specs.declared.counts.Listing.TheVariants.{Refused as NotListed}
 use Rattle.answers.specs.declared.figures.FiguresAnswer.TheVariants.{Refused as NoFigures}
 use Rattle.answers.specs.declared.outcome.Outcome.TheVariants.{Refused}
 use Rattle.answers.proofs.Answered.{answered-tells, no-breach, some-breach, filled-refused, filled-taken, filled-behind}
-use Rattle.writing.specs.Saving.{writeFault, studyWritten, bufferWritten}
-use Rattle.path_calls.specs.Bounds.{pairBreach, pathsBounded, classesBounded}
-use Rattle.path_calls.specs.Listing.{listFault, pathsListed, bufferListed}
-use Rattle.loss_calls.specs.Bounds.{lossFault, loadBounded}
-use Rattle.loss_calls.specs.Figures.{figuresFault, figuresGiven}
-use Rattle.lent_text.specs.Lent.{textFault, written}
+use Rattle.writing.specs.Saving.{write_fault, study_written, buffer_written}
+use Rattle.path_calls.specs.Bounds.{pair_breach, paths_bounded, classes_bounded}
+use Rattle.path_calls.specs.Listing.{list_fault, paths_listed, buffer_listed}
+use Rattle.loss_calls.specs.Bounds.{loss_fault, load_bounded}
+use Rattle.loss_calls.specs.Figures.{figures_fault, figures_given}
+use Rattle.lent_text.specs.Lent.{text_fault, written}
 use Rattle.lent_text.proofs.Handed.{reported-tells}
-use Rattle.words.specs.Words.{refusalWord}
-use Rattle.report_text.specs.Lent.{reportFault}
+use Rattle.words.specs.Words.{refusal_word}
+use Rattle.report_text.specs.Lent.{report_fault}
 use Rattle.report_text.proofs.Reported.{report-tells}
-use Rattle.demands.specs.Calls.{Call, anEdit, listPaths, pathBounds, classBounds, loadBounds, figures, writeStudy}
-use Rattle.demands.specs.Calls.{callTold, callBreaches, callValues, studyAfter, Lent, callLent}
+use Rattle.demands.specs.Calls.{Call, an_edit, list_paths, path_bounds, class_bounds, load_bounds, figures, write_study}
+use Rattle.demands.specs.Calls.{call_told, call_breaches, call_values, study_after, Lent, call_lent}
 use Rattle.demands.specs.Demand1.{OfEach, Kept, FrontFilled, KeptBehind, Refuses, CallsRefuse, TextRefuses, ReportRefuses, TextsRefuse}
 use Rattle.demands.proofs.Edited.{edit-tells, edit-kept}
 
@@ -43,8 +43,8 @@ of-each P Q on (l ∷ ls) h = (on l h.0, of-each P Q on ls h.1)
 front_of : {breach : ℕ} (l : Lent) → FilledBy breach l → breach ≡ 0 → FrontFilled l
 front_of {breach} l fill none = ap (take (length l.result)) fill ∙ filled-taken breach l.result l.before none
 
-pub refuses : {told : Told} (breaches values : List ℕ) (lent : List Lent) → told ≡ tells (firstBreach breaches) values
-    → OfEach (FilledBy (firstBreach breaches)) lent → Refuses told breaches values lent
+pub refuses : {told : Told} (breaches values : List ℕ) (lent : List Lent) → told ≡ tells (first_breach breaches) values
+    → OfEach (FilledBy (first_breach breaches)) lent → Refuses told breaches values lent
 refuses breaches values lent is fills =
     record {
       answer = is;
@@ -55,37 +55,37 @@ refuses breaches values lent is fills =
 
 -- ---- each call
 
-call-refuses : (c : Call) (t : Study) → Refuses (callTold c t) (callBreaches c t) (callValues c t) (callLent c t)
-unfolding listFault pathsListed bufferListed pairBreach pathsBounded classesBounded lossFault loadBounded figuresFault figuresGiven
-    writeFault studyWritten bufferWritten
-call-refuses (anEdit e) t = refuses _ _ [] (edit-tells e t) tt
-call-refuses (listPaths m buffer) t = refuses _ _ _ (answered-tells NotListed _ _ listingTold _ (λ n. refl) refl) (refl, tt)
-call-refuses (pathBounds m lower upper) t = refuses _ _ _ (answered-tells NoCount _ _ countTold _ (λ n. refl) refl) (refl, (refl, tt))
-call-refuses (classBounds m lower upper) t = refuses _ _ _ (answered-tells Refused _ _ outcomeTold _ (λ n. refl) refl) (refl, (refl, tt))
-call-refuses (loadBounds m j) t = refuses _ _ [] (answered-tells NoBounds _ _ boundsTold _ (λ n. refl) refl) tt
-call-refuses (figures m) t = refuses _ _ [] (answered-tells NoFigures _ _ figuresTold _ (λ n. refl) refl) tt
-call-refuses (writeStudy buffer) t = refuses _ _ _ (answered-tells NoCount _ _ countTold _ (λ n. refl) refl) (refl, tt)
+call-refuses : (c : Call) (t : Study) → Refuses (call_told c t) (call_breaches c t) (call_values c t) (call_lent c t)
+unfolding list_fault paths_listed buffer_listed pair_breach paths_bounded classes_bounded loss_fault load_bounded figures_fault figures_given
+    write_fault study_written buffer_written
+call-refuses (an_edit e) t = refuses _ _ [] (edit-tells e t) tt
+call-refuses (list_paths m buffer) t = refuses _ _ _ (answered-tells NotListed _ _ listing_told _ (λ n. refl) refl) (refl, tt)
+call-refuses (path_bounds m lower upper) t = refuses _ _ _ (answered-tells NoCount _ _ count_told _ (λ n. refl) refl) (refl, (refl, tt))
+call-refuses (class_bounds m lower upper) t = refuses _ _ _ (answered-tells Refused _ _ outcome_told _ (λ n. refl) refl) (refl, (refl, tt))
+call-refuses (load_bounds m j) t = refuses _ _ [] (answered-tells NoBounds _ _ bounds_told _ (λ n. refl) refl) tt
+call-refuses (figures m) t = refuses _ _ [] (answered-tells NoFigures _ _ figures_told _ (λ n. refl) refl) tt
+call-refuses (write_study buffer) t = refuses _ _ _ (answered-tells NoCount _ _ count_told _ (λ n. refl) refl) (refl, tt)
 
-study-kept : (c : Call) (t : Study) (n : ℕ) → callTold c t ≡ refusal n → studyAfter c t ≡ t
-study-kept (anEdit e) t n refused = edit-kept e t (some-breach _ [] n (edit-tells e t) refused)
-study-kept (listPaths m buffer) t n refused = refl
-study-kept (pathBounds m lower upper) t n refused = refl
-study-kept (classBounds m lower upper) t n refused = refl
-study-kept (loadBounds m j) t n refused = refl
-study-kept (figures m) t n refused = refl
-study-kept (writeStudy buffer) t n refused = refl
+study_kept : (c : Call) (t : Study) (n : ℕ) → call_told c t ≡ refusal n → study_after c t ≡ t
+study_kept (an_edit e) t n refused = edit-kept e t (some-breach _ [] n (edit-tells e t) refused)
+study_kept (list_paths m buffer) t n refused = refl
+study_kept (path_bounds m lower upper) t n refused = refl
+study_kept (class_bounds m lower upper) t n refused = refl
+study_kept (load_bounds m j) t n refused = refl
+study_kept (figures m) t n refused = refl
+study_kept (write_study buffer) t n refused = refl
 
 pub calls-refuse : CallsRefuse
-calls-refuse = record { refuses = call-refuses; study-kept = study-kept }
+calls-refuse = record { refuses = call-refuses; study_kept = study_kept }
 
 -- any text in a lent buffer
 text-refuses : (text buffer : List ℕ) → TextRefuses text buffer
-unfolding textFault written
+unfolding text_fault written
 text-refuses text buffer = refuses _ _ _ (reported-tells text buffer) (refl, tt)
 
 report-refuses : (bytes text lower upper : List ℕ) → ReportRefuses bytes text lower upper
-unfolding reportFault
+unfolding report_fault
 report-refuses bytes text lower upper = refuses _ _ _ (report-tells bytes text lower upper) (refl, (refl, (refl, tt)))
 
 pub texts-refuse : TextsRefuse
-texts-refuse = record { report = report-refuses; word = λ number. text-refuses (refusalWord number) }
+texts-refuse = record { report = report-refuses; word = λ number. text-refuses (refusal_word number) }

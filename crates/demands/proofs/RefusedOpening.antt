@@ -6,33 +6,33 @@ use native.Mathlib.Omega.{arith}
 use lib.Dec.{eqb}
 use lib.ListN.{length}
 use Rattle.rules.specs.Breach.{refuse, outside}
-use Rattle.rules.specs.Table.{leftFault}
+use Rattle.rules.specs.Table.{left_fault}
 use Rattle.study.specs.declared.Study.{Study}
-use Rattle.study.specs.Zero.{zeroStudy}
+use Rattle.study.specs.Zero.{zero_study}
 use Rattle.gate_order.specs.Order.{ordered}
 use Rattle.answers.specs.Answered.{answered}
 use Rattle.answers.specs.declared.outcome.Outcome.TheVariants.{Done, Refused}
 use Rattle.answers.proofs.Told.{refused-told}
 use Rattle.reading.specs.Reader.{Read, refused, got}
 use Rattle.soundness.specs.Sound.{Sound}
-use Rattle.opening.specs.Opening.{study, refusedOpening, answer, opened}
+use Rattle.opening.specs.Opening.{study, refused_opening, answer, opened}
 use Rattle.demands.specs.Demand1.{RefusedOpening}
 
 -- an answer by a breach has a refusal only where it is the refused one
-either-zeros : (b : Bool) (t : Study) (breach n : ℕ) → (cond b (record { outcome = Done; study = t }) (refusedOpening breach)).outcome ≡ Refused n
-    → (cond b (record { outcome = Done; study = t }) (refusedOpening breach)).study ≡ zeroStudy
-unfolding refusedOpening
+either-zeros : (b : Bool) (t : Study) (breach n : ℕ) → (cond b (record { outcome = Done; study = t }) (refused_opening breach)).outcome ≡ Refused n
+    → (cond b (record { outcome = Done; study = t }) (refused_opening breach)).study ≡ zero_study
+unfolding refused_opening
 either-zeros true t breach n is = let both : ◌≡◌ {A = ℕ} 0 1 = cc in absurd (omega arith)
 either-zeros false t breach n is = refl
 
-refused-zeros : (r : Read Study) (n : ℕ) → (answer r).outcome ≡ Refused n → (answer r).study ≡ zeroStudy
-unfolding answer answered refusedOpening
+refused-zeros : (r : Read Study) (n : ℕ) → (answer r).outcome ≡ Refused n → (answer r).study ≡ zero_study
+unfolding answer answered refused_opening
 refused-zeros (refused m) n is = refl
-refused-zeros (got t rest) n is = either-zeros (eqb (leftFault (length rest)) 0) (ordered t) (leftFault (length rest)) n is
+refused-zeros (got t rest) n is = either-zeros (eqb (left_fault (length rest)) 0) (ordered t) (left_fault (length rest)) n is
 
 -- no components is fewer than one
-no-components : Sound zeroStudy → ⊥
-unfolding refuse outside zeroStudy
+no-components : Sound zero_study → ⊥
+unfolding refuse outside zero_study
 no-components s = omega (arith, s.components)
 
 pub refused-opening : RefusedOpening

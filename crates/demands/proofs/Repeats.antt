@@ -15,62 +15,62 @@ use Rattle.ordering.proofs.Sorted.{alike-long}
 use Rattle.study.specs.declared.Gate.{Gate}
 use Rattle.study.specs.declared.Study.{Study}
 use Rattle.study.specs.Joint.{states}
-use Rattle.study.specs.Places.{noGate}
-use Rattle.gate_order.specs.Inputs.{testsOf, gateInputsOf, inputCount}
-use Rattle.fault_tree.specs.Truth.{testTrue, trueOnce, trueTests, trueGates, gateTrue, withTruth, gateTruths}
-use Rattle.fault_tree.specs.Classes.{classBy, class_of}
-use Rattle.study_model.specs.Model.{stateProbabilities}
-use Rattle.meaning.specs.Meaning.{byGates, modelOf}
+use Rattle.study.specs.Places.{no_gate}
+use Rattle.gate_order.specs.Inputs.{tests_of, gate_inputs_of, input_count}
+use Rattle.fault_tree.specs.Truth.{test_true, true_once, true_tests, true_gates, gate_true, with_truth, gate_truths}
+use Rattle.fault_tree.specs.Classes.{class_by, class_of}
+use Rattle.study_model.specs.Model.{state_probabilities}
+use Rattle.meaning.specs.Meaning.{by_gates, model_of}
 use Rattle.demands.specs.Repeats.{SameVote, SameButRepeats, RepeatsCountOnce}
 
 -- ---- a gate
 
-true-once : (isTrue : Input → Bool) (row other : List Input) → SameSet row other → trueOnce isTrue row ≡ trueOnce isTrue other
-unfolding trueOnce
-true-once isTrue row other set = distinct-by-set (λ (a : Input). truth (isTrue a)) row other set
+true-once : (is_true : Input → Bool) (row other : List Input) → SameSet row other → true_once is_true row ≡ true_once is_true other
+unfolding true_once
+true-once is_true row other set = distinct-by-set (λ (a : Input). truth (is_true a)) row other set
 
-true-together : (g h : Gate) → SameVote g h → (x : List ℕ) (holds : ℕ → Bool) → gateTrue g x holds ≡ gateTrue h x holds
-unfolding gateTrue trueTests trueGates
+true-together : (g h : Gate) → SameVote g h → (x : List ℕ) (holds : ℕ → Bool) → gate_true g x holds ≡ gate_true h x holds
+unfolding gate_true true_tests true_gates
 true-together g h same x holds =
     ap₂ leb same.threshold
     (ap₂ (λ (m n : ℕ). m + n)
-    (true-once (testTrue x) (testsOf g) (testsOf h) same.tests)
-    (true-once (λ (a : Input). holds a.number) (gateInputsOf g) (gateInputsOf h) same.gate-inputs))
+    (true-once (test_true x) (tests_of g) (tests_of h) same.tests)
+    (true-once (λ (a : Input). holds a.number) (gate_inputs_of g) (gate_inputs_of h) same.gate_inputs))
 
-one-count : (g h : Gate) → SameVote g h → inputCount g ≡ inputCount h
-unfolding inputCount
+one-count : (g h : Gate) → SameVote g h → input_count g ≡ input_count h
+unfolding input_count
 one-count g h same =
     ap₂ (λ (m n : ℕ). m + n)
-    (alike-long _ _ (distinct-by-set-alone (testsOf g) (testsOf h) same.tests))
-    (alike-long _ _ (distinct-by-set-alone (gateInputsOf g) (gateInputsOf h) same.gate-inputs))
+    (alike-long _ _ (distinct-by-set-alone (tests_of g) (tests_of h) same.tests))
+    (alike-long _ _ (distinct-by-set-alone (gate_inputs_of g) (gate_inputs_of h) same.gate_inputs))
 
 -- ---- a study
 
 -- gates that are true together, each whatever the gates below it hold, have the same truths
 truths-same : (gates others : List Gate) (x : List ℕ) (n : ℕ)
-    → ((i : ℕ) → i < n → (holds : ℕ → Bool) → gateTrue (get_or gates i noGate) x holds ≡ gateTrue (get_or others i noGate) x holds)
-    → gateTruths gates x n ≡ gateTruths others x n
-unfolding gateTruths withTruth
+    → ((i : ℕ) → i < n → (holds : ℕ → Bool) → gate_true (get_or gates i no_gate) x holds ≡ gate_true (get_or others i no_gate) x holds)
+    → gate_truths gates x n ≡ gate_truths others x n
+unfolding gate_truths with_truth
 truths-same gates others x zero together = refl
 truths-same gates others x (suc n) together =
     let before = truths-same gates others x n (λ i below. together i (omega arith)) in
-    ap (λ (truths : List Bool). set truths n (gateTrue (get_or gates n noGate) x (λ (k : ℕ). get_or truths k false))) before
-    ∙ ap (λ (b : Bool). set (gateTruths others x n) n b) (together n (omega arith) (λ (k : ℕ). get_or (gateTruths others x n) k false))
+    ap (λ (truths : List Bool). set truths n (gate_true (get_or gates n no_gate) x (λ (k : ℕ). get_or truths k false))) before
+    ∙ ap (λ (b : Bool). set (gate_truths others x n) n b) (together n (omega arith) (λ (k : ℕ). get_or (gate_truths others x n) k false))
 
 module _ (t u : Study) (same : SameButRepeats t u) where
-  one_truth : (x : List ℕ) → gateTruths t.gate x t.gates ≡ gateTruths u.gate x u.gates
+  one_truth : (x : List ℕ) → gate_truths t.gate x t.gates ≡ gate_truths u.gate x u.gates
   one_truth x =
-      truths-same t.gate u.gate x t.gates (λ i used. true-together _ _ (same.gate i used) x) ∙ ap (gateTruths u.gate x) same.gates
+      truths-same t.gate u.gate x t.gates (λ i used. true-together _ _ (same.gate i used) x) ∙ ap (gate_truths u.gate x) same.gates
 
   -- the class goes by the truths
-  one-model : modelOf byGates t ≡ modelOf byGates u
-  unfolding modelOf class_of
+  one-model : model_of by_gates t ≡ model_of by_gates u
+  unfolding model_of class_of
   one-model =
       λ i.
       record {
         counts = take (same.components i) (states (same.component i));
-        probabilities = map stateProbabilities (take (same.components i) (same.component i));
-        class = λ x. classBy (one_truth x i) (same.load i) (same.loads i);
+        probabilities = map state_probabilities (take (same.components i) (same.component i));
+        class = λ x. class_by (one_truth x i) (same.load i) (same.loads i);
         loads = take (same.loads i) (same.load i);
       }
 

@@ -8,23 +8,23 @@ use native.Mathlib.Omega.{arith}
 use lib.Dec.{eqb}
 use lib.ListN.{length, take, length-map, length-append}
 use lib.Seq.{ext_get_or, take_at}
-use Rattle.lists.specs.Counting.{sumOver}
+use Rattle.lists.specs.Counting.{sum_over}
 use Rattle.lists.specs.Rows.{put}
 use Rattle.lists.proofs.Joined.{joined-sum}
 use Rattle.lists.proofs.SumBelow.{sum_alike}
 use Rattle.rules.specs.Breach.{refuse}
-use Rattle.rules.specs.Limits.{mostGates}
+use Rattle.rules.specs.Limits.{most_gates}
 use Rattle.text.proofs.Short.{joined_length}
 use Rattle.study.specs.declared.Gate.{Gate}
 use Rattle.study.specs.declared.Study.{Study}
-use Rattle.study.specs.Absent.{absentGate}
-use Rattle.study.specs.Places.{Shaped, noGate, gateAt}
-use Rattle.study_bytes.specs.Written.{field, recordBytes, testBytes, inputBytes, testsBytes, inputsBytes, gateFields, gateBytes}
-use Rattle.study_bytes.specs.Written.{componentsBytes, gatesBytes, loadsBytes, studyBytes}
-use Rattle.gate_order.specs.Order.{inOrder, ordered}
+use Rattle.study.specs.Absent.{absent_gate}
+use Rattle.study.specs.Places.{Shaped, no_gate, gate_at}
+use Rattle.study_bytes.specs.Written.{field, record_bytes, test_bytes, input_bytes, tests_bytes, inputs_bytes, gate_fields, gate_bytes}
+use Rattle.study_bytes.specs.Written.{components_bytes, gates_bytes, loads_bytes, study_bytes}
+use Rattle.gate_order.specs.Order.{in_order, ordered}
 use Rattle.gate_order.proofs.InOrder.{in-order-still}
 use Rattle.answers.specs.Answered.{answered}
-use Rattle.answers.specs.Told.{result, outcomeTold}
+use Rattle.answers.specs.Told.{result, outcome_told}
 use Rattle.answers.specs.declared.outcome.Outcome.TheVariants.{Done}
 use Rattle.answers.specs.declared.outcome.StudyAnswer.{StudyAnswer}
 use Rattle.answers.proofs.Answered.{filled-done}
@@ -33,15 +33,15 @@ use Rattle.reading.specs.Reader.{Read, refused, got}
 use Rattle.soundness.specs.Sound.{Sound}
 use Rattle.soundness.proofs.Ranges.{gates-most}
 use Rattle.opening.specs.Laws.{IsOpened}
-use Rattle.opening.specs.Opening.{study, given, asGiven, answer, opened}
+use Rattle.opening.specs.Opening.{study, given, as_given, answer, opened}
 use Rattle.opening.proofs.Answers.{is-refused, left, not-both}
 use Rattle.opening.proofs.Opened.Order.{Given, ordered-gate}
 use Rattle.opening.proofs.Opened.Study.{opened-sound, opened-given, opened-ordered}
 use Rattle.round_trip.proofs.Back.Study.{study-back}
 use Rattle.round_trip.proofs.Costs.Study.{study-costs}
-use Rattle.writing.specs.Saving.{writeFault, bufferWritten}
+use Rattle.writing.specs.Saving.{write_fault, buffer_written}
 use Rattle.writing.proofs.Longest.{study-size}
-use Rattle.demands.specs.Calls.{writeStudy, callTold}
+use Rattle.demands.specs.Calls.{write_study, call_told}
 use Rattle.demands.specs.Edits.{Reached, opened as is-opened}
 use Rattle.demands.specs.Saving.{AllInOrder, Saves, WrittenOpens, ReachedIffOpens, Shortest, AllPlaces}
 use Rattle.demands.proofs.Finished.{finished}
@@ -51,57 +51,57 @@ use Rattle.demands.proofs.Sorted.{sound-given, sound-fits, sound-in-order, opene
 -- ---- a sound study is in order already
 
 module _ (t : Study) (shaped : Shaped t) (s : Sound t) where
-  gate-still : (i : ℕ) → i < mostGates → inOrder (gateAt t i) ≡ gateAt t i
-  gate-still i inside = in-order-still (gateAt t i) (sound-fits t s shaped i inside) (sound-in-order t s shaped i inside).0
+  gate-still : (i : ℕ) → i < most_gates → in_order (gate_at t i) ≡ gate_at t i
+  gate-still i inside = in-order-still (gate_at t i) (sound-fits t s shaped i inside) (sound-in-order t s shaped i inside).0
 
   still : ordered t ≡ t
   unfolding ordered
   still =
       let gate =
-      ext_get_or noGate (ordered t).gate t.gate (length-map t.gate inOrder)
+      ext_get_or no_gate (ordered t).gate t.gate (length-map t.gate in_order)
       (λ i h.
-      let inside : i < mostGates = omega (arith, h, length-map t.gate inOrder, shaped.gates) in
+      let inside : i < most_gates = omega (arith, h, length-map t.gate in_order, shaped.gates) in
       ordered-gate t (sound-given t s shaped) i inside ∙ gate-still i inside) in
       λ i.
       record { components = t.components; gates = t.gates; loads = t.loads; component = t.component; gate = gate i; load = t.load }
 
   -- so its bytes, which are read back whole, save it
-  read_back : study (studyBytes t) ≡ got t []
-  read_back = ap study (sym (append-nil (studyBytes t))) ∙ study-back t shaped s []
+  read_back : study (study_bytes t) ≡ got t []
+  read_back = ap study (sym (append-nil (study_bytes t))) ∙ study-back t shaped s []
 
-  bytes-open : opened (studyBytes t) ≡ record { outcome = Done; study = t }
+  bytes-open : opened (study_bytes t) ≡ record { outcome = Done; study = t }
   unfolding opened answer answered refuse
   bytes-open = ap answer read_back ∙ ap (λ (u : Study). record { outcome = Done; study = u }) still
 
-  bytes-give : asGiven (studyBytes t) ≡ t
-  unfolding asGiven given
+  bytes-give : as_given (study_bytes t) ≡ t
+  unfolding as_given given
   bytes-give = ap given read_back
 
-  bytes-save : Saves (studyBytes t) t
+  bytes-save : Saves (study_bytes t) t
   bytes-save =
       record {
         opens =
             record {
-              told = ap (λ (a : StudyAnswer). outcomeTold a.outcome) bytes-open;
+              told = ap (λ (a : StudyAnswer). outcome_told a.outcome) bytes-open;
               study = ap (λ (a : StudyAnswer). a.study) bytes-open;
             };
-        as-given = bytes-give;
+        is_as_given = bytes-give;
         in_order = subst AllInOrder (sym bytes-give) (sound-in-order t s shaped);
       }
 
 -- what a call that was not refused left in the buffer
-written-front : (t : Study) (buffer : List ℕ) (n : ℕ) → callTold (writeStudy buffer) t ≡ result (n ∷ []) → take n (bufferWritten t buffer) ≡ studyBytes t
-unfolding bufferWritten writeFault put
+written-front : (t : Study) (buffer : List ℕ) (n : ℕ) → call_told (write_study buffer) t ≡ result (n ∷ []) → take n (buffer_written t buffer) ≡ study_bytes t
+unfolding buffer_written write_fault put
 written-front t buffer n told =
-    let done = finished (writeStudy buffer) t (n ∷ []) told in
-    let long : length (studyBytes t) ≡ n = cc done.are in
-    ap (take n) (filled-done _ (studyBytes t) buffer done.none) ∙ take_at (studyBytes t) _ n long
+    let done = finished (write_study buffer) t (n ∷ []) told in
+    let long : length (study_bytes t) ≡ n = cc done.are in
+    ap (take n) (filled-done _ (study_bytes t) buffer done.none) ∙ take_at (study_bytes t) _ n long
 
 -- saves it too
-written-save : (t : Study) → Shaped t → (buffer : List ℕ) (n : ℕ) → callTold (writeStudy buffer) t ≡ result (n ∷ []) → Saves (take n (bufferWritten t buffer)) t
+written-save : (t : Study) → Shaped t → (buffer : List ℕ) (n : ℕ) → call_told (write_study buffer) t ≡ result (n ∷ []) → Saves (take n (buffer_written t buffer)) t
 written-save t shaped buffer n told =
     subst (λ (bytes : List ℕ). Saves bytes t) (sym (written-front t buffer n told))
-    (bytes-save t shaped (finished (writeStudy buffer) t (n ∷ []) told).is-sound)
+    (bytes-save t shaped (finished (write_study buffer) t (n ∷ []) told).is_sound)
 
 pub written-opens : WrittenOpens
 written-opens =
@@ -116,7 +116,7 @@ all-places = record { reached = reached-shaped; saves = bytes-save; written = wr
 pub reached-iff-opens : ReachedIffOpens
 reached-iff-opens =
     record {
-      opens = λ t reached. record { bytes = studyBytes t; opens = (written-opens.due t reached).opens };
+      opens = λ t reached. record { bytes = study_bytes t; opens = (written-opens.due t reached).opens };
       reached = λ t o. subst Reached o.opens.study (is-opened o.bytes o.opens.told);
     }
 
@@ -131,39 +131,39 @@ field_alike absent value x y e = go (eqb value absent)
     go false = e
 
 -- of the record of a gate, whose tests take two bytes each and whose gate inputs take one
-gate-long : (g : Gate) → length (gateBytes (inOrder g)) ≡ length (gateBytes g)
-unfolding recordBytes inOrder sumOver
+gate-long : (g : Gate) → length (gate_bytes (in_order g)) ≡ length (gate_bytes g)
+unfolding record_bytes in_order sum_over
 gate-long g =
-    let h = inOrder g in
-    let tests : length (testsBytes h) ≡ length (testsBytes g) = ap suc (joined-sum (testBytes h) g.tests ∙ sym (joined-sum (testBytes g) g.tests)) in
-    let inputs : length (inputsBytes h) ≡ length (inputsBytes g) = ap suc (joined-sum (inputBytes h) g.gates ∙ sym (joined-sum (inputBytes g) g.gates)) in
+    let h = in_order g in
+    let tests : length (tests_bytes h) ≡ length (tests_bytes g) = ap suc (joined-sum (test_bytes h) g.tests ∙ sym (joined-sum (test_bytes g) g.tests)) in
+    let inputs : length (inputs_bytes h) ≡ length (inputs_bytes g) = ap suc (joined-sum (input_bytes h) g.gates ∙ sym (joined-sum (input_bytes g) g.gates)) in
     omega (
       arith,
-      joined_length (gateFields h),
-      joined_length (gateFields g),
-      field_alike absentGate.tests g.tests (testsBytes h) (testsBytes g) tests,
-      field_alike absentGate.gates g.gates (inputsBytes h) (inputsBytes g) inputs,
+      joined_length (gate_fields h),
+      joined_length (gate_fields g),
+      field_alike absent_gate.tests g.tests (tests_bytes h) (tests_bytes g) tests,
+      field_alike absent_gate.gates g.gates (inputs_bytes h) (inputs_bytes g) inputs,
     )
 
-module _ (t : Study) (given : Given t) (few : t.gates ≤ mostGates) where
-  gates-long : length (gatesBytes (ordered t)) ≡ length (gatesBytes t)
+module _ (t : Study) (given : Given t) (few : t.gates ≤ most_gates) where
+  gates-long : length (gates_bytes (ordered t)) ≡ length (gates_bytes t)
   unfolding ordered
   gates-long =
-      joined-sum (λ (i : ℕ). gateBytes (gateAt (ordered t) i)) t.gates
+      joined-sum (λ (i : ℕ). gate_bytes (gate_at (ordered t) i)) t.gates
       ∙ sum_alike _ _ t.gates
-      (λ i used. ap (λ (g : Gate). length (gateBytes g)) (ordered-gate t given i (omega arith)) ∙ gate-long (gateAt t i))
-      ∙ sym (joined-sum (λ (i : ℕ). gateBytes (gateAt t i)) t.gates)
+      (λ i used. ap (λ (g : Gate). length (gate_bytes g)) (ordered-gate t given i (omega arith)) ∙ gate-long (gate_at t i))
+      ∙ sym (joined-sum (λ (i : ℕ). gate_bytes (gate_at t i)) t.gates)
 
-  ordered-long : length (studyBytes (ordered t)) ≡ length (studyBytes t)
-  unfolding studyBytes ordered
+  ordered-long : length (study_bytes (ordered t)) ≡ length (study_bytes t)
+  unfolding study_bytes ordered
   ordered-long =
       omega (
         arith,
         gates-long,
-        length-append (componentsBytes t) (gatesBytes (ordered t) ++ loadsBytes t),
-        length-append (gatesBytes (ordered t)) (loadsBytes t),
-        length-append (componentsBytes t) (gatesBytes t ++ loadsBytes t),
-        length-append (gatesBytes t) (loadsBytes t),
+        length-append (components_bytes t) (gates_bytes (ordered t) ++ loads_bytes t),
+        length-append (gates_bytes (ordered t)) (loads_bytes t),
+        length-append (components_bytes t) (gates_bytes t ++ loads_bytes t),
+        length-append (gates_bytes t) (loads_bytes t),
       )
 
 -- bytes that open are read whole
@@ -173,18 +173,18 @@ read_whole (refused n) done = absurd (not-both n (cc (is-refused n)))
 read_whole (got t []) done = refl
 read_whole (got t (b ∷ rest)) done = absurd (not-both 15 (cc (left t b rest)))
 
-fewest : (bytes : List ℕ) → IsOpened bytes → length (studyBytes (opened bytes).study) ≤ length bytes
-unfolding opened asGiven
+fewest : (bytes : List ℕ) → IsOpened bytes → length (study_bytes (opened bytes).study) ≤ length bytes
+unfolding opened as_given
 fewest bytes done =
-    let t = asGiven bytes in
-    let few : t.gates ≤ mostGates = omega (arith, (opened-same bytes done).gates, gates-most (opened bytes).study (opened-sound bytes done)) in
+    let t = as_given bytes in
+    let few : t.gates ≤ most_gates = omega (arith, (opened-same bytes done).gates, gates-most (opened bytes).study (opened-sound bytes done)) in
     let costs = study-costs bytes t [] (read_whole (study bytes) (done-told _ done)) in
-    let long = ap (λ (u : Study). length (studyBytes u)) (opened-ordered bytes done) ∙ ordered-long t (opened-given bytes done) few in
+    let long = ap (λ (u : Study). length (study_bytes u)) (opened-ordered bytes done) ∙ ordered-long t (opened-given bytes done) few in
     omega (arith, costs, long)
 
 pub shortest : Shortest
 shortest =
     record {
-      fewest = λ bytes t opens. subst (λ (u : Study). length (studyBytes u) ≤ length bytes) opens.study (fewest bytes opens.told);
+      fewest = λ bytes t opens. subst (λ (u : Study). length (study_bytes u) ≤ length bytes) opens.study (fewest bytes opens.told);
       longest = study-size;
     }

@@ -6,28 +6,28 @@ use lib.ListN.{length}
 use Rattle.lists.specs.Rows.{put}
 use Rattle.lists.specs.Run.{each}
 use Rattle.lists.specs.Tabulate.{tabulate}
-use Rattle.units.specs.Rounding.{quotientDown, quotientUp}
+use Rattle.units.specs.Rounding.{quotient_down, quotient_up}
 use Rattle.ordering.specs.Inputs.{paired, placed, sorted}
 use Rattle.rules.specs.Breach.{refuse, outside}
-use Rattle.study.specs.Absent.{absentGate}
-use Rattle.study.specs.Zero.{zeroStudy}
-use Rattle.gate_order.specs.Order.{inOrder, ordered}
-use Rattle.entries.specs.Entries.{classBorne}
-use Rattle.model.specs.Model.{pathsOf, probabilityTable}
+use Rattle.study.specs.Absent.{absent_gate}
+use Rattle.study.specs.Zero.{zero_study}
+use Rattle.gate_order.specs.Order.{in_order, ordered}
+use Rattle.entries.specs.Entries.{class_borne}
+use Rattle.model.specs.Model.{paths_of, probability_table}
 use Rattle.probability.specs.Bounds.{total}
-use Rattle.probability.specs.Totals.{pathBounds}
-use Rattle.reading.specs.Fields.{mapByte}
+use Rattle.probability.specs.Totals.{path_bounds}
+use Rattle.reading.specs.Fields.{map_byte}
 use Rattle.reading.specs.Reader.{byte, word}
-use Rattle.component_record.specs.Component.{stateCount, probability, componentField, component}
-use Rattle.gate_record.specs.Gate.{threshold, inputsByte, test, tests, gateField, gate}
-use Rattle.load_record.specs.Load.{lossGate, size, customers, minutes, loadField, load}
+use Rattle.component_record.specs.Component.{state_count, probability, component_field, component}
+use Rattle.gate_record.specs.Gate.{threshold, inputs_byte, test, tests, gate_field, gate}
+use Rattle.load_record.specs.Load.{loss_gate, size, customers, minutes, load_field, load}
 use Rattle.answers.specs.Answered.{answered}
 use Rattle.answers.specs.declared.outcome.Outcome.TheVariants.{Done}
-use Rattle.opening.specs.Opening.{count, componentAfter, componentRecord, records, study, answer, opened}
-use Rattle.meaning.specs.Meaning.{byGates, modelOf}
-use Rattle.evaluation.specs.Figures.{figuresBy}
-use Rattle.demands.specs.WorkedExamples.{Results, Example, votes, opens, listing, caseAOpens, noLossGateOpens, RowHolds, WorkedExamples}
-use Rattle.demands.proofs.Given.{resultsOf, answer-sound, gives}
+use Rattle.opening.specs.Opening.{count, component_after, component_record, records, study, answer, opened}
+use Rattle.meaning.specs.Meaning.{by_gates, model_of}
+use Rattle.evaluation.specs.Figures.{figures_by}
+use Rattle.demands.specs.WorkedExamples.{Results, Example, votes, opens, listing, case_aOpens, no_loss_gate_opens, RowHolds, WorkedExamples}
+use Rattle.demands.proofs.Given.{results_of, answer-sound, gives}
 
 -- ---- the rows
 
@@ -37,19 +37,19 @@ refused e opens no-results = record { opening = opens; results = rw no-results t
 
 -- an example whose study opens; that it is sound is a law of opening
 holds : (e : Example) (r : Results) → e.results ≡ some r → opened e.bytes ≡ e.opening → e.opening.outcome ≡ Done
-    → resultsOf (modelOf byGates e.opening.study) ≡ r → length (modelOf byGates e.opening.study).loads ≡ e.opening.study.loads → RowHolds e
+    → results_of (model_of by_gates e.opening.study) ≡ r → length (model_of by_gates e.opening.study).loads ≡ e.opening.study.loads → RowHolds e
 holds e r has opens done computed number =
-    record { opening = opens; results = rw has (gives byGates e.opening.study (answer-sound e.bytes opens done) refl r computed number) }
+    record { opening = opens; results = rw has (gives by_gates e.opening.study (answer-sound e.bytes opens done) refl r computed number) }
 
 pub worked-examples : WorkedExamples
-unfolding each refuse outside byte word mapByte
-    stateCount probability componentField component
-    threshold inputsByte test tests gateField gate
-    lossGate size customers minutes loadField load
-    count componentAfter componentRecord records study answered answer opened
-    put paired placed sorted inOrder ordered
-    absentGate zeroStudy votes opens caseAOpens noLossGateOpens listing
-    modelOf pathsOf probabilityTable pathBounds total classBorne tabulate figuresBy quotientDown quotientUp
+unfolding each refuse outside byte word map_byte
+    state_count probability component_field component
+    threshold inputs_byte test tests gate_field gate
+    loss_gate size customers minutes load_field load
+    count component_after component_record records study answered answer opened
+    put paired placed sorted in_order ordered
+    absent_gate zero_study votes opens case_aOpens no_loss_gate_opens listing
+    model_of paths_of probability_table path_bounds total class_borne tabulate figures_by quotient_down quotient_up
 worked-examples = (
   -- A to F
   holds _ _ refl refl refl refl refl,

@@ -2,11 +2,11 @@
 use Rattle.std.specs.Prelude.{ℕ, ◌≡◌, List, [], ◌∷◌}
 use Rattle.lists.specs.Rows.{joined}
 use Rattle.text.specs.Letters.{letters}
-use Rattle.report_text.specs.Report.{reportText}
+use Rattle.report_text.specs.Report.{report_text}
 
 -- two components that fail at 0.1 and 0.2; the load is lost when either fails
-abbrev pub caseA : List ℕ
-caseA =
+abbrev pub case_a : List ℕ
+case_a =
     2 ∷ 1 ∷ 1
     ∷ 2 ∷ 0x00 ∷ 0xE1 ∷ 0xF5 ∷ 0x05
     ∷ 2 ∷ 0x00 ∷ 0xC2 ∷ 0xEB ∷ 0x0B
@@ -14,8 +14,8 @@ caseA =
     ∷ 7 ∷ 0 ∷ 100 ∷ 0 ∷ 0 ∷ 0 ∷ 60 ∷ 0 ∷ 0 ∷ 0
     ∷ []
 
-abbrev pub caseAText : List ℕ
-caseAText =
+abbrev pub case_aText : List ℕ
+case_aText =
     joined
     (letters "PATHS 3\n"
     ∷ letters "P 00 0 720000000 720000000\n"
@@ -31,11 +31,11 @@ caseAText =
     ∷ [])
 
 abbrev pub CaseA : Type 0
-CaseA = reportText caseA ≡ caseAText
+CaseA = report_text case_a ≡ case_aText
 
 -- A refused study has one line: here state 1 of the first component is a unit over one.
-abbrev pub overOne : List ℕ
-overOne = 1 ∷ 1 ∷ 1 ∷ 2 ∷ 0x01 ∷ 0xCA ∷ 0x9A ∷ 0x3B ∷ []
+abbrev pub over_one : List ℕ
+over_one = 1 ∷ 1 ∷ 1 ∷ 2 ∷ 0x01 ∷ 0xCA ∷ 0x9A ∷ 0x3B ∷ []
 
 abbrev pub OverOne : Type 0
-OverOne = reportText overOne ≡ letters "REFUSED 6 over one\n"
+OverOne = report_text over_one ≡ letters "REFUSED 6 over one\n"

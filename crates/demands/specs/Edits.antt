@@ -1,18 +1,18 @@
 -- The edits: what each would leave, a row of them, and the plain table of fields that a row is held against.
 use Rattle.std.specs.Prelude.{ℕ, ◌<◌, cond, List, [], ◌∷◌, map, eqb}
-use Rattle.rules.specs.Breach.{firstBreach}
-use Rattle.rules.specs.Limits.{mostCustomers, mostMinutes}
-use Rattle.rules.specs.Table.{itemFault, sizeFault}
+use Rattle.rules.specs.Breach.{first_breach}
+use Rattle.rules.specs.Limits.{most_customers, most_minutes}
+use Rattle.rules.specs.Table.{item_fault, size_fault}
 use Rattle.study.specs.declared.Component.{Component}
 use Rattle.study.specs.declared.Load.{Load}
 use Rattle.study.specs.declared.Study.{Study}
 use Rattle.answers.specs.declared.outcome.StudyAnswer.{StudyAnswer}
-use Rattle.study.specs.Edits.{withProbabilities, withCustomers, withMinutes, withComponent, withLoad}
-use Rattle.study.specs.Places.{componentAt, loadAt}
-use Rattle.soundness.specs.Check.{probabilitiesFault}
+use Rattle.study.specs.Edits.{with_probabilities, with_customers, with_minutes, with_component, with_load}
+use Rattle.study.specs.Places.{component_at, load_at}
+use Rattle.soundness.specs.Check.{probabilities_fault}
 use Rattle.opening.specs.Laws.{IsOpened}
 use Rattle.opening.specs.Opening
-use Rattle.editing.specs.Edits.{componentEditBreaches, probabilitiesSet, loadEditBreaches, customersSet, minutesSet}
+use Rattle.editing.specs.Edits.{component_edit_breaches, probabilities_set, load_edit_breaches, customers_set, minutes_set}
 
 -- an edit names an item and gives its new numbers
 pub data Edit : Type 0 where
@@ -22,21 +22,21 @@ pub data Edit : Type 0 where
 
 -- what the call answers
 abbrev pub edit : Edit → Study → StudyAnswer
-edit (probabilities i p1 p2 p3) t = probabilitiesSet t i p1 p2 p3
-edit (customers j n) t = customersSet t j n
-edit (minutes j n) t = minutesSet t j n
+edit (probabilities i p1 p2 p3) t = probabilities_set t i p1 p2 p3
+edit (customers j n) t = customers_set t j n
+edit (minutes j n) t = minutes_set t j n
 
 -- the list of its breaches, in order
-abbrev pub editBreaches : Edit → Study → List ℕ
-editBreaches (probabilities i p1 p2 p3) t = componentEditBreaches t i p1 p2 p3
-editBreaches (customers j n) t = loadEditBreaches t j mostCustomers n
-editBreaches (minutes j n) t = loadEditBreaches t j mostMinutes n
+abbrev pub edit_breaches : Edit → Study → List ℕ
+edit_breaches (probabilities i p1 p2 p3) t = component_edit_breaches t i p1 p2 p3
+edit_breaches (customers j n) t = load_edit_breaches t j most_customers n
+edit_breaches (minutes j n) t = load_edit_breaches t j most_minutes n
 
 -- the study with the edit's field anew, whether that keeps the rules or not
 abbrev pub changed : Edit → Study → Study
-changed (probabilities i p1 p2 p3) t = withComponent i (withProbabilities p1 p2 p3 (componentAt t i)) t
-changed (customers j n) t = withLoad j (withCustomers n (loadAt t j)) t
-changed (minutes j n) t = withLoad j (withMinutes n (loadAt t j)) t
+changed (probabilities i p1 p2 p3) t = with_component i (with_probabilities p1 p2 p3 (component_at t i)) t
+changed (customers j n) t = with_load j (with_customers n (load_at t j)) t
+changed (minutes j n) t = with_load j (with_minutes n (load_at t j)) t
 
 -- the study has the item that the edit names
 abbrev pub HasItem : Edit → Study → Type 0
@@ -72,24 +72,24 @@ pub record Table : Type 0 where
   pub minutes : ℕ → ℕ
 
 abbrev pub items_of : Study → Items
-items_of t = record { components = t.components; loads = t.loads; states = λ i. (componentAt t i).states }
+items_of t = record { components = t.components; loads = t.loads; states = λ i. (component_at t i).states }
 
 abbrev pub table_of : Study → Table
 table_of t =
     record {
       items = items_of t;
-      p1 = λ i. (componentAt t i).p1;
-      p2 = λ i. (componentAt t i).p2;
-      p3 = λ i. (componentAt t i).p3;
-      customers = λ j. (loadAt t j).customers;
-      minutes = λ j. (loadAt t j).minutes;
+      p1 = λ i. (component_at t i).p1;
+      p2 = λ i. (component_at t i).p2;
+      p3 = λ i. (component_at t i).p3;
+      customers = λ j. (load_at t j).customers;
+      minutes = λ j. (load_at t j).minutes;
     }
 
 -- by what an edit is refused, from the table alone: 17, then the rules of its field
-abbrev pub tableBreach : Edit → Table → ℕ
-tableBreach (probabilities i p1 p2 p3) f = firstBreach (itemFault f.items.components i ∷ probabilitiesFault (f.items.states i) p1 p2 p3 ∷ [])
-tableBreach (customers j n) f = firstBreach (itemFault f.items.loads j ∷ sizeFault mostCustomers n ∷ [])
-tableBreach (minutes j n) f = firstBreach (itemFault f.items.loads j ∷ sizeFault mostMinutes n ∷ [])
+abbrev pub table_breach : Edit → Table → ℕ
+table_breach (probabilities i p1 p2 p3) f = first_breach (item_fault f.items.components i ∷ probabilities_fault (f.items.states i) p1 p2 p3 ∷ [])
+table_breach (customers j n) f = first_breach (item_fault f.items.loads j ∷ size_fault most_customers n ∷ [])
+table_breach (minutes j n) f = first_breach (item_fault f.items.loads j ∷ size_fault most_minutes n ∷ [])
 
 -- a column with n at one item
 abbrev pub written : ℕ → ℕ → (ℕ → ℕ) → ℕ → ℕ
@@ -112,9 +112,9 @@ write (minutes j n) f =
     record { items = f.items; p1 = f.p1; p2 = f.p2; p3 = f.p3; customers = f.customers; minutes = written j n f.minutes }
 
 -- the table after a row of edits; a refused edit writes nothing
-abbrev pub tableAfter : List Edit → Table → Table
-tableAfter [] f = f
-tableAfter (e ∷ es) f = tableAfter es (cond (eqb (tableBreach e f) 0) (write e f) f)
+abbrev pub table_after : List Edit → Table → Table
+table_after [] f = f
+table_after (e ∷ es) f = table_after es (cond (eqb (table_breach e f) 0) (write e f) f)
 
 -- all of a study but the fields that can be edited
 pub record Others : Type 0 where
@@ -125,13 +125,13 @@ pub record Others : Type 0 where
   pub gate : List Rattle.study.specs.declared.Gate.Gate
   pub load : List Load
 
-abbrev pub othersOf : Study → Others
-othersOf t =
+abbrev pub others_of : Study → Others
+others_of t =
     record {
       components = t.components;
       gates = t.gates;
       loads = t.loads;
-      component = map (withProbabilities 0 0 0) t.component;
+      component = map (with_probabilities 0 0 0) t.component;
       gate = t.gate;
-      load = map (λ (l : Load). withCustomers 0 (withMinutes 0 l)) t.load;
+      load = map (λ (l : Load). with_customers 0 (with_minutes 0 l)) t.load;
     }

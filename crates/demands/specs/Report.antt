@@ -4,27 +4,27 @@ use Rattle.std.specs.Prelude.{ℕ, ◌+◌, ◌≡◌, List, [], ◌∷◌, leng
 use Rattle.lists.specs.Rows.{joined}
 use Rattle.lists.specs.Tabulate.{tabulate}
 use Rattle.text.specs.Letters.{letters}
-use Rattle.text.specs.Lines.{numberLine, itemLine}
-use Rattle.rules.specs.Limits.{longestStudy}
+use Rattle.text.specs.Lines.{number_line, item_line}
+use Rattle.rules.specs.Limits.{longest_study}
 use Rattle.study.specs.declared.Study.{Study}
-use Rattle.study.specs.Joint.{stateCounts}
+use Rattle.study.specs.Joint.{state_counts}
 use Rattle.answers.specs.Told.{Told, result, refusal}
-use Rattle.entries.specs.Entries.{classBorne}
+use Rattle.entries.specs.Entries.{class_borne}
 use Rattle.soundness.specs.Sound.{Sound}
 use Rattle.opening.specs.Laws.{IsOpened}
 use Rattle.opening.specs.Opening.{opened}
-use Rattle.model.specs.Model.{pathsOf}
-use Rattle.meaning.specs.Meaning.{byGates, modelOf}
-use Rattle.evaluation.specs.Bounds.{pathLowers, pathUppers, classLowers, classUppers}
-use Rattle.report_lines.specs.Paths.{entryLine}
-use Rattle.report_lines.specs.Classes.{classesBorne, classLines}
-use Rattle.report_lines.specs.Figures.{figureLines}
+use Rattle.model.specs.Model.{paths_of}
+use Rattle.meaning.specs.Meaning.{by_gates, model_of}
+use Rattle.evaluation.specs.Bounds.{path_lowers, path_uppers, class_lowers, class_uppers}
+use Rattle.report_lines.specs.Paths.{entry_line}
+use Rattle.report_lines.specs.Classes.{classes_borne, class_lines}
+use Rattle.report_lines.specs.Figures.{figure_lines}
 use Rattle.report_text.specs.Laws
-use Rattle.report_text.specs.Report.{reportText}
-use Rattle.path_calls.specs.Bounds.{lowerOfPaths, upperOfPaths, lowerOfClasses, upperOfClasses}
-use Rattle.loss_calls.specs.Figures.{figuresGiven}
-use Rattle.demands.specs.Calls.{pathBounds, classBounds, loadBounds, callTold}
-use Rattle.demands.specs.Listed.{ListedBy, pathsIn, pathIn}
+use Rattle.report_text.specs.Report.{report_text}
+use Rattle.path_calls.specs.Bounds.{lower_of_paths, upper_of_paths, lower_of_classes, upper_of_classes}
+use Rattle.loss_calls.specs.Figures.{figures_given}
+use Rattle.demands.specs.Calls.{path_bounds, class_bounds, load_bounds, call_told}
+use Rattle.demands.specs.Listed.{ListedBy, paths_in, path_in}
 
 -- ---- what the calls on a study told
 
@@ -34,51 +34,51 @@ pub record Slices : Type 0 where
   pub buffer : List ℕ
   pub lower : List ℕ
   pub upper : List ℕ
-  pub classLower : List ℕ
-  pub classUpper : List ℕ
+  pub class_lower : List ℕ
+  pub class_upper : List ℕ
 
 -- none of them was refused, and there are p paths
 pub record Asked (t : Study) (p : ℕ) (lent : Slices) : Type 0 where
-  pub listed : ListedBy byGates t lent.buffer p
-  pub bounded : callTold (pathBounds byGates lent.lower lent.upper) t ≡ result (p ∷ [])
-  pub classed : callTold (classBounds byGates lent.classLower lent.classUpper) t ≡ result []
+  pub listed : ListedBy by_gates t lent.buffer p
+  pub bounded : call_told (path_bounds by_gates lent.lower lent.upper) t ≡ result (p ∷ [])
+  pub classed : call_told (class_bounds by_gates lent.class_lower lent.class_upper) t ≡ result []
 
 -- ---- the lines that say it
 
 module _ (t : Study) (p : ℕ) (lent : Slices) where
   -- path i of the list
-  abbrev pub listedPath : ℕ → List ℕ
-  listedPath i = pathIn byGates t lent.buffer p i
+  abbrev pub listed_path : ℕ → List ℕ
+  listed_path i = path_in by_gates t lent.buffer p i
 
   -- P: entry i of the buffer with its class, and the numbers at places i of the two slices
-  abbrev pub pathSaid : ℕ → List ℕ
-  pathSaid i =
-      entryLine (length (stateCounts t)) (listedPath i) (classBorne (length (stateCounts t)) (listedPath i))
-      (get_or (lowerOfPaths byGates t lent.lower lent.upper) i 0)
-      (get_or (upperOfPaths byGates t lent.lower lent.upper) i 0)
+  abbrev pub path_said : ℕ → List ℕ
+  path_said i =
+      entry_line (length (state_counts t)) (listed_path i) (class_borne (length (state_counts t)) (listed_path i))
+      (get_or (lower_of_paths by_gates t lent.lower lent.upper) i 0)
+      (get_or (upper_of_paths by_gates t lent.lower lent.upper) i 0)
 
   -- K: each class that an entry of the buffer bears, ascending, with the numbers at its places of the two slices
-  abbrev pub classesSaid : List ℕ
-  classesSaid =
-      classLines (classesBorne (length (stateCounts t)) (pathsIn byGates t lent.buffer p))
-      (lowerOfClasses byGates t lent.classLower lent.classUpper)
-      (upperOfClasses byGates t lent.classLower lent.classUpper)
+  abbrev pub classes_said : List ℕ
+  classes_said =
+      class_lines (classes_borne (length (state_counts t)) (paths_in by_gates t lent.buffer p))
+      (lower_of_classes by_gates t lent.class_lower lent.class_upper)
+      (upper_of_classes by_gates t lent.class_lower lent.class_upper)
 
 -- L: a load with the pair that the call for it told
-unfoldable pub loadSaid : ℕ → Told → List ℕ
-loadSaid j (result values) = itemLine (letters "L") j (get_or values 0 0) (get_or values 1 0)
-loadSaid j (refusal n) = []
+unfoldable pub load_said : ℕ → Told → List ℕ
+load_said j (result values) = item_line (letters "L") j (get_or values 0 0) (get_or values 1 0)
+load_said j (refusal n) = []
 
 -- the whole text: the number of paths, a line for each path, for each class that occurs and for each load, and the
 -- lines of the figures that are answered
-abbrev pub textSaid : Study → ℕ → Slices → List ℕ
-textSaid t p lent =
+abbrev pub text_said : Study → ℕ → Slices → List ℕ
+text_said t p lent =
     joined
-    (numberLine (letters "PATHS") p
-    ∷ joined (tabulate (pathSaid t p lent) p)
-    ∷ classesSaid t p lent
-    ∷ joined (tabulate (λ (j : ℕ). loadSaid j (callTold (loadBounds byGates j) t)) t.loads)
-    ∷ figureLines (figuresGiven byGates t)
+    (number_line (letters "PATHS") p
+    ∷ joined (tabulate (path_said t p lent) p)
+    ∷ classes_said t p lent
+    ∷ joined (tabulate (λ (j : ℕ). load_said j (call_told (load_bounds by_gates j) t)) t.loads)
+    ∷ figure_lines (figures_given by_gates t)
     ∷ [])
 
 -- ---- the claims
@@ -86,16 +86,16 @@ textSaid t p lent =
 pub record ReportSays : Type 0 where
   -- The report of bytes that open is made of what the calls on the opened study told and left, number by number.
   pub says : (bytes : List ℕ) (p : ℕ) (lent : Slices) → IsOpened bytes → Asked (opened bytes).study p lent
-      → reportText bytes ≡ textSaid (opened bytes).study p lent
+      → report_text bytes ≡ text_said (opened bytes).study p lent
   -- Every sound study can be asked so, with slices that are just long enough.
   pub askable : (t : Study) → Sound t
-      → Asked t (length (pathsOf (modelOf byGates t)))
+      → Asked t (length (paths_of (model_of by_gates t)))
       (record {
-        buffer = joined (pathsOf (modelOf byGates t));
-        lower = pathLowers (modelOf byGates t);
-        upper = pathUppers (modelOf byGates t);
-        classLower = classLowers (modelOf byGates t);
-        classUpper = classUppers (modelOf byGates t);
+        buffer = joined (paths_of (model_of by_gates t));
+        lower = path_lowers (model_of by_gates t);
+        upper = path_uppers (model_of by_gates t);
+        class_lower = class_lowers (model_of by_gates t);
+        class_upper = class_uppers (model_of by_gates t);
       })
 
 -- No report is longer than the buffer of the program, which is therefore never refused by 18.
@@ -104,4 +104,4 @@ ReportFits = Rattle.report_text.specs.Laws.ReportFits
 
 -- The report of an input is that of its first 2,024 bytes, and a program need read no more.
 abbrev pub InputCut : Type 0
-InputCut = (bytes : List ℕ) → reportText (take (longestStudy + 1) bytes) ≡ reportText bytes
+InputCut = (bytes : List ℕ) → report_text (take (longest_study + 1) bytes) ≡ report_text bytes

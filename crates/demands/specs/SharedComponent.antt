@@ -6,10 +6,10 @@ use Rattle.answers.specs.Told.{result}
 use Rattle.opening.specs.Laws.{IsOpened}
 use Rattle.opening.specs.Opening.{opened}
 use Rattle.model.specs.Model.{Model}
-use Rattle.accuracy.specs.Accuracy.{exactOf, whole_of}
-use Rattle.meaning.specs.Meaning.{byGates, modelOf}
-use Rattle.demands.specs.Calls.{loadBounds, callTold}
-use Rattle.demands.specs.Within.{exactLost}
+use Rattle.accuracy.specs.Accuracy.{exact_of, whole_of}
+use Rattle.meaning.specs.Meaning.{by_gates, model_of}
+use Rattle.demands.specs.Calls.{load_bounds, call_told}
+use Rattle.demands.specs.Within.{exact_lost}
 
 -- three components that fail at 0.1. The first two feed load 0 in series, the last two feed load 1, so that the
 -- second stands in both; load 2 is lost when both of these are.
@@ -27,21 +27,21 @@ sharing =
     ∷ 1 ∷ 2
     ∷ []
 
-abbrev pub sharingModel : Model
-sharingModel = modelOf byGates (opened sharing).study
+abbrev pub sharing_model : Model
+sharing_model = model_of by_gates (opened sharing).study
 
 -- the exact probability that loads 0 and 1 are both lost
-abbrev pub bothLost : ℕ
-bothLost = exactOf sharingModel (λ (x : List ℕ). bit (sharingModel.class x) 0 && bit (sharingModel.class x) 1)
+abbrev pub both_lost : ℕ
+both_lost = exact_of sharing_model (λ (x : List ℕ). bit (sharing_model.class x) 0 && bit (sharing_model.class x) 1)
 
 pub record SharedComponent : Type 0 where
   -- the study opens, and so is sound
   pub opens : IsOpened sharing
   -- each load is lost at 0.19, and both at 0.109
-  pub first : exactLost sharingModel 0 * 100 ≡ whole_of sharingModel * 19
-  pub second : exactLost sharingModel 1 * 100 ≡ whole_of sharingModel * 19
-  pub both : bothLost * 1000 ≡ whole_of sharingModel * 109
+  pub first : exact_lost sharing_model 0 * 100 ≡ whole_of sharing_model * 19
+  pub second : exact_lost sharing_model 1 * 100 ≡ whole_of sharing_model * 19
+  pub both : both_lost * 1000 ≡ whole_of sharing_model * 109
   -- which is not 0.19 times 0.19
-  pub no-product : bothLost * whole_of sharingModel ≡ exactLost sharingModel 0 * exactLost sharingModel 1 → ⊥
+  pub no_product : both_lost * whole_of sharing_model ≡ exact_lost sharing_model 0 * exact_lost sharing_model 1 → ⊥
   -- it is what the call for load 2 tells
-  pub told : callTold (loadBounds byGates 2) (opened sharing).study ≡ result (109_000_000 ∷ 109_000_000 ∷ [])
+  pub told : call_told (load_bounds by_gates 2) (opened sharing).study ≡ result (109_000_000 ∷ 109_000_000 ∷ [])

@@ -11,13 +11,13 @@ use lib.ListN.{length, get_or, take, drop, set, length-map, length-drop, take-ap
 use lib.Seq.{length-take-le, take_all, take-add, drop-drop, drop-cons, get_or-drop, set_split}
 use borrow.Author.Tests.{eq-eqb, ne_eqb}
 use Rattle.lists.specs.Product.{product}
-use Rattle.lists.proofs.Lent.{lentBack, back-front, back-behind, back_long}
-use Rattle.joint_states.specs.JointStates.{divided, jointStates}
-use Rattle.joint_states.proofs.Numbered.{length-jointStates}
-use Rattle.entries.specs.Entries.{blankMark}
+use Rattle.lists.proofs.Lent.{lent_back, back-front, back-behind, back_long}
+use Rattle.joint_states.specs.JointStates.{divided, joint_states}
+use Rattle.joint_states.proofs.Numbered.{length-joint_states}
+use Rattle.entries.specs.Entries.{blank_mark}
 use Rattle.paths.specs.Blocks.{Block}
 use Rattle.paths.specs.Words.{fits}
-use Rattle.drawn_tree.specs.Filling.{painted, branchFilled}
+use Rattle.drawn_tree.specs.Filling.{painted, branch_filled}
 use Rattle.drawn_tree.proofs.Painted.{length-painted, painted-append, painted-map, painted-none}
 
 -- ---- the parts of the states from s on
@@ -25,25 +25,25 @@ use Rattle.drawn_tree.proofs.Painted.{length-painted, painted-append, painted-ma
 module _ (class mark : ℕ) (later behind : List ℕ) where
   -- n states from s on, over so much of the block as they take
   abbrev left : ℕ → ℕ → List ℕ → List ℕ
-  left s n block = painted (λ x. fits x (mark ∷ behind)) (λ x. class) (divided (λ s. s) (λ s. jointStates later) s n) block
+  left s n block = painted (λ x. fits x (mark ∷ behind)) (λ x. class) (divided (λ s. s) (λ s. joint_states later) s n) block
 
   -- a block of the later components, filled where a state suits the mark
   abbrev own : Bool → List ℕ → List ℕ
-  own suits block = painted (λ x. suits && fits x behind) (λ x. class) (jointStates later) block
+  own suits block = painted (λ x. suits && fits x behind) (λ x. class) (joint_states later) block
 
   -- the part of state s is such a block
   left-next : (s n : ℕ) (block : List ℕ) → product later ≤ length block
-      → left s (suc n) block ≡ own (eqb mark blankMark || eqb mark s) (take (product later) block) ++ left (s + 1) n (drop (product later) block)
+      → left s (suc n) block ≡ own (eqb mark blank_mark || eqb mark s) (take (product later) block) ++ left (s + 1) n (drop (product later) block)
   unfolding divided fits
   left-next s n block room =
       let suited : List ℕ → Bool = λ x. fits x (mark ∷ behind) in
-      let rows = jointStates later in
+      let rows = joint_states later in
       let headed : List ℕ → List ℕ = λ x. s ∷ x in
       let first = take (product later) block in
       let rest = drop (product later) block in
       ap (left s (suc n)) (sym (take-append-drop (product later) block))
       ∙ painted-append suited (λ x. class) (map headed rows) (divided (λ s. s) (λ s. rows) (s + 1) n) first rest
-      (length-map rows headed ∙ length-jointStates later ∙ sym (length-take-le (product later) block room))
+      (length-map rows headed ∙ length-joint_states later ∙ sym (length-take-le (product later) block room))
       ∙ ap (λ (l : List ℕ). l ++ left (s + 1) n rest) (painted-map suited (λ x. class) headed rows first)
 
   left-none : (s : ℕ) (block : List ℕ) → left s 0 block ≡ block
@@ -52,19 +52,19 @@ module _ (class mark : ℕ) (later behind : List ℕ) where
 
   -- what stands behind a part stays
   filled-first : (block : List ℕ) → product later ≤ length block
-      → branchFilled later behind class (take (product later) block) ++ drop (product later) block ≡ branchFilled later behind class block
-  unfolding branchFilled painted
+      → branch_filled later behind class (take (product later) block) ++ drop (product later) block ≡ branch_filled later behind class block
+  unfolding branch_filled painted
   filled-first block room =
       let suited : List ℕ → Bool = λ x. fits x behind in
-      let rows = jointStates later in
+      let rows = joint_states later in
       let first = take (product later) block in
       let rest = drop (product later) block in
-      sym (painted-append suited (λ x. class) rows [] first rest (length-jointStates later ∙ sym (length-take-le (product later) block room)))
+      sym (painted-append suited (λ x. class) rows [] first rest (length-joint_states later ∙ sym (length-take-le (product later) block room)))
       ∙ ap (λ (l : List (List ℕ)). painted suited (λ x. class) l (first ++ rest)) (append-nil rows)
       ∙ ap (painted suited (λ x. class) rows) (take-append-drop (product later) block)
 
   -- a mark that is settled passes over the states that are not its own
-  module _ (settled : mark ≡ blankMark → ⊥) where
+  module _ (settled : mark ≡ blank_mark → ⊥) where
     passed : (n k s : ℕ) (block : List ℕ) → (n + k) * product later ≤ length block → ((j : ℕ) → s ≤ j → j < s + n → mark ≡ j → ⊥)
         → left s (n + k) block ≡ take (n * product later) block ++ left (s + n) k (drop (n * product later) block)
     passed zero k s block room others = rw (zero-mul, zero-add k, add-zero s) refl
@@ -74,8 +74,8 @@ module _ (class mark : ℕ) (later behind : List ℕ) where
         let rest = drop m block in
         let enough : (n + k) * m ≤ length rest = rw (length-drop m block) (omega (arith, room)) in
         let more = passed n k (s + 1) rest enough (λ j least less. others j (omega arith) (omega arith)) in
-        let none = painted-none (λ x. false) (λ x. class) (jointStates later) (take m block) (λ j h. refl) in
-        let first : own (eqb mark blankMark || eqb mark s) (take m block) ≡ take m block = rw (ne_eqb mark blankMark settled, ne_eqb mark s other) none in
+        let none = painted-none (λ x. false) (λ x. class) (joint_states later) (take m block) (λ j h. refl) in
+        let first : own (eqb mark blank_mark || eqb mark s) (take m block) ≡ take m block = rw (ne_eqb mark blank_mark settled, ne_eqb mark s other) none in
         let turn : suc n + k ≡ suc (n + k) = omega arith in
         let place : s + 1 + n ≡ s + suc n = omega arith in
         let front : m + n * m ≡ suc n * m = omega arith in
@@ -96,25 +96,25 @@ module _ (class mark : ℕ) (later behind : List ℕ) where
 
     -- no state is its own
     no_own : (states : ℕ) (block : List ℕ) → states * product later ≤ length block → states ≤ mark
-        → branchFilled (states ∷ later) (mark ∷ behind) class block ≡ block
-    unfolding branchFilled jointStates
+        → branch_filled (states ∷ later) (mark ∷ behind) class block ≡ block
+    unfolding branch_filled joint_states
     no_own states block room h = all-passed states 0 block room (λ j least less same. omega arith)
 
     -- the part of its own state is filled, with n states behind it
-    own-part : (n : ℕ) (block : List ℕ) → suc n * product later ≤ length block → left mark (suc n) block ≡ branchFilled later behind class block
-    unfolding branchFilled
+    own-part : (n : ℕ) (block : List ℕ) → suc n * product later ≤ length block → left mark (suc n) block ≡ branch_filled later behind class block
+    unfolding branch_filled
     own-part n block room =
         let m = product later in
-        let here : (eqb mark blankMark || eqb mark mark) ≡ true = rw (ne_eqb mark blankMark settled, eq-eqb mark mark refl) refl in
+        let here : (eqb mark blank_mark || eqb mark mark) ≡ true = rw (ne_eqb mark blank_mark settled, eq-eqb mark mark refl) refl in
         let enough : n * m ≤ length (drop m block) = rw (length-drop m block) (omega (arith, room)) in
         left-next mark n block (omega (arith, room))
         ∙ (λ i. own (here i) (take m block) ++ all-passed n (mark + 1) (drop m block) enough (λ j least less same. omega arith) i)
         ∙ filled-first block (omega (arith, room))
 
     own-only : (states : ℕ) (block : List ℕ) → states * product later ≤ length block → mark < states
-        → branchFilled (states ∷ later) (mark ∷ behind) class block
-        ≡ take (mark * product later) block ++ branchFilled later behind class (drop (mark * product later) block)
-    unfolding branchFilled jointStates
+        → branch_filled (states ∷ later) (mark ∷ behind) class block
+        ≡ take (mark * product later) block ++ branch_filled later behind class (drop (mark * product later) block)
+    unfolding branch_filled joint_states
     own-only states block room h =
         let m = product later in
         let n = states - (mark + 1) in
@@ -134,26 +134,26 @@ pub record Filled (counts marks : List ℕ) (class : ℕ) (block₀ : List ℕ) 
   pub fewer : length later < length counts
   pub few : length later ≤ length behind
   pub some : (k : ℕ) → k < length later → 0 < get_or later k 0
-  pub most : (k : ℕ) → k < length later → get_or later k 0 ≤ blankMark
-  pub states-most : states ≤ blankMark
-  pub is-size : size ≡ product later
+  pub most : (k : ℕ) → k < length later → get_or later k 0 ≤ blank_mark
+  pub states_most : states ≤ blank_mark
+  pub is_size : size ≡ product later
   pub long : length block ≡ length block₀
   pub inside : from + (states - s) * size ≤ length block
-  pub same : take from block ++ left class blankMark later behind s (states - s) (drop from block) ≡ branchFilled counts marks class block₀
+  pub same : take from block ++ left class blank_mark later behind s (states - s) (drop from block) ≡ branch_filled counts marks class block₀
 
 module _ {counts marks : List ℕ} {class : ℕ} {block₀ : List ℕ} {states size : ℕ} {later behind : List ℕ} {s from : ℕ} {block : List ℕ}
     (f : Filled counts marks class block₀ states size later behind s from block) where
-  pub filled-done : states ≤ s → block ≡ branchFilled counts marks class block₀
+  pub filled-done : states ≤ s → block ≡ branch_filled counts marks class block₀
   filled-done h =
       let none : states - s ≡ 0 = omega arith in
       sym (take-append-drop from block)
-      ∙ ap (λ (l : List ℕ). take from block ++ l) (sym (left-none class blankMark later behind s (drop from block)))
+      ∙ ap (λ (l : List ℕ). take from block ++ l) (sym (left-none class blank_mark later behind s (drop from block)))
       ∙ (rw none at f.same)
 
   module _ (h : s < states) where
     -- no state is numbered as the blank mark
-    pub filled-most : s < blankMark
-    filled-most = omega (arith, h, f.states-most)
+    pub filled-most : s < blank_mark
+    filled-most = omega (arith, h, f.states_most)
 
     room : suc (states - (s + 1)) * size ≤ length block - from
     room =
@@ -168,32 +168,32 @@ module _ {counts marks : List ℕ} {class : ℕ} {block₀ : List ℕ} {states s
     part-long = length-take-le size (drop from block) (rw (length-drop from block) (omega (arith, filled-inside)))
 
     pub filled-part : Block later (take size (drop from block))
-    filled-part = record { long = part-long ∙ f.is-size; some = f.some; most = f.most }
+    filled-part = record { long = part-long ∙ f.is_size; some = f.some; most = f.most }
 
     -- the part of state s is filled too
-    pub filled_more : {p : List ℕ} → p ≡ branchFilled later behind class (take size (drop from block))
-        → Filled counts marks class block₀ states size later behind (s + 1) (from + size) (lentBack block p from size)
-    unfolding branchFilled
+    pub filled_more : {p : List ℕ} → p ≡ branch_filled later behind class (take size (drop from block))
+        → Filled counts marks class block₀ states size later behind (s + 1) (from + size) (lent_back block p from size)
+    unfolding branch_filled
     filled_more {p = p} wrote =
         let n = states - (s + 1) in
         let old = take size (drop from block) in
-        let long : length p ≡ size = ap length wrote ∙ length-painted (λ x. fits x behind) (λ x. class) (jointStates later) old ∙ part-long in
+        let long : length p ≡ size = ap length wrote ∙ length-painted (λ x. fits x behind) (λ x. class) (joint_states later) old ∙ part-long in
         let more : states - s ≡ suc n = omega arith in
-        let rest = left class blankMark later behind (s + 1) n in
-        let enough : product later ≤ length (drop from block) = rw (length-drop from block, sym f.is-size) (omega (arith, filled-inside)) in
-        let next : p ++ rest (drop (from + size) block) ≡ left class blankMark later behind s (states - s) (drop from block) =
+        let rest = left class blank_mark later behind (s + 1) n in
+        let enough : product later ≤ length (drop from block) = rw (length-drop from block, sym f.is_size) (omega (arith, filled-inside)) in
+        let next : p ++ rest (drop (from + size) block) ≡ left class blank_mark later behind s (states - s) (drop from block) =
         (λ i. wrote i ++ rest (sym (drop-drop size from block) i))
-        ∙ ap (λ (k : ℕ). own class blankMark later behind true (take k (drop from block)) ++ rest (drop k (drop from block))) f.is-size
-        ∙ sym (left-next class blankMark later behind s n (drop from block) enough)
-        ∙ ap (λ (k : ℕ). left class blankMark later behind s k (drop from block)) (sym more) in
+        ∙ ap (λ (k : ℕ). own class blank_mark later behind true (take k (drop from block)) ++ rest (drop k (drop from block))) f.is_size
+        ∙ sym (left-next class blank_mark later behind s n (drop from block) enough)
+        ∙ ap (λ (k : ℕ). left class blank_mark later behind s k (drop from block)) (sym more) in
         let back-same = back_long block p from size filled-inside long in
         record {
           fewer = f.fewer;
           few = f.few;
           some = f.some;
           most = f.most;
-          states-most = f.states-most;
-          is-size = f.is-size;
+          states_most = f.states_most;
+          is_size = f.is_size;
           long = back-same ∙ f.long;
           inside = rw back-same (omega (arith, room, filled-inside));
           same =
@@ -208,14 +208,14 @@ pub record Ahead (counts marks : List ℕ) (class : ℕ) (block₀ : List ℕ) (
   pub kept : block ≡ block₀
   pub whole : Block counts block
   pub few : length counts ≤ length marks
-  pub is-size : size ≡ product (drop next counts)
+  pub is_size : size ≡ product (drop next counts)
   pub inside : from + size ≤ length block
-  pub same : take from block ++ branchFilled (drop next counts) (drop next marks) class (drop from block) ≡ branchFilled counts marks class block
+  pub same : take from block ++ branch_filled (drop next counts) (drop next marks) class (drop from block) ≡ branch_filled counts marks class block
 
 pub ahead-start : (counts marks : List ℕ) (class : ℕ) (block : List ℕ) → Block counts block → length counts ≤ length marks
     → Ahead counts marks class block 0 0 (length block) block
 ahead-start counts marks class block b few =
-    record { kept = refl; whole = b; few = few; is-size = b.long; inside = omega arith; same = refl }
+    record { kept = refl; whole = b; few = few; is_size = b.long; inside = omega arith; same = refl }
 
 cons-next : (l : List ℕ) (k : ℕ) → k < length l → drop k l ≡ get_or l k 0 ∷ drop (k + 1) l
 cons-next l k h = let next : suc k ≡ k + 1 = omega arith in drop-cons l k 0 h ∙ ap (λ (j : ℕ). get_or l k 0 ∷ drop j l) next
@@ -226,19 +226,19 @@ module _ {counts marks : List ℕ} {class : ℕ} {block₀ : List ℕ} {next fro
   module _ (none : length counts ≤ next) where
     size-one : size ≡ 1
     unfolding product
-    size-one = a.is-size ∙ ap product (drop_of_length-le counts none)
+    size-one = a.is_size ∙ ap product (drop_of_length-le counts none)
 
     pub ahead-place : from < length block
     ahead-place = omega (arith, size-one, a.inside)
 
-    pub ahead-one : set block from class ≡ branchFilled counts marks class block₀
-    unfolding branchFilled painted fits jointStates
+    pub ahead-one : set block from class ≡ branch_filled counts marks class block₀
+    unfolding branch_filled painted fits joint_states
     ahead-one =
         set_split block from class ahead-place
         ∙ ap (λ (l : List ℕ). take from block ++ l)
-        (λ i. branchFilled (sym (drop_of_length-le counts none) i) (drop next marks) class (cons i))
+        (λ i. branch_filled (sym (drop_of_length-le counts none) i) (drop next marks) class (cons i))
         ∙ a.same
-        ∙ ap (branchFilled counts marks class) a.kept
+        ∙ ap (branch_filled counts marks class) a.kept
       where
         cons : get_or block from 0 ∷ drop (suc from) block ≡ drop from block
         cons = sym (drop-cons block from 0 ahead-place)
@@ -259,12 +259,12 @@ module _ {counts marks : List ℕ} {class : ℕ} {block₀ : List ℕ} {next fro
     pub ahead-some : 0 < states
     ahead-some = a.whole.some next h
 
-    pub ahead-most : states ≤ blankMark
+    pub ahead-most : states ≤ blank_mark
     ahead-most = a.whole.most next h
 
     shares : size ≡ states * product later
     unfolding product
-    shares = a.is-size ∙ ap product (cons-next counts next h)
+    shares = a.is_size ∙ ap product (cons-next counts next h)
 
     part-size : size / states ≡ product later
     part-size = ap (λ (n : ℕ). n / states) shares ∙ mul-div_cancel_left (product later) ahead-some
@@ -272,19 +272,19 @@ module _ {counts marks : List ℕ} {class : ℕ} {block₀ : List ℕ} {next fro
     ahead-room : states * product later ≤ length (drop from block)
     ahead-room = rw (length-drop from block) (omega (arith, shares, a.inside))
 
-    ahead-same : take from block ++ branchFilled (states ∷ later) (mark ∷ behind) class (drop from block) ≡ branchFilled counts marks class block
+    ahead-same : take from block ++ branch_filled (states ∷ later) (mark ∷ behind) class (drop from block) ≡ branch_filled counts marks class block
     ahead-same =
-        (λ i. take from block ++ branchFilled (sym (cons-next counts next h) i) (sym (cons-next marks next (omega (arith, a.few))) i) class (drop from block))
+        (λ i. take from block ++ branch_filled (sym (cons-next counts next h) i) (sym (cons-next marks next (omega (arith, a.few))) i) class (drop from block))
         ∙ a.same
 
     -- its mark is settled
-    module _ (settled : mark ≡ blankMark → ⊥) where
-      pub ahead-nowhere : states ≤ mark → block ≡ branchFilled counts marks class block₀
+    module _ (settled : mark ≡ blank_mark → ⊥) where
+      pub ahead-nowhere : states ≤ mark → block ≡ branch_filled counts marks class block₀
       ahead-nowhere high =
           sym (take-append-drop from block)
           ∙ ap (λ (l : List ℕ). take from block ++ l) (sym (no_own class mark later behind settled states (drop from block) ahead-room high))
           ∙ ahead-same
-          ∙ ap (branchFilled counts marks class) a.kept
+          ∙ ap (branch_filled counts marks class) a.kept
 
       module _ (low : mark < states) where
         pub ahead-inside : from + mark * (size / states) + size / states ≤ length block
@@ -299,12 +299,12 @@ module _ {counts marks : List ℕ} {class : ℕ} {block₀ : List ℕ} {next fro
               kept = a.kept;
               whole = a.whole;
               few = a.few;
-              is-size = part-size;
+              is_size = part-size;
               inside = ahead-inside;
               same =
                   rw part-size
-                  ((λ i. take-add from (mark * m) block i ++ branchFilled later behind class (sym (drop-drop (mark * m) from block) i))
-                  ∙ append_assoc (take from block) (take (mark * m) (drop from block)) (branchFilled later behind class (drop (mark * m) (drop from block)))
+                  ((λ i. take-add from (mark * m) block i ++ branch_filled later behind class (sym (drop-drop (mark * m) from block) i))
+                  ∙ append_assoc (take from block) (take (mark * m) (drop from block)) (branch_filled later behind class (drop (mark * m) (drop from block)))
                   ∙ ap (λ (l : List ℕ). take from block ++ l) (sym (own-only class mark later behind settled states (drop from block) ahead-room low))
                   ∙ ahead-same);
             }
@@ -313,9 +313,9 @@ module _ {counts marks : List ℕ} {class : ℕ} {block₀ : List ℕ} {next fro
     counted k less = omega (arith, less, length-drop (next + 1) counts)
 
     -- its mark is blank: its states are to be filled one by one
-    pub ahead-blank : mark ≡ blankMark
+    pub ahead-blank : mark ≡ blank_mark
         → Filled counts marks class block states (size / states) (take (length counts - (next + 1)) later) (take (length marks - (next + 1)) behind) 0 from block
-    unfolding branchFilled jointStates
+    unfolding branch_filled joint_states
     ahead-blank blank =
         rw (
           take_all (length counts - (next + 1)) later (rw (length-drop (next + 1) counts) (omega arith)),
@@ -326,8 +326,8 @@ module _ {counts marks : List ℕ} {class : ℕ} {block₀ : List ℕ} {next fro
           few = rw (length-drop (next + 1) counts, length-drop (next + 1) marks) (omega (arith, a.few));
           some = λ k less. rw (get_or-drop (next + 1) counts k 0) (a.whole.some (next + 1 + k) (counted k less));
           most = λ k less. rw (get_or-drop (next + 1) counts k 0) (a.whole.most (next + 1 + k) (counted k less));
-          states-most = ahead-most;
-          is-size = part-size;
+          states_most = ahead-most;
+          is_size = part-size;
           long = refl;
           inside = rw (part-size, sub-zero) (omega (arith, shares, a.inside));
           same = rw (sub-zero, sym blank) ahead-same;

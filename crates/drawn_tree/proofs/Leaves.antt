@@ -8,42 +8,42 @@ use native.Mathlib.Omega.{arith}
 use lib.ListN.{get_or}
 use Rattle.rules.proofs.Rows.{node_kept}
 use Rattle.joint_states.specs.JointStates.{JointState}
-use Rattle.drawn_tree.specs.Leaves.{Subtree, first, later, Reaches, here, below, OneLeafEach, subtreesFrom, AskingReaches}
-use Rattle.drawn_tree.specs.Tree.{Tree, leaf, node, Trees, none, more, drawnClass, reached}
+use Rattle.drawn_tree.specs.Leaves.{Subtree, first, later, Reaches, here, below, OneLeafEach, subtrees_from, AskingReaches}
+use Rattle.drawn_tree.specs.Tree.{Tree, leaf, node, Trees, none, more, drawn_class, reached}
 use Rattle.drawn_tree.proofs.Induction.{EachSubtree, no_more, one_more, Steps, drawn-holds}
 
 -- ---- a walk has no choice
 
 -- the branch of a joint state
 unfoldable mutual
-  pub branchOf : Tree → List ℕ → List ℕ
-  branchOf (leaf class) x = []
-  branchOf (node component subtrees) x = get_or x component 0 ∷ branchIn subtrees (get_or x component 0) x
+  pub branch_of : Tree → List ℕ → List ℕ
+  branch_of (leaf class) x = []
+  branch_of (node component subtrees) x = get_or x component 0 ∷ branch_in subtrees (get_or x component 0) x
 
   -- in subtree s
-  pub branchIn : Trees → ℕ → List ℕ → List ℕ
-  branchIn none s x = []
-  branchIn (more tree subtrees) zero x = branchOf tree x
-  branchIn (more tree subtrees) (suc s) x = branchIn subtrees s x
+  pub branch_in : Trees → ℕ → List ℕ → List ℕ
+  branch_in none s x = []
+  branch_in (more tree subtrees) zero x = branch_of tree x
+  branch_in (more tree subtrees) (suc s) x = branch_in subtrees s x
 
 module _ (x : List ℕ) where
-  subtree-branch : {subtrees : Trees} {s : ℕ} {tree : Tree} → Subtree subtrees s tree → branchOf tree x ≡ branchIn subtrees s x
-  unfolding branchOf
+  subtree-branch : {subtrees : Trees} {s : ℕ} {tree : Tree} → Subtree subtrees s tree → branch_of tree x ≡ branch_in subtrees s x
+  unfolding branch_of
   subtree-branch first = refl
   subtree-branch (later h) = subtree-branch h
 
-  subtree-reached : {subtrees : Trees} {s : ℕ} {tree : Tree} → Subtree subtrees s tree → drawnClass tree x ≡ reached subtrees s x
-  unfolding drawnClass
+  subtree-reached : {subtrees : Trees} {s : ℕ} {tree : Tree} → Subtree subtrees s tree → drawn_class tree x ≡ reached subtrees s x
+  unfolding drawn_class
   subtree-reached first = refl
   subtree-reached (later h) = subtree-reached h
 
-only-branch : {tree : Tree} {x branch : List ℕ} {class : ℕ} → Reaches tree x branch class → branch ≡ branchOf tree x
-unfolding branchOf
+only-branch : {tree : Tree} {x branch : List ℕ} {class : ℕ} → Reaches tree x branch class → branch ≡ branch_of tree x
+unfolding branch_of
 only-branch here = refl
 only-branch {x = x} (below {component} at rest) = ap (λ (b : List ℕ). get_or x component 0 ∷ b) (only-branch rest ∙ subtree-branch x at)
 
-only-class : {tree : Tree} {x branch : List ℕ} {class : ℕ} → Reaches tree x branch class → class ≡ drawnClass tree x
-unfolding drawnClass
+only-class : {tree : Tree} {x branch : List ℕ} {class : ℕ} → Reaches tree x branch class → class ≡ drawn_class tree x
+unfolding drawn_class
 only-class here = refl
 only-class {x = x} (below at rest) = only-class rest ∙ subtree-reached x at
 
@@ -52,7 +52,7 @@ only-class {x = x} (below at rest) = only-class rest ∙ subtree-reached x at
 module _ (counts : List ℕ) where
   -- in every joint state
   abbrev Found : Tree → Type 0
-  Found tree = (x : List ℕ) → JointState counts x → Reaches tree x (branchOf tree x) (drawnClass tree x)
+  Found tree = (x : List ℕ) → JointState counts x → Reaches tree x (branch_of tree x) (drawn_class tree x)
 
   -- in subtree k
   pub record FoundAt (subtrees : Trees) (k : ℕ) : Type 0 where
@@ -68,11 +68,11 @@ module _ (counts : List ℕ) where
       record { tree = behind.tree; at = later behind.at; found = behind.found }
 
   found-steps : (loads : ℕ) → Steps counts loads (λ (marks : List ℕ). Found)
-  unfolding drawnClass branchOf
+  unfolding drawn_class branch_of
   found-steps loads =
       record {
         at_leaf = λ marks class kept x joint. here;
-        at-node =
+        at_node =
             λ marks component subtrees kept each x joint.
             let behind = found_at each (get_or x component 0) (joint.below component (node_kept _ component _ kept).inside) in
             rw (sym (subtree-reached x behind.at), sym (subtree-branch x behind.at)) (below behind.at (behind.found x joint));
@@ -81,7 +81,7 @@ module _ (counts : List ℕ) where
 pub one-leaf-each : OneLeafEach
 one-leaf-each counts loads bytes x done joint =
     record {
-      branch = branchOf _ x;
+      branch = branch_of _ x;
       reaches = drawn-holds counts loads (λ (marks : List ℕ). Found counts) (found-steps counts loads) bytes done x joint;
       only = λ other borne walk. only-branch walk;
       bears = λ other borne walk. only-class walk;
@@ -89,16 +89,16 @@ one-leaf-each counts loads bytes x done joint =
 
 -- ---- a tree that asks a component
 
-from-reached : (subtree : ℕ → Tree) (s n k : ℕ) (x : List ℕ) → k < n → reached (subtreesFrom subtree s n) k x ≡ drawnClass (subtree (s + k)) x
-unfolding reached subtreesFrom
+from-reached : (subtree : ℕ → Tree) (s n k : ℕ) (x : List ℕ) → k < n → reached (subtrees_from subtree s n) k x ≡ drawn_class (subtree (s + k)) x
+unfolding reached subtrees_from
 from-reached subtree s zero k x h = absurd (omega arith)
-from-reached subtree s (suc n) zero x h = ap (λ (i : ℕ). drawnClass (subtree i) x) (sym (add-zero s))
+from-reached subtree s (suc n) zero x h = ap (λ (i : ℕ). drawn_class (subtree i) x) (sym (add-zero s))
 from-reached subtree s (suc n) (suc k) x h =
     let place : s + 1 + k ≡ s + suc k = omega arith in
-    from-reached subtree (s + 1) n k x (omega arith) ∙ ap (λ (i : ℕ). drawnClass (subtree i) x) place
+    from-reached subtree (s + 1) n k x (omega arith) ∙ ap (λ (i : ℕ). drawn_class (subtree i) x) place
 
 pub asking-reaches : AskingReaches
-unfolding drawnClass
+unfolding drawn_class
 asking-reaches counts component subtree x joint inside =
     from-reached subtree 0 (get_or counts component 0) (get_or x component 0) x (joint.below component inside)
-    ∙ ap (λ (i : ℕ). drawnClass (subtree i) x) (zero-add (get_or x component 0))
+    ∙ ap (λ (i : ℕ). drawn_class (subtree i) x) (zero-add (get_or x component 0))

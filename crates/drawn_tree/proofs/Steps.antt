@@ -5,54 +5,54 @@ use mathlib.Core.List.{List}
 use native.Mathlib.Omega.{arith}
 use lib.ListN.{length, get_or, set}
 use borrow.Author.Tests.{eq-eqb, ne_eqb}
-use Rattle.rules.specs.Table.{nodeFault}
-use Rattle.entries.specs.Entries.{blankMark}
+use Rattle.rules.specs.Table.{node_fault}
+use Rattle.entries.specs.Entries.{blank_mark}
 use Rattle.paths.specs.Blocks.{Block}
-use Rattle.reading.specs.Reader.{Read, Reader, Reads, ReadsAt, and_then, repeat, asRead}
-use Rattle.reading.proofs.After.{as_read, stopped, going, judged}
+use Rattle.reading.specs.Reader.{Read, Reader, Reads, ReadsAt, and_then, repeat, as_read}
+use Rattle.reading.proofs.After.{as_read_lem, stopped, going, judged}
 use Rattle.reading.proofs.Repeats.{RepeatLeft, repeat-start, repeat-turned, repeat-done}
-use Rattle.drawn_tree.specs.Reading.{leafMark, asked, treeByte}
-use Rattle.drawn_tree.specs.Filling.{unasked, leafDrawn, nodeDrawn, treeDrawn, branchDrawn}
+use Rattle.drawn_tree.specs.Reading.{leaf_mark, asked, tree_byte}
+use Rattle.drawn_tree.specs.Filling.{unasked, leaf_drawn, node_drawn, tree_drawn, branch_drawn}
 use Rattle.drawn_tree.proofs.Asked.{Free, unasked-less}
 
 -- a subtree of a node that asks this component: that of state i
 abbrev pub subtree : List ℕ → ℕ → List ℕ → ℕ → ℕ → List ℕ → Reader (List ℕ)
-subtree counts loads marks component i = treeDrawn counts loads (unasked marks) (set marks component i)
+subtree counts loads marks component i = tree_drawn counts loads (unasked marks) (set marks component i)
 
 -- ---- the exits
 
 module _ (counts : List ℕ) (loads : ℕ) (marks s table : List ℕ) (p n : ℕ) where
   -- what is read from place n on, p being the refusal so far
   abbrev pub below : Read (List ℕ)
-  below = and_then (asRead s p n table) (branchDrawn counts loads marks)
+  below = and_then (as_read s p n table) (branch_drawn counts loads marks)
 
   -- the first byte is read, and nothing was refused before
-  module _ {q m first : ℕ} (none : p ≡ 0) (byte : ReadsAt s n treeByte q m first) where
+  module _ {q m first : ℕ} (none : p ≡ 0) (byte : ReadsAt s n tree_byte q m first) where
     pub drawn-short : (q ≡ 0 → ⊥) → Reads s q m table below
-    unfolding treeDrawn
-    drawn-short some = going _ as_read none (stopped _ byte some)
+    unfolding tree_drawn
+    drawn-short some = going _ as_read_lem none (stopped _ byte some)
 
-    pub drawn-leaf : {r k : ℕ} {filled : List ℕ} → q ≡ 0 → first ≡ leafMark → ReadsAt s m (leafDrawn counts loads marks table) r k filled
+    pub drawn-leaf : {r k : ℕ} {filled : List ℕ} → q ≡ 0 → first ≡ leaf_mark → ReadsAt s m (leaf_drawn counts loads marks table) r k filled
         → Reads s r k filled below
-    unfolding treeDrawn
-    drawn-leaf kept leaf there = going _ as_read none (going _ byte kept (rw (eq-eqb first leafMark leaf) there))
+    unfolding tree_drawn
+    drawn-leaf kept leaf there = going _ as_read_lem none (going _ byte kept (rw (eq-eqb first leaf_mark leaf) there))
 
-    node-there : {r k : ℕ} {filled : List ℕ} → q ≡ 0 → (first ≡ leafMark → ⊥)
-        → ReadsAt s m (nodeDrawn counts marks first (subtree counts loads marks first) table) r k filled → Reads s r k filled below
-    unfolding treeDrawn
-    node-there kept other there = going _ as_read none (going _ byte kept (rw (ne_eqb first leafMark other) there))
+    node-there : {r k : ℕ} {filled : List ℕ} → q ≡ 0 → (first ≡ leaf_mark → ⊥)
+        → ReadsAt s m (node_drawn counts marks first (subtree counts loads marks first) table) r k filled → Reads s r k filled below
+    unfolding tree_drawn
+    node-there kept other there = going _ as_read_lem none (going _ byte kept (rw (ne_eqb first leaf_mark other) there))
 
-    pub drawn-refused : {fault : ℕ} → q ≡ 0 → (first ≡ leafMark → ⊥) → fault ≡ nodeFault (length counts) first (asked marks first) → (fault ≡ 0 → ⊥)
+    pub drawn-refused : {fault : ℕ} → q ≡ 0 → (first ≡ leaf_mark → ⊥) → fault ≡ node_fault (length counts) first (asked marks first) → (fault ≡ 0 → ⊥)
         → Reads s fault m table below
-    unfolding nodeDrawn
+    unfolding node_drawn
     drawn-refused kept other rule some =
-        node-there kept other (stopped _ (judged {n = m} (nodeFault (length counts) first (asked marks first)) rule) some)
+        node-there kept other (stopped _ (judged {n = m} (node_fault (length counts) first (asked marks first)) rule) some)
 
-    pub drawn-node : {r k fault : ℕ} {filled : List ℕ} → q ≡ 0 → (first ≡ leafMark → ⊥) → fault ≡ nodeFault (length counts) first (asked marks first)
+    pub drawn-node : {r k fault : ℕ} {filled : List ℕ} → q ≡ 0 → (first ≡ leaf_mark → ⊥) → fault ≡ node_fault (length counts) first (asked marks first)
         → fault ≡ 0 → ReadsAt s m (repeat (subtree counts loads marks first) (get_or counts first 0) table) r k filled → Reads s r k filled below
-    unfolding nodeDrawn
+    unfolding node_drawn
     drawn-node kept other rule free there =
-        node-there kept other (going _ (judged {n = m} (nodeFault (length counts) first (asked marks first)) rule) free there)
+        node-there kept other (going _ (judged {n = m} (node_fault (length counts) first (asked marks first)) rule) free there)
 
 -- ---- the loop
 
@@ -60,11 +60,11 @@ module _ (counts : List ℕ) (loads : ℕ) (marks s table : List ℕ) (p n : ℕ
 pub record AtNode (counts marks : List ℕ) (component states : ℕ) : Type 0 where
   pub free : Free (length counts) marks component
   pub count : states ≡ get_or counts component 0
-  pub few : states ≤ blankMark
+  pub few : states ≤ blank_mark
 
-pub at-node : {counts marks table : List ℕ} {component states : ℕ} → Block counts table → Free (length counts) marks component
+pub at_node : {counts marks table : List ℕ} {component states : ℕ} → Block counts table → Free (length counts) marks component
     → states ≡ get_or counts component 0 → AtNode counts marks component states
-at-node {component = component} b free count =
+at_node {component = component} b free count =
     record { free = free; count = count; few = omega (arith, count, b.most component free.inside) }
 
 -- below the mark of a state one component fewer is left to ask
@@ -93,7 +93,7 @@ module _ {counts : List ℕ} {loads : ℕ} {marks s table₀ : List ℕ} {m comp
     pub drawing-more : {next filled : List ℕ} {r k : ℕ} → i < states → next ≡ set marks component (i + 1) → length filled ≡ length table
         → Reads s r k filled (below counts loads marks' s table p n) → Drawing counts loads marks s table₀ m component states (i + 1) next filled r k
     drawing-more {filled = filled} {r = r} {k = k} h e long there =
-        let deeper : ℕ → Read (List ℕ) = λ levels. and_then (asRead s p n table) (treeDrawn counts loads levels (set marks component i)) in
+        let deeper : ℕ → Read (List ℕ) = λ levels. and_then (as_read s p n table) (tree_drawn counts loads levels (set marks component i)) in
         let own : Reads s r k filled (deeper (suc (unasked (set marks component i)))) = rw w.marked at there in
         record {
           marked = e;

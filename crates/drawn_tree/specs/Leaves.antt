@@ -2,8 +2,8 @@
 -- that its component has.
 use Rattle.std.specs.Prelude.{ℕ, zero, suc, ◌+◌, ◌<◌, ◌≡◌, List, [], ◌∷◌, length, get_or}
 use Rattle.joint_states.specs.JointStates.{JointState}
-use Rattle.drawn_tree.specs.Drawn.{drawnFault, drawnTree}
-use Rattle.drawn_tree.specs.Tree.{Tree, leaf, node, Trees, none, more, drawnClass}
+use Rattle.drawn_tree.specs.Drawn.{drawn_fault, drawn_tree}
+use Rattle.drawn_tree.specs.Tree.{Tree, leaf, node, Trees, none, more, drawn_class}
 
 -- subtree s, counted from state 0 on
 pub data Subtree : Trees → ℕ → Tree → Type 0 where
@@ -29,23 +29,23 @@ pub record OneLeaf (tree : Tree) (x : List ℕ) (class : ℕ) : Type 0 where
 -- In a tree that is read, every joint state reaches one leaf, which bears its class.
 abbrev pub OneLeafEach : Type 0
 OneLeafEach =
-    (counts : List ℕ) (loads : ℕ) (bytes x : List ℕ) → drawnFault counts loads bytes ≡ 0 → JointState counts x
-    → OneLeaf (drawnTree counts loads bytes) x (drawnClass (drawnTree counts loads bytes) x)
+    (counts : List ℕ) (loads : ℕ) (bytes x : List ℕ) → drawn_fault counts loads bytes ≡ 0 → JointState counts x
+    → OneLeaf (drawn_tree counts loads bytes) x (drawn_class (drawn_tree counts loads bytes) x)
 
 -- ---- a tree that asks a component
 
 -- so many subtrees from state s on
-unfoldable pub subtreesFrom : (ℕ → Tree) → ℕ → ℕ → Trees
-subtreesFrom subtree s zero = none
-subtreesFrom subtree s (suc n) = more (subtree s) (subtreesFrom subtree (s + 1) n)
+unfoldable pub subtrees_from : (ℕ → Tree) → ℕ → ℕ → Trees
+subtrees_from subtree s zero = none
+subtrees_from subtree s (suc n) = more (subtree s) (subtrees_from subtree (s + 1) n)
 
 -- a subtree for each of its states
 abbrev pub asking : List ℕ → ℕ → (ℕ → Tree) → Tree
-asking counts component subtree = node component (subtreesFrom subtree 0 (get_or counts component 0))
+asking counts component subtree = node component (subtrees_from subtree 0 (get_or counts component 0))
 
 -- goes on with that of the state which the joint state has
 abbrev pub AskingReaches : Type 0
 AskingReaches =
     (counts : List ℕ) (component : ℕ) (subtree : ℕ → Tree) (x : List ℕ) → JointState counts x
     → component < length counts
-    → drawnClass (asking counts component subtree) x ≡ drawnClass (subtree (get_or x component 0)) x
+    → drawn_class (asking counts component subtree) x ≡ drawn_class (subtree (get_or x component 0)) x

@@ -13,12 +13,12 @@ mutual
 
 -- the class of the leaf that a joint state reaches: at a node it goes on with the subtree of the component's state
 unfoldable mutual
-  pub drawnClass : Tree → List ℕ → ℕ
-  drawnClass (leaf class) x = class
-  drawnClass (node component subtrees) x = reached subtrees (get_or x component 0) x
+  pub drawn_class : Tree → List ℕ → ℕ
+  drawn_class (leaf class) x = class
+  drawn_class (node component subtrees) x = reached subtrees (get_or x component 0) x
 
   -- in subtree s
   pub reached : Trees → ℕ → List ℕ → ℕ
   reached none s x = 0
-  reached (more tree subtrees) zero x = drawnClass tree x
+  reached (more tree subtrees) zero x = drawn_class tree x
   reached (more tree subtrees) (suc s) x = reached subtrees s x

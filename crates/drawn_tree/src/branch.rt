@@ -1,7 +1,7 @@
 // One class at all joint states of a branch.
 ghost use Rattle.std.specs.Prelude.{◌≤◌, ◌≡◌, length};
 ghost use Rattle.paths.specs.Blocks.{Block};
-ghost use Rattle.drawn_tree.specs.Filling.{branchFilled};
+ghost use Rattle.drawn_tree.specs.Filling.{branch_filled};
 
 use entries::{BLANK, Class};
 
@@ -10,7 +10,7 @@ use entries::{BLANK, Class};
 pub fn fill_branch(counts: &[u8], marks: &[u8], class: Class, block: &mut [Class])
     requires block { Block counts.now block.old }
     requires counts_in_bounds { length counts.now ≤ length marks.now }
-    ensures { block.new ≡ branchFilled counts.now marks.now class block.old }
+    ensures { block.new ≡ branch_filled counts.now marks.now class block.old }
 {
     let mut next: usize = 0;
     let mut from: usize = 0;

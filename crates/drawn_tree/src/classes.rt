@@ -1,9 +1,9 @@
 // The classes that a drawn tree gives all joint states.
 ghost use Rattle.std.specs.Prelude.{◌≤◌, ◌≡◌, length};
 ghost use Rattle.paths.specs.Blocks.{Block};
-ghost use Rattle.rules.specs.Limits.{mostComponents, mostLoads};
-ghost use Rattle.drawn_tree.specs.Drawn.{drawnFault, drawnClasses};
-ghost use Rattle.drawn_tree.specs.Reading.{nothingAsked};
+ghost use Rattle.rules.specs.Limits.{most_components, most_loads};
+ghost use Rattle.drawn_tree.specs.Drawn.{drawn_fault, drawn_classes};
+ghost use Rattle.drawn_tree.specs.Reading.{nothing_asked};
 
 use crate::tree::{Place, draw_tree};
 use entries::{BLANK, Class};
@@ -12,7 +12,7 @@ use rules::{COMPONENT_PLACES, behind_fault, first};
 
 // The marks above the tree.
 fn nothing_asked() -> [u8; COMPONENT_PLACES]
-    ensures { result ≡ nothingAsked }
+    ensures { result ≡ nothing_asked }
 {
     [BLANK; COMPONENT_PLACES]
 }
@@ -21,10 +21,10 @@ fn nothing_asked() -> [u8; COMPONENT_PLACES]
 // block may hold anything.
 pub fn draw_classes(counts: &[u8], loads: u8, bytes: &[u8], block: &mut [Class]) -> u8
     requires block { Block counts.now block.old }
-    requires counts_len_bound { length counts.now ≤ mostComponents }
-    requires loads_le_most_loads { loads ≤ mostLoads }
-    ensures fault { result ≡ drawnFault counts.now loads bytes.now }
-    ensures classes { result ≡ 0 → block.new ≡ drawnClasses counts.now loads bytes.now }
+    requires counts_len_bound { length counts.now ≤ most_components }
+    requires loads_le_most_loads { loads ≤ most_loads }
+    ensures fault { result ≡ drawn_fault counts.now loads bytes.now }
+    ensures classes { result ≡ 0 → block.new ≡ drawn_classes counts.now loads bytes.now }
 {
     let marks = nothing_asked();
     let start = Place {

@@ -1,10 +1,10 @@
 // Reads a drawn tree, and fills the class table while it goes.
 ghost use Rattle.std.specs.Prelude.{◌≤◌, ◌≡◌, length, get_or, drop};
 ghost use Rattle.paths.specs.Blocks.{Block};
-ghost use Rattle.reading.specs.Reader.{Reads, and_then, asRead};
-ghost use Rattle.rules.specs.Limits.{mostComponents, mostLoads};
-ghost use Rattle.drawn_tree.specs.Filling.{leafDrawn, branchDrawn};
-ghost use Rattle.drawn_tree.specs.Reading.{asked as Reading·asked};
+ghost use Rattle.reading.specs.Reader.{Reads, and_then, as_read};
+ghost use Rattle.rules.specs.Limits.{most_components, most_loads};
+ghost use Rattle.drawn_tree.specs.Filling.{leaf_drawn, branch_drawn};
+ghost use Rattle.drawn_tree.specs.Reading.{asked as reading_asked};
 
 use crate::branch::fill_branch;
 use entries::{BLANK, Class, class_or};
@@ -23,7 +23,7 @@ pub struct Place {
 
 // Whether a component is asked above, on a branch with these marks.
 fn asked(marks: [u8; COMPONENT_PLACES], c: u8) -> bool
-    ensures { result ≡ Reading·asked marks c }
+    ensures { result ≡ reading_asked marks c }
 {
     let i = c as usize;
     if i < COMPONENT_PLACES {
@@ -53,9 +53,9 @@ fn draw_leaf(
     table: &mut [Class],
 ) -> Place
     requires block { Block counts.now table.old }
-    requires counts_len_bound { length counts.now ≤ mostComponents }
-    requires loads_le_most_loads { loads ≤ mostLoads }
-    ensures { Reads bytes.now result.refusal result.next table.new (leafDrawn counts.now loads marks table.old (drop at bytes.now)) }
+    requires counts_len_bound { length counts.now ≤ most_components }
+    requires loads_le_most_loads { loads ≤ most_loads }
+    ensures { Reads bytes.now result.refusal result.next table.new (leaf_drawn counts.now loads marks table.old (drop at bytes.now)) }
 {
     let class = class_or(BAD_END, bytes, at);
     let refusal = first(class.refusal, leaf_fault(loads, class.value as u32));
@@ -83,9 +83,9 @@ pub fn draw_tree(
     table: &mut [Class],
 ) -> Place
     requires block { Block counts.now table.old }
-    requires counts_len_bound { length counts.now ≤ mostComponents }
-    requires loads_le_most_loads { loads ≤ mostLoads }
-    ensures { Reads bytes.now result.refusal result.next table.new (and_then (asRead bytes.now from.refusal from.next table.old) (branchDrawn counts.now loads marks)) }
+    requires counts_len_bound { length counts.now ≤ most_components }
+    requires loads_le_most_loads { loads ≤ most_loads }
+    ensures { Reads bytes.now result.refusal result.next table.new (and_then (as_read bytes.now from.refusal from.next table.old) (branch_drawn counts.now loads marks)) }
 {
     if from.refusal != 0 {
         return from;

@@ -3,26 +3,26 @@ use Prim.Native.Nat.{ℕ}
 use mathlib.Core.Path.{◌≡◌}
 use mathlib.Core.Bool.{Bool}
 use mathlib.Core.List.{[], ◌∷◌}
-use Rattle.rules.specs.Breach.{firstBreach}
-use Rattle.rules.specs.Table.{unsoundFault}
+use Rattle.rules.specs.Breach.{first_breach}
+use Rattle.rules.specs.Table.{unsound_fault}
 use Rattle.study.specs.declared.Study.{Study}
 use Rattle.soundness.specs.Check.{sound}
 use Rattle.answers.specs.declared.outcome.Outcome.TheVariants.{Done}
 use Rattle.answers.specs.declared.outcome.StudyAnswer.{StudyAnswer}
 use Rattle.answers.proofs.Answered.{answered-done, answered-refused}
-use Rattle.editing.specs.Edits.{edited, refusedEdit}
+use Rattle.editing.specs.Edits.{edited, refused_edit}
 
-pub edited-refused : (breach : ℕ) (old new : Study) → (breach ≡ 0 → ⊥) → edited breach old new ≡ refusedEdit old breach
+pub edited-refused : (breach : ℕ) (old new : Study) → (breach ≡ 0 → ⊥) → edited breach old new ≡ refused_edit old breach
 unfolding edited
-edited-refused breach old new = answered-refused (refusedEdit old) breach (record { outcome = Done; study = new })
+edited-refused breach old new = answered-refused (refused_edit old) breach (record { outcome = Done; study = new })
 
 pub edited-done : (breach : ℕ) (old new : Study) → breach ≡ 0 → edited breach old new ≡ record { outcome = Done; study = new }
 unfolding edited
-edited-done breach old new = answered-done (refusedEdit old) breach (record { outcome = Done; study = new })
+edited-done breach old new = answered-done (refused_edit old) breach (record { outcome = Done; study = new })
 
 -- the first breach: 16, then 17, then that of the field
-pub edit-judged : {fault unsound item field own wanted : ℕ} {is-sound : Bool} (t : Study) → fault ≡ firstBreach (unsound ∷ item ∷ field ∷ [])
-    → is-sound ≡ sound t → unsound ≡ unsoundFault is-sound → item ≡ own → field ≡ wanted → fault ≡ firstBreach (unsoundFault (sound t) ∷ own ∷ wanted ∷ [])
+pub edit-judged : {fault unsound item field own wanted : ℕ} {is_sound : Bool} (t : Study) → fault ≡ first_breach (unsound ∷ item ∷ field ∷ [])
+    → is_sound ≡ sound t → unsound ≡ unsound_fault is_sound → item ≡ own → field ≡ wanted → fault ≡ first_breach (unsound_fault (sound t) ∷ own ∷ wanted ∷ [])
 edit-judged t e is judged is-item is_field = rw (← is, ← judged, ← is-item, ← is_field) e
 
 -- the answer: the breach is judged, the record found at its place is made anew by f, and the study with it is put together

@@ -1,6 +1,6 @@
 // The edits of an opened study, each of one field. A refused edit hands the study back as it was.
 ghost use Rattle.std.specs.Prelude.{◌≡◌};
-ghost use Rattle.editing.specs.Edits.{edited, componentEditFault, probabilitiesSet, loadEditFault, customersSet, minutesSet};
+ghost use Rattle.editing.specs.Edits.{edited, component_edit_fault, probabilities_set, load_edit_fault, customers_set, minutes_set};
 
 use answers::{Outcome, StudyAnswer};
 use rules::{MOST_CUSTOMERS, MOST_MINUTES, first_of_three, item_fault, size_fault, unsound_fault};
@@ -28,7 +28,7 @@ fn answer(fault: u8, old: Study, new: Study) -> StudyAnswer
 
 // The first breach of an edit of component i's probabilities.
 fn component_edit_fault(t: Study, i: usize, p1: u32, p2: u32, p3: u32) -> u8
-    ensures { result ≡ componentEditFault t i p1 p2 p3 }
+    ensures { result ≡ component_edit_fault t i p1 p2 p3 }
 {
     let c = component_at(t, i);
     let unsound = unsound_fault(is_sound(t));
@@ -39,7 +39,7 @@ fn component_edit_fault(t: Study, i: usize, p1: u32, p2: u32, p3: u32) -> u8
 
 // Sets a component's probabilities of states 1 to 3. Refused by 16, 17, 5, 6, in this order.
 pub fn set_probabilities(study: Study, component: usize, p1: u32, p2: u32, p3: u32) -> StudyAnswer
-    ensures { result ≡ probabilitiesSet study component p1 p2 p3 }
+    ensures { result ≡ probabilities_set study component p1 p2 p3 }
 {
     let fault = component_edit_fault(study, component, p1, p2, p3);
     let c = component_at(study, component);
@@ -49,7 +49,7 @@ pub fn set_probabilities(study: Study, component: usize, p1: u32, p2: u32, p3: u
 
 // The first breach of an edit of load j to a number of at most `most`.
 fn load_edit_fault(t: Study, j: usize, most: u32, n: u32) -> u8
-    ensures { result ≡ loadEditFault t j most n }
+    ensures { result ≡ load_edit_fault t j most n }
 {
     let unsound = unsound_fault(is_sound(t));
     let item = item_fault(t.loads, j);
@@ -59,7 +59,7 @@ fn load_edit_fault(t: Study, j: usize, most: u32, n: u32) -> u8
 
 // Sets the customers of a load. Refused by 16, 17, 14, in this order.
 pub fn set_customers(study: Study, load: usize, customers: u32) -> StudyAnswer
-    ensures { result ≡ customersSet study load customers }
+    ensures { result ≡ customers_set study load customers }
 {
     let fault = load_edit_fault(study, load, MOST_CUSTOMERS, customers);
     let l = load_at(study, load);
@@ -69,7 +69,7 @@ pub fn set_customers(study: Study, load: usize, customers: u32) -> StudyAnswer
 
 // Sets the minutes of a load's restore time. Refused by 16, 17, 14, in this order.
 pub fn set_minutes(study: Study, load: usize, minutes: u32) -> StudyAnswer
-    ensures { result ≡ minutesSet study load minutes }
+    ensures { result ≡ minutes_set study load minutes }
 {
     let fault = load_edit_fault(study, load, MOST_MINUTES, minutes);
     let l = load_at(study, load);

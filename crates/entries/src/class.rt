@@ -3,8 +3,8 @@ ghost use Rattle.std.specs.Prelude.{◌+◌, ◌<◌, ◌≤◌, ◌≡◌, leng
 ghost use Rattle.std.specs.Int.Count.{ones};
 ghost use Rattle.reading.specs.Reader.{ReadsAt};
 ghost use Rattle.text.specs.Writing.{Room, Wrote};
-ghost use Rattle.entries.specs.ClassReader.{classOr};
-ghost use Rattle.entries.specs.Entries.{classBytes, classCode, classRead};
+ghost use Rattle.entries.specs.ClassReader.{class_or};
+ghost use Rattle.entries.specs.Entries.{class_bytes, class_code, class_read};
 
 use reading::bytes_left;
 use rules::LOAD_PLACES;
@@ -20,8 +20,8 @@ pub const CLASS_BYTES: usize = 1;
 
 // The class whose bytes stand at a place.
 pub fn class_from(bytes: &[u8], at: usize) -> Class
-    requires { at + classBytes ≤ length bytes.now }
-    ensures { result ≡ classRead (drop at bytes.now) }
+    requires { at + class_bytes ≤ length bytes.now }
+    ensures { result ≡ class_read (drop at bytes.now) }
 {
     bytes[at]
 }
@@ -37,7 +37,7 @@ pub struct ClassRead {
 // The class at a place; where the bytes end before or inside it, a refusal by the row `end`.
 pub fn class_or(end: u8, bytes: &[u8], at: usize) -> ClassRead
     requires { 0 < end }
-    ensures { ReadsAt bytes.now at (classOr end) result.refusal result.next result.value }
+    ensures { ReadsAt bytes.now at (class_or end) result.refusal result.next result.value }
 {
     if bytes_left(bytes, at) < CLASS_BYTES {
         return ClassRead {
@@ -55,8 +55,8 @@ pub fn class_or(end: u8, bytes: &[u8], at: usize) -> ClassRead
 
 // Writes the bytes of a class at a place of a buffer, and answers the place behind them.
 pub fn write_class(out: &mut [u8], at: usize, class: Class) -> usize
-    requires { Room out.old at (classCode class) }
-    ensures { Wrote out.old at (classCode class) out.new result }
+    requires { Room out.old at (class_code class) }
+    ensures { Wrote out.old at (class_code class) out.new result }
 {
     out[at] = class;
     at + CLASS_BYTES

@@ -1,7 +1,7 @@
 // Writing the entries of a list.
 ghost use Rattle.lists.specs.Cleared.{Cleared};
 ghost use Rattle.text.specs.Writing.{Room, Wrote};
-ghost use Rattle.entries.specs.Entries.{entry, listBytes};
+ghost use Rattle.entries.specs.Entries.{entry, list_bytes};
 
 use crate::class::{Class, write_class};
 use crate::layout::LIST_BYTES;
@@ -9,7 +9,7 @@ use text::copy;
 
 // Room for any list, cleared.
 pub fn empty_list() -> [u8; LIST_BYTES]
-    ensures { Cleared listBytes result }
+    ensures { Cleared list_bytes result }
 {
     [0; LIST_BYTES]
 }

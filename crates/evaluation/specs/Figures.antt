@@ -1,25 +1,25 @@
 -- The figures of a model, and what is answered where it has no customers.
 use Rattle.std.specs.Prelude.{ℕ, List}
-use Rattle.rules.specs.Table.{customersFault}
+use Rattle.rules.specs.Table.{customers_fault}
 use Rattle.study.specs.declared.Load.{Load}
 use Rattle.answers.specs.Answered.{answered}
 use Rattle.answers.specs.declared.figures.Figures.{Figures as FigureValues}
 use Rattle.answers.specs.declared.figures.FiguresAnswer.{FiguresAnswer}
 use Rattle.answers.specs.declared.figures.FiguresAnswer.TheVariants.{Figures, Refused}
-use Rattle.indices.specs.Figures.{customersSum, figuresOf}
+use Rattle.indices.specs.Figures.{customers_sum, figures_of}
 use Rattle.model.specs.Model.{Model}
-use Rattle.evaluation.specs.Bounds.{loadLowers, loadUppers}
+use Rattle.evaluation.specs.Bounds.{load_lowers, load_uppers}
 
 -- the figures from bounds for the loss of each load, or 19
-unfoldable pub figuresBy : List ℕ → List ℕ → List Load → FiguresAnswer
-unfolding answered figuresOf customersSum
-figuresBy lower upper loads =
-    answered Refused (customersFault (customersSum loads)) (Figures (figuresOf (customersSum loads) lower upper loads))
+unfoldable pub figures_by : List ℕ → List ℕ → List Load → FiguresAnswer
+unfolding answered figures_of customers_sum
+figures_by lower upper loads =
+    answered Refused (customers_fault (customers_sum loads)) (Figures (figures_of (customers_sum loads) lower upper loads))
 
 -- the figures of a model from the bounds of its loads
-abbrev pub modelFigures : Model → FigureValues
-modelFigures m = figuresOf (customersSum m.loads) (loadLowers m) (loadUppers m) m.loads
+abbrev pub model_figures : Model → FigureValues
+model_figures m = figures_of (customers_sum m.loads) (load_lowers m) (load_uppers m) m.loads
 
 -- those, or 19
-abbrev pub figuresIn : Model → FiguresAnswer
-figuresIn m = figuresBy (loadLowers m) (loadUppers m) m.loads
+abbrev pub figures_in : Model → FiguresAnswer
+figures_in m = figures_by (load_lowers m) (load_uppers m) m.loads

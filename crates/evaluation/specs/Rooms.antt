@@ -1,42 +1,42 @@
 -- Bounds worked out of a model go to two lent slices, one for lower and one for upper bounds: when they are refused,
 -- and what is answered and left.
 use Rattle.std.specs.Prelude.{ℕ, ◌≡◌, List, [], ◌∷◌, length}
-use Rattle.rules.specs.Breach.{firstBreach}
-use Rattle.rules.specs.Table.{roomFault}
+use Rattle.rules.specs.Breach.{first_breach}
+use Rattle.rules.specs.Table.{room_fault}
 use Rattle.answers.specs.Answered.{answered, filled}
 use Rattle.answers.specs.declared.counts.CountAnswer.{CountAnswer}
 use Rattle.answers.specs.declared.counts.CountAnswer.TheVariants.{Count, Refused as NoCount}
 use Rattle.answers.specs.declared.outcome.Outcome.{Outcome}
 use Rattle.answers.specs.declared.outcome.Outcome.TheVariants.{Done, Refused}
-use Rattle.entries.specs.Entries.{classPlaces}
-use Rattle.model.specs.Model.{Model, pathsOf}
-use Rattle.evaluation.specs.Bounds.{pathLowers, pathUppers, classLowers, classUppers}
+use Rattle.entries.specs.Entries.{class_places}
+use Rattle.model.specs.Model.{Model, paths_of}
+use Rattle.evaluation.specs.Bounds.{path_lowers, path_uppers, class_lowers, class_uppers}
 
 -- 18 where either slice has fewer places than each needs
-unfoldable pub pairFault : ℕ → ℕ → ℕ → ℕ
-pairFault need lower upper = firstBreach (roomFault need lower ∷ roomFault need upper ∷ [])
+unfoldable pub pair_fault : ℕ → ℕ → ℕ → ℕ
+pair_fault need lower upper = first_breach (room_fault need lower ∷ room_fault need upper ∷ [])
 
-abbrev pub pairRoom : ℕ → List ℕ → List ℕ → ℕ
-pairRoom need lower upper = pairFault need (length lower) (length upper)
+abbrev pub pair_room : ℕ → List ℕ → List ℕ → ℕ
+pair_room need lower upper = pair_fault need (length lower) (length upper)
 
 -- a place for each path
-abbrev pub pathsRoom : Model → List ℕ → List ℕ → ℕ
-pathsRoom m lower upper = pairRoom (length (pathsOf m)) lower upper
+abbrev pub paths_room : Model → List ℕ → List ℕ → ℕ
+paths_room m lower upper = pair_room (length (paths_of m)) lower upper
 
 -- what is answered, and what each slice is left with: filled where there is no breach, and otherwise as it was
 pub record PairPut {A : Type 0} (refused : ℕ → A) (breach : ℕ) (done : A)
     (lowers uppers lower-was upper-was lower upper : List ℕ) (answer : A) : Type 0 where
-  pub answer-is : answer ≡ answered refused breach done
-  pub lower-is : lower ≡ filled breach lowers lower-was
+  pub answer_is : answer ≡ answered refused breach done
+  pub lower_is : lower ≡ filled breach lowers lower-was
   pub upper_is : upper ≡ filled breach uppers upper-was
 
 -- the bounds of paths, with their number for an answer
 abbrev pub PathBoundsPut : Model → (lower-was upper-was lower upper : List ℕ) → CountAnswer → Type 0
 PathBoundsPut m lower-was upper-was =
-    PairPut NoCount (pathsRoom m lower-was upper-was) (Count (length (pathsOf m)))
-    (pathLowers m) (pathUppers m) lower-was upper-was
+    PairPut NoCount (paths_room m lower-was upper-was) (Count (length (paths_of m)))
+    (path_lowers m) (path_uppers m) lower-was upper-was
 
 -- the bounds of classes
 abbrev pub ClassBoundsPut : Model → (lower-was upper-was lower upper : List ℕ) → Outcome → Type 0
 ClassBoundsPut m lower-was upper-was =
-    PairPut Refused (pairRoom classPlaces lower-was upper-was) Done (classLowers m) (classUppers m) lower-was upper-was
+    PairPut Refused (pair_room class_places lower-was upper-was) Done (class_lowers m) (class_uppers m) lower-was upper-was

@@ -1,5 +1,5 @@
 // Bounds for the losses of all loads.
-ghost use Rattle.model.specs.InHand.{modelHeld, InHand};
+ghost use Rattle.model.specs.InHand.{model_held, InHand};
 ghost use Rattle.evaluation.specs.Losses.{LossesOf};
 
 use entries::Class;
@@ -18,7 +18,7 @@ pub struct Losses {
 // The bounds for the loss of each load.
 pub fn loss_bounds(model: HeldModel, classes: &[Class]) -> Losses
     requires { InHand model classes.now }
-    ensures { LossesOf (modelHeld model classes.now) result.lower result.upper }
+    ensures { LossesOf (model_held model classes.now) result.lower result.upper }
 {
     let mut lower = no_totals();
     let mut upper = no_totals();

@@ -1,8 +1,8 @@
 // Bounds for paths, in two lent slices.
 ghost use Rattle.std.specs.Prelude.{◌≤◌, ◌≡◌, length};
 ghost use Rattle.lists.specs.Rows.{put};
-ghost use Rattle.entries.specs.Entries.{entriesOf};
-ghost use Rattle.model.specs.InHand.{modelHeld, InHand};
+ghost use Rattle.entries.specs.Entries.{entries_of};
+ghost use Rattle.model.specs.InHand.{model_held, InHand};
 ghost use Rattle.probability.specs.Bounded.{Boundable};
 ghost use Rattle.probability.specs.Totals.{lower_bounds, upper_bounds};
 ghost use Rattle.evaluation.specs.Rooms.{PathBoundsPut};
@@ -29,10 +29,10 @@ fn write_paths(
     requires paths_in_bounds_2 { paths ≤ length upper.old }
     ensures lower { lower.new
         ≡ put lower.old 0
-        (lower_bounds probabilities.now n (entriesOf n paths list.now)) }
+        (lower_bounds probabilities.now n (entries_of n paths list.now)) }
     ensures upper { upper.new
         ≡ put upper.old 0
-        (upper_bounds probabilities.now n (entriesOf n paths list.now)) }
+        (upper_bounds probabilities.now n (entries_of n paths list.now)) }
 {
     path_bounds(DOWN, probabilities, n, list, paths, lower);
     path_bounds(UP, probabilities, n, list, paths, upper);
@@ -46,7 +46,7 @@ pub fn bound_paths(
     upper: &mut [u64],
 ) -> CountAnswer
     requires { InHand model classes.now }
-    ensures { PathBoundsPut (modelHeld model classes.now) lower.old upper.old
+    ensures { PathBoundsPut (model_held model classes.now) lower.old upper.old
         lower.new upper.new result }
 {
     let mut list = empty_list();

@@ -9,7 +9,7 @@ use lib.ListN.{length}
 use Rattle.lists.specs.Counting.{all_below}
 use Rattle.lists.specs.Rows.{same}
 use Rattle.lists.proofs.Tests.{true_same}
-use Rattle.paths.specs.Paths.{part, isBlank}
+use Rattle.paths.specs.Paths.{part, is_blank}
 use Rattle.paths.proofs.Sizes.{part-long}
 
 pub record Compared (states size : ℕ) (block : List ℕ) (s : ℕ) (blank : Bool) : Type 0 where
@@ -34,8 +34,8 @@ module _ {states size : ℕ} {block : List ℕ} where
   compared-more {s} {blank} {alike} {first} {other} c h e₀ e found =
       record { inside = omega arith; whole = c.whole; found = rw (add-one, sym c.found, sym e₀, sym e, found) refl }
 
-  pub compared-done : {s : ℕ} {blank : Bool} → Compared states size block s blank → states ≤ s → blank ≡ isBlank states size block
-  unfolding isBlank
+  pub compared-done : {s : ℕ} {blank : Bool} → Compared states size block s blank → states ≤ s → blank ≡ is_blank states size block
+  unfolding is_blank
   compared-done {s} {blank} c h =
       let all : s ≡ states = omega (arith, c.inside) in
       c.found ∙ ap (all_below (λ (k : ℕ). same (part size 0 block) (part size k block))) all

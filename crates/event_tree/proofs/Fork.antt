@@ -9,8 +9,8 @@ use lib.Seq.{take_all, length-take-le}
 use Rattle.lists.specs.Product.{product}
 use Rattle.joint_states.specs.JointStates.{divided}
 use Rattle.paths.specs.Blocks.{Block}
-use Rattle.entries.specs.Entries.{blankMark, entry}
-use Rattle.paths.specs.Paths.{part, isBlank, paths}
+use Rattle.entries.specs.Entries.{blank_mark, entry}
+use Rattle.paths.specs.Paths.{part, is_blank, paths}
 use Rattle.paths.specs.Ways.{mark, ways, branches}
 use Rattle.paths.proofs.Parts.{part-block}
 use Rattle.paths.proofs.Sizes.{states-some, shares, part-inside}
@@ -59,7 +59,7 @@ module _ {counts block : List ℕ} {w : Ways} {later : List ℕ} (f : Fork count
       omega (arith, h, f.at.number, ways-most w.blank (get_or counts 0 0) (states-some counts block f.whole f.some))
 
   -- no way is numbered as the blank mark
-  pub fork-most : {s : ℕ} → s < w.number → s < blankMark
+  pub fork-most : {s : ℕ} → s < w.number → s < blank_mark
   fork-most {s} h = omega (arith, fork-state h, f.whole.most 0 f.some)
 
   pub fork-inside : {s : ℕ} → s < w.number → s * w.size + w.size ≤ length block
@@ -86,8 +86,8 @@ module _ {counts block : List ℕ} {w : Ways} {later : List ℕ} (f : Fork count
   fork-paths = rw (f.rest, f.at.number, f.at.size, f.at.blank) (go counts f.some)
     where
       go : (l : List ℕ) → 0 < length l → paths l block
-          ≡ divided (mark (isBlank (get_or l 0 0) (product (drop 1 l)) block)) (λ (s : ℕ). paths (drop 1 l) (part (product (drop 1 l)) s block)) 0
-          (ways (isBlank (get_or l 0 0) (product (drop 1 l)) block) (get_or l 0 0))
+          ≡ divided (mark (is_blank (get_or l 0 0) (product (drop 1 l)) block)) (λ (s : ℕ). paths (drop 1 l) (part (product (drop 1 l)) s block)) 0
+          (ways (is_blank (get_or l 0 0) (product (drop 1 l)) block) (get_or l 0 0))
       go [] some = absurd (omega arith)
       go (c ∷ cs) some = paths-branches c cs block
 

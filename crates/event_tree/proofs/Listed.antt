@@ -14,7 +14,7 @@ use Rattle.paths.specs.Paths.{part, paths}
 use Rattle.paths.specs.Ways.{mark}
 use Rattle.paths.proofs.Ways.{headed}
 use Rattle.event_tree.specs.declared.blank.Ways.{Ways}
-use Rattle.event_tree.specs.Entries.{entriesBehind}
+use Rattle.event_tree.specs.Entries.{entries_behind}
 use Rattle.event_tree.proofs.Behind.{behind-one, behind-append, behind-headed}
 use Rattle.event_tree.proofs.Fork.{Fork, no-fork, rows, left, left-all, left-next, left-none}
 
@@ -28,7 +28,7 @@ pub record Listed (counts block : List ℕ) (w : Ways) (later front : List ℕ) 
   pub fork : Fork counts block w later
   pub inside : n + length counts ≤ size
   pub marked : Marked front n size marks
-  pub due : Due d₀ at (entriesBehind front (paths counts block)) d place (entriesBehind front (left block w later s))
+  pub due : Due d₀ at (entries_behind front (paths counts block)) d place (entries_behind front (left block w later s))
 
 -- what a call for way s is handed: the marks with its own behind them, and its part of the block
 pub record Way (block : List ℕ) (w : Ways) (front : List ℕ) (s : ℕ) (marks p : List ℕ) : Type 0 where
@@ -38,18 +38,18 @@ pub record Way (block : List ℕ) (w : Ways) (front : List ℕ) (s : ℕ) (marks
 
 -- the entries of way s come next
 next : {block : List ℕ} {w : Ways} {front : List ℕ} {s : ℕ} {marks p : List ℕ} (later : List ℕ) → Way block w front s marks p
-    → entriesBehind front (left block w later s) ≡ entriesBehind marks (paths later p) ++ entriesBehind front (left block w later (s + 1))
+    → entries_behind front (left block w later s) ≡ entries_behind marks (paths later p) ++ entries_behind front (left block w later (s + 1))
 next {block} {w} {front} {s} {marks} {p} later way =
     rw (way.marked, way.parted)
     (
-    ap (entriesBehind front) (left-next block w later s way.inside)
+    ap (entries_behind front) (left-next block w later s way.inside)
     ∙ behind-append front (headed (mark w.blank s) (rows block w later s)) (left block w later (s + 1))
-    ∙ ap (λ (l : List ℕ). l ++ entriesBehind front (left block w later (s + 1))) (behind-headed front (mark w.blank s) (rows block w later s))
+    ∙ ap (λ (l : List ℕ). l ++ entries_behind front (left block w later (s + 1))) (behind-headed front (mark w.blank s) (rows block w later s))
     )
 
 module _ {counts block : List ℕ} {w : Ways} {later front : List ℕ} {n size : ℕ} {d₀ : List ℕ} {at : ℕ} where
   pub listed_start : {marks : List ℕ} → Fork counts block w later → n + length counts ≤ size → take n marks ≡ front → length marks ≡ size
-      → at + length (entriesBehind front (paths counts block)) ≤ length d₀ → Listed counts block w later front n size d₀ at 0 marks d₀ at
+      → at + length (entries_behind front (paths counts block)) ≤ length d₀ → Listed counts block w later front n size d₀ at 0 marks d₀ at
   listed_start f inside kept long room =
       record { fork = f; inside = inside; marked = record { kept = kept; long = long }; due = rw (left-all f) (due-start room) }
 
@@ -66,14 +66,14 @@ module _ {counts block : List ℕ} {w : Ways} {later front : List ℕ} {n size :
       }
 
   pub listed-room : {s place : ℕ} {marks d more p : List ℕ} → Listed counts block w later front n size d₀ at s marks d place
-      → Way block w front s more p → place + length (entriesBehind more (paths later p)) ≤ length d
+      → Way block w front s more p → place + length (entries_behind more (paths later p)) ≤ length d
   listed-room {s} {place} {marks} {d} {more} {p} l way =
-      due-room (entriesBehind more (paths later p)) (entriesBehind front (left block w later (s + 1))) (rw (next later way) at l.due)
+      due-room (entries_behind more (paths later p)) (entries_behind front (left block w later (s + 1))) (rw (next later way) at l.due)
 
   -- the marks behind those in front may have changed
   pub listed_more : {s place q : ℕ} {marks marks' d d' more p : List ℕ} → Listed counts block w later front n size d₀ at s marks d place
       → Way block w front s more p → take (n + 1) marks' ≡ more → length marks' ≡ size
-      → q ≡ place + length (entriesBehind more (paths later p)) → d' ≡ put d place (entriesBehind more (paths later p))
+      → q ≡ place + length (entries_behind more (paths later p)) → d' ≡ put d place (entries_behind more (paths later p))
       → Listed counts block w later front n size d₀ at (s + 1) marks' d' q
   listed_more {s} {place} {q} {marks} {marks'} {d} {d'} {more} {p} l way kept long end wrote =
       let short : length front ≡ n = ap length (sym l.marked.kept) ∙ length-take-le n marks (omega (arith, l.inside, l.marked.long)) in
@@ -82,27 +82,27 @@ module _ {counts block : List ℕ} {w : Ways} {later front : List ℕ} {n size :
         fork = l.fork;
         inside = l.inside;
         marked = record { kept = sym (take-take n (n + 1) marks' (omega arith)) ∙ again; long = long };
-        due = due-more (entriesBehind more (paths later p)) (entriesBehind front (left block w later (s + 1))) (rw (next later way) at l.due) wrote end;
+        due = due-more (entries_behind more (paths later p)) (entries_behind front (left block w later (s + 1))) (rw (next later way) at l.due) wrote end;
       }
 
   -- nothing is left to be written
   pub listed-all : {s place : ℕ} {marks d : List ℕ} → Listed counts block w later front n size d₀ at s marks d place → w.number ≤ s
-      → Due d₀ at (entriesBehind front (paths counts block)) d place []
-  unfolding entriesBehind joined
+      → Due d₀ at (entries_behind front (paths counts block)) d place []
+  unfolding entries_behind joined
   listed-all {s} {place} {marks} {d} l h = rw (left-none block w later s h) at l.due
 
 -- ---- no component is left: one entry
 
 module _ (counts block front : List ℕ) (none : length counts ≡ 0) where
-  leaf : entriesBehind front (paths counts block) ≡ entry front (get_or block 0 0)
+  leaf : entries_behind front (paths counts block) ≡ entry front (get_or block 0 0)
   leaf = rw (no-fork counts block none) (behind-one front (get_or block 0 0))
 
-  pub leaf_room : {d : List ℕ} {at : ℕ} → at + length (entriesBehind front (paths counts block)) ≤ length d → Room d at (entry front (get_or block 0 0))
+  pub leaf_room : {d : List ℕ} {at : ℕ} → at + length (entries_behind front (paths counts block)) ≤ length d → Room d at (entry front (get_or block 0 0))
   leaf_room room = record { fits = rw leaf at room }
 
-  pub leaf-done : {d d' : List ℕ} {at r : ℕ} → at + length (entriesBehind front (paths counts block)) ≤ length d
-      → Wrote d at (entry front (get_or block 0 0)) d' r → Due d at (entriesBehind front (paths counts block)) d' r []
+  pub leaf-done : {d d' : List ℕ} {at r : ℕ} → at + length (entries_behind front (paths counts block)) ≤ length d
+      → Wrote d at (entry front (get_or block 0 0)) d' r → Due d at (entries_behind front (paths counts block)) d' r []
   leaf-done {d} {d'} {at} {r} room wrote =
-      let one = entriesBehind front (paths counts block) in
+      let one = entries_behind front (paths counts block) in
       let begin : Due d at one d at (one ++ []) = rw append-nil (due-start room) in
       due-more one [] begin (rw leaf wrote.holds) (rw leaf wrote.behind)

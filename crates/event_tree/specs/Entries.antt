@@ -3,6 +3,6 @@ use Rattle.std.specs.Prelude.{ℕ, List, ◌++◌, map}
 use Rattle.lists.specs.Rows.{joined}
 
 -- the entries, each behind the same marks, one behind the other
-unfoldable pub entriesBehind : List ℕ → List (List ℕ) → List ℕ
+unfoldable pub entries_behind : List ℕ → List (List ℕ) → List ℕ
 unfolding joined
-entriesBehind front entries = joined (map (λ (entry : List ℕ). front ++ entry) entries)
+entries_behind front entries = joined (map (λ (entry : List ℕ). front ++ entry) entries)

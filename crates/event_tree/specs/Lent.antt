@@ -1,18 +1,18 @@
 -- What listing entries in a lent buffer answers and leaves: 18 where they need more than its room.
 use Rattle.std.specs.Prelude.{ℕ, List, length}
 use Rattle.lists.specs.Rows.{joined}
-use Rattle.rules.specs.Table.{roomFault}
+use Rattle.rules.specs.Table.{room_fault}
 use Rattle.answers.specs.Answered.{answered, filled}
 use Rattle.answers.specs.declared.counts.Listing.{Listing}
 use Rattle.answers.specs.declared.counts.Listing.TheVariants.{Listed, Refused}
 
-abbrev pub lentFault : List (List ℕ) → List ℕ → ℕ
-lentFault entries buffer = roomFault (length (joined entries)) (length buffer)
+abbrev pub lent_fault : List (List ℕ) → List ℕ → ℕ
+lent_fault entries buffer = room_fault (length (joined entries)) (length buffer)
 
 -- the number of entries
-abbrev pub listedIn : List (List ℕ) → List ℕ → Listing
-listedIn entries buffer = answered Refused (lentFault entries buffer) (Listed (record { paths = length entries }))
+abbrev pub listed_in : List (List ℕ) → List ℕ → Listing
+listed_in entries buffer = answered Refused (lent_fault entries buffer) (Listed (record { paths = length entries }))
 
 -- the entries at the front
-abbrev pub bufferIn : List (List ℕ) → List ℕ → List ℕ
-bufferIn entries buffer = filled (lentFault entries buffer) (joined entries) buffer
+abbrev pub buffer_in : List (List ℕ) → List ℕ → List ℕ
+buffer_in entries buffer = filled (lent_fault entries buffer) (joined entries) buffer

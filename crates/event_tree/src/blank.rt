@@ -2,7 +2,7 @@
 ghost use Rattle.std.specs.Prelude.{◌+◌, ◌*◌, ◌<◌, ◌≤◌, ◌≡◌, length};
 ghost use Rattle.paths.specs.Blocks.{Block};
 ghost use Rattle.event_tree.specs.Ways.{WaysAt};
-ghost use Rattle.paths.specs.Paths.{part as Paths·part, isBlank};
+ghost use Rattle.paths.specs.Paths.{part as paths_part, is_blank};
 ghost use Rattle.paths.specs.Ways.{ways};
 
 use entries::{Class, classes_from, same_classes};
@@ -18,7 +18,7 @@ pub struct Ways {
 // The part of a block that state s leads to.
 pub fn part(size: usize, s: u8, block: &[Class]) -> &[Class]
     requires { s * size + size ≤ length block.now }
-    ensures { result.now ≡ Paths·part size s block.now }
+    ensures { result.now ≡ paths_part size s block.now }
 {
     classes_from(block, s as usize * size, size)
 }
@@ -27,7 +27,7 @@ pub fn part(size: usize, s: u8, block: &[Class]) -> &[Class]
 fn is_blank(states: u8, size: usize, block: &[Class]) -> bool
     requires block_len { length block.now ≡ states * size }
     requires states_nonzero { 0 < states }
-    ensures { result ≡ isBlank states size block.now }
+    ensures { result ≡ is_blank states size block.now }
 {
     let first = part(size, 0, block);
     let mut blank = true;

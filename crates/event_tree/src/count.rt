@@ -1,6 +1,6 @@
 // How many paths a block has.
 ghost use Rattle.std.specs.Prelude.{◌≤◌, ◌≡◌, length};
-ghost use Rattle.rules.specs.Limits.{mostJointStates};
+ghost use Rattle.rules.specs.Limits.{most_joint_states};
 ghost use Rattle.paths.specs.Blocks.{Block};
 ghost use Rattle.paths.specs.Paths.{paths};
 
@@ -11,7 +11,7 @@ use entries::Class;
 // The number of paths of a block, before any of them is written.
 pub fn count_paths(counts: &[u8], block: &[Class]) -> PathCount
     requires block { Block counts.now block.now }
-    requires block_len_bound { length block.now ≤ mostJointStates }
+    requires block_len_bound { length block.now ≤ most_joint_states }
     ensures { result.paths ≡ length (paths counts.now block.now) }
 {
     if counts.len() == 0 {

@@ -1,9 +1,9 @@
 // The list of the paths of a block.
 ghost use Rattle.std.specs.Prelude.{◌+◌, ◌≤◌, ◌≡◌, length, take};
 ghost use Rattle.lists.specs.Rows.{put, joined};
-ghost use Rattle.rules.specs.Limits.{mostComponents};
+ghost use Rattle.rules.specs.Limits.{most_components};
 ghost use Rattle.paths.specs.Blocks.{Block};
-ghost use Rattle.event_tree.specs.Entries.{entriesBehind};
+ghost use Rattle.event_tree.specs.Entries.{entries_behind};
 ghost use Rattle.paths.specs.Paths.{paths};
 
 use crate::blank::{part, ways_at};
@@ -22,9 +22,9 @@ fn list_block(
 ) -> usize
     requires block { Block counts.now block.now }
     requires counts_in_bounds { front + length counts.now ≤ length marks.old }
-    requires block_in_bounds { at + length (entriesBehind (take front marks.old) (paths counts.now block.now)) ≤ length out.old }
-    ensures value { result ≡ at + length (entriesBehind (take front marks.old) (paths counts.now block.now)) }
-    ensures out_after { out.new ≡ put out.old at (entriesBehind (take front marks.old) (paths counts.now block.now)) }
+    requires block_in_bounds { at + length (entries_behind (take front marks.old) (paths counts.now block.now)) ≤ length out.old }
+    ensures value { result ≡ at + length (entries_behind (take front marks.old) (paths counts.now block.now)) }
+    ensures out_after { out.new ≡ put out.old at (entries_behind (take front marks.old) (paths counts.now block.now)) }
     ensures marks_unchanged { take front marks.new ≡ take front marks.old }
 {
     if counts.len() == 0 {
@@ -52,7 +52,7 @@ fn list_block(
 // Writes the list of the paths of a block at the front of a buffer.
 pub fn list_paths(counts: &[u8], block: &[Class], out: &mut [u8])
     requires block { Block counts.now block.now }
-    requires counts_len_bound { length counts.now ≤ mostComponents }
+    requires counts_len_bound { length counts.now ≤ most_components }
     requires block_in_bounds { length (joined (paths counts.now block.now)) ≤ length out.old }
     ensures { out.new ≡ put out.old 0 (joined (paths counts.now block.now)) }
 {

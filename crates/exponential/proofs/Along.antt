@@ -5,20 +5,20 @@ use native.Mathlib.Numerals.{add-one}
 use lib.ListN.{get_or, drop}
 use lib.Seq.{drop-cons}
 use Rattle.exponential.specs.declared.Bounds.{Bounds}
-use Rattle.exponential.specs.Worked.{Units, grain, powers, factors, line, times, timesEach}
+use Rattle.exponential.specs.Worked.{Units, grain, powers, factors, line, times, times_each}
 
 -- before the turn of a place: going on from here gives the product of all factors, and no bound is above one
 pub record Going (exponent bits place : ℕ) (b : Bounds) : Type 0 where
   pub within : place ≤ powers
-  pub gives : timesEach bits (drop place factors) b ≡ timesEach (exponent / grain) factors (line (exponent % grain))
+  pub gives : times_each bits (drop place factors) b ≡ times_each (exponent / grain) factors (line (exponent % grain))
   pub units : Units b
 
 module _ (bits : ℕ) (b : Bounds) where
   pub turn : (place : ℕ) → place < powers
-      → timesEach bits (drop place factors) b ≡ timesEach (bits / 2) (drop (place + 1) factors) (times (bits % 2) (get_or factors place 0) b)
-  unfolding timesEach factors
+      → times_each bits (drop place factors) b ≡ times_each (bits / 2) (drop (place + 1) factors) (times (bits % 2) (get_or factors place 0) b)
+  unfolding times_each factors
   turn place less = rw (add-one place, drop-cons factors place 0 less) refl
 
-  pub all_done : timesEach bits (drop powers factors) b ≡ b
-  unfolding timesEach factors
+  pub all_done : times_each bits (drop powers factors) b ≡ b
+  unfolding times_each factors
   all_done = refl

@@ -21,7 +21,7 @@ use Rattle.exponential.proofs.Certificates.{below-shown, above-shown, above-some
 -- either it is one, or a unit was added
 data Raised (bound : ℕ) : ℕ → Type 0 where
   to_one : one ≤ bound + 1 → Raised bound one
-  by-a-unit : bound + 1 < one → Raised bound (bound + 1)
+  by_a_unit : bound + 1 < one → Raised bound (bound + 1)
 
 module _ (bound : ℕ) where
   raised_by : Raised bound (raised bound)
@@ -30,7 +30,7 @@ module _ (bound : ℕ) where
     where
       go : (b : Bool) → leb one (bound + 1) ≡ b → Raised bound (min one (bound + 1))
       go true e = let least = leb-true one (bound + 1) e in rw (min-eq_left least) (to_one least)
-      go false e = let less = leb-false one (bound + 1) e in rw (min-eq_right (le_of_lt less)) (by-a-unit less)
+      go false e = let less = leb-false one (bound + 1) e in rw (min-eq_right (le_of_lt less)) (by_a_unit less)
 
   pub raised-most : raised bound ≤ one
   unfolding raised
@@ -57,7 +57,7 @@ line-below x l e =
 line-above : (x l u : ℕ) → l + x ≡ one → x < grain → Raised l u → Above x u
 unfolding whole partial
 line-above x l u e less (to_one least) = above-shown x one 0 (omega arith)
-line-above x l u e less (by-a-unit more) =
+line-above x l u e less (by_a_unit more) =
     let most : x ≤ grain - 1 = omega arith in
     above-shown x (l + 1) 1
     (rw (pow-suc x 0, pow-zero x) (omega (arith, e, ap (λ (m : ℕ). m * x) e, mul-le-mul most most)))
@@ -116,7 +116,7 @@ above-raised {x} {gap} {b} e = go (raised_by b.upper)
   where
     go : {u : ℕ} → Raised b.upper u → (n : ℕ) × (one * whole n ≤ u * partial x n)
     go (to_one least) = (0, omega arith)
-    go (by-a-unit less) = above-some e.above
+    go (by_a_unit less) = above-some e.above
 
 pub near-raised : {x gap : ℕ} {b : Bounds} → Enclosed x gap b → raised b.upper ≤ b.lower + (gap + 1)
 near-raised {x} {gap} {b} e = omega (arith, raised-near b.upper, e.near)

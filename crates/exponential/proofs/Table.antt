@@ -26,12 +26,12 @@ right x f =
     && (leb (f * (partial x last + x ^ last)) (one * whole last) && (leb (one * whole last) ((f + 1) * partial x last) && ltb f one))
 
 -- a row of factors, the first for a power and each later one for twice the power before
-unfoldable pub allRight : ℕ → List ℕ → Bool
-allRight power [] = true
-allRight power (f ∷ rest) = right power f && allRight (2 * power) rest
+unfoldable pub all_right : ℕ → List ℕ → Bool
+all_right power [] = true
+all_right power (f ∷ rest) = right power f && all_right (2 * power) rest
 
-pub table-right : allRight grain factors ≡ true
-unfolding allRight right factors partial whole
+pub table-right : all_right grain factors ≡ true
+unfolding all_right right factors partial whole
 table-right = refl
 
 pub factor-right : (x f : ℕ) → right x f ≡ true → Factor x f

@@ -42,12 +42,12 @@ unfoldable pub times : ℕ → ℕ → Bounds → Bounds
 times bit factor b = cond (eqb bit 0) b (record { lower = scale down b.lower factor; upper = scale up b.upper (factor + 1) })
 
 -- the same for every bit, from the lowest on
-unfoldable pub timesEach : ℕ → List ℕ → Bounds → Bounds
-timesEach bits [] b = b
-timesEach bits (factor ∷ rest) b = timesEach (bits / 2) rest (times (bits % 2) factor b)
+unfoldable pub times_each : ℕ → List ℕ → Bounds → Bounds
+times_each bits [] b = b
+times_each bits (factor ∷ rest) b = times_each (bits / 2) rest (times (bits % 2) factor b)
 
 -- the pair of an exponent: the upper bound is raised once more, so that some partial sum shows it
-unfoldable pub survivalOf : ℕ → Bounds
-survivalOf x =
-    let b = timesEach (x / grain) factors (line (x % grain)) in
+unfoldable pub survival_of : ℕ → Bounds
+survival_of x =
+    let b = times_each (x / grain) factors (line (x % grain)) in
     record { lower = b.lower; upper = raised b.upper }

@@ -2,7 +2,7 @@
 // bound rounded down and the upper one up.
 ghost use Rattle.std.specs.Prelude.{◌<◌, ◌≡◌};
 ghost use Rattle.units.specs.One.{one};
-ghost use Rattle.exponential.specs.Worked.{grain, factors, raised, line as line_of, Units, times as timesOf, survivalOf};
+ghost use Rattle.exponential.specs.Worked.{grain, factors, raised, line as line_of, Units, times as times_of, survival_of};
 
 use units::{DOWN, ONE, UP, scale};
 
@@ -60,7 +60,7 @@ fn factor_table() -> [u64; POWERS]
 fn times(bit: u64, factor: u64, b: Bounds) -> Bounds
     requires units { Units b }
     requires less { factor < one }
-    ensures product { result ≡ timesOf bit factor b }
+    ensures product { result ≡ times_of bit factor b }
     ensures units { Units result }
 {
     if bit == 0 {
@@ -74,7 +74,7 @@ fn times(bit: u64, factor: u64, b: Bounds) -> Bounds
 
 // Bounds for the exponential of minus an exponent.
 pub fn survival(exponent: u64) -> Bounds
-    ensures pair { result ≡ survivalOf exponent }
+    ensures pair { result ≡ survival_of exponent }
     ensures units { Units result }
 {
     let factors = factor_table();

@@ -7,12 +7,12 @@ use lib.Dec.{eqb}
 use borrow.Author.Tests.{eqb-true}
 use Rattle.answers.specs.Answered.{answered}
 use Rattle.answers.specs.Told.{result, refusal, tells}
-use Rattle.export_answers.specs.Answers.{below, answeredBy, done}
+use Rattle.export_answers.specs.Answers.{below, answered_by, done}
 
-pub breach-answered : (breach : ℕ) (values : List ℕ) → below breach ≡ answeredBy done (tells breach values)
+pub breach-answered : (breach : ℕ) (values : List ℕ) → below breach ≡ answered_by done (tells breach values)
 unfolding tells answered
 breach-answered breach values = go (eqb breach 0) refl
   where
-    go : (b : Bool) → eqb breach 0 ≡ b → below breach ≡ answeredBy done (cond b (result values) (refusal breach))
+    go : (b : Bool) → eqb breach 0 ≡ b → below breach ≡ answered_by done (cond b (result values) (refusal breach))
     go true none = ap below (eqb-true breach 0 none)
     go false some = refl

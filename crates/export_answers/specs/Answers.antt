@@ -10,9 +10,9 @@ abbrev pub below : ℕ → ℤ
 below number = neg_ℤ (pos number)
 
 -- a result by the number that stands for its values, and a refusal below 0
-abbrev pub answeredBy : (List ℕ → ℕ) → Told → ℤ
-answeredBy standing (result values) = pos (standing values)
-answeredBy standing (refusal number) = below number
+abbrev pub answered_by : (List ℕ → ℕ) → Told → ℤ
+answered_by standing (result values) = pos (standing values)
+answered_by standing (refusal number) = below number
 
 -- what stands for the result of a call that only fills what it was lent
 abbrev pub done : List ℕ → ℕ
@@ -34,12 +34,12 @@ two lower upper = record { lower = lower; upper = upper }
 
 -- two numbers that were lent for a pair: they take the values of a result; where it has none, or the call is refused,
 -- they hold what they held
-abbrev pub leftBy : Told → Enclosure → Enclosure
-leftBy (result values) was = two (get_or values 0 was.lower) (get_or values 1 was.upper)
-leftBy (refusal number) was = was
+abbrev pub left_by : Told → Enclosure → Enclosure
+left_by (result values) was = two (get_or values 0 was.lower) (get_or values 1 was.upper)
+left_by (refusal number) was = was
 
 -- a call for bounds in two slices: what is due as its answer and in each slice, and what it answers and leaves
 pub record FillsPair (due : ℤ) (lower-due upper-due lower upper : List ℕ) (answer : ℤ) : Type 0 where
   pub answered : answer ≡ due
-  pub lower-left : lower ≡ lower-due
-  pub upper-left : upper ≡ upper-due
+  pub lower_left : lower ≡ lower-due
+  pub upper_left : upper ≡ upper-due

@@ -1,7 +1,7 @@
 // What a call answers in C: a count or 0, or the number of its refusal below 0; and a pair of bounds in two numbers.
 ghost use Rattle.std.specs.Prelude.{◌≡◌, pos};
-ghost use Rattle.answers.specs.Told.{outcomeTold, listingTold, countTold};
-ghost use Rattle.export_answers.specs.Answers.{below, answeredBy, done, count, two};
+ghost use Rattle.answers.specs.Told.{outcome_told, listing_told, count_told};
+ghost use Rattle.export_answers.specs.Answers.{below, answered_by, done, count, two};
 
 use answers::{CountAnswer, Enclosure, Listing, Outcome};
 
@@ -21,7 +21,7 @@ pub fn refused(number: u8) -> i64
 
 // The answer of a call that only fills what it was lent.
 pub fn answer_outcome(outcome: Outcome) -> i64
-    ensures { result ≡ answeredBy done (outcomeTold outcome) }
+    ensures { result ≡ answered_by done (outcome_told outcome) }
 {
     match outcome {
         Outcome::Done => 0,
@@ -31,7 +31,7 @@ pub fn answer_outcome(outcome: Outcome) -> i64
 
 // The answer of the call for the list of paths.
 pub fn answer_listing(listing: Listing) -> i64
-    ensures { result ≡ answeredBy count (listingTold listing) }
+    ensures { result ≡ answered_by count (listing_told listing) }
 {
     match listing {
         Listing::Listed(count) => counted(count.paths),
@@ -41,7 +41,7 @@ pub fn answer_listing(listing: Listing) -> i64
 
 // The answer of a call that counts what it wrote.
 pub fn answer_count(answer: CountAnswer) -> i64
-    ensures { result ≡ answeredBy count (countTold answer) }
+    ensures { result ≡ answered_by count (count_told answer) }
 {
     match answer {
         CountAnswer::Count(number) => counted(number),

@@ -1,8 +1,8 @@
 // The interruption figures of an opened study for C, by its gates or by a drawn tree, each in two numbers.
 ghost use Rattle.std.specs.Prelude.{◌+◌, ◌≡◌};
-ghost use Rattle.answers.specs.Told.{result, caidiValues};
-ghost use Rattle.meaning.specs.Sources.{meaningOf};
-ghost use Rattle.export_answers.specs.Answers.{pairs, two, leftBy};
+ghost use Rattle.answers.specs.Told.{result, caidi_values};
+ghost use Rattle.meaning.specs.Sources.{meaning_of};
+ghost use Rattle.export_answers.specs.Answers.{pairs, two, left_by};
 ghost use Rattle.export_losses.specs.Figures.{TakesFigures, GivesFigures};
 
 use answers::{Caidi, FiguresAnswer};
@@ -12,9 +12,9 @@ use study_image::read_image;
 
 // Hands CAIDI over where it is stated; answers how many figures are stated, the three others among them.
 fn hand_caidi(caidi: Caidi, lower: &mut u64, upper: &mut u64) -> u32
-    ensures* r_value { λ r. ⌜ r ≡ 3 + pairs (caidiValues caidi) ⌝ }
+    ensures* r_value { λ r. ⌜ r ≡ 3 + pairs (caidi_values caidi) ⌝ }
     ensures* upper_after { λ r. ⌜ two lower.new upper.new
-        ≡ leftBy (result (caidiValues caidi)) (two lower.old upper.old) ⌝ }
+        ≡ left_by (result (caidi_values caidi)) (two lower.old upper.old) ⌝ }
 {
     match caidi {
         Caidi::Bounds(pair) => {
@@ -74,7 +74,7 @@ pub fn figures(
     maifi_lower: &mut u64,
     maifi_upper: &mut u64,
 ) -> i64
-    ensures* { λ r. ⌜ GivesFigures (meaningOf source tree.now) study.now
+    ensures* { λ r. ⌜ GivesFigures (meaning_of source tree.now) study.now
         (two saifi_lower.old saifi_upper.old)
         (two saidi_lower.old saidi_upper.old)
         (two caidi_lower.old caidi_upper.old)

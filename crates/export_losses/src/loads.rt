@@ -1,6 +1,6 @@
 // The losses of an opened study's loads for C, by its gates or by a drawn tree, and the loads that a class loses.
-ghost use Rattle.answers.specs.Told.{boundsTold};
-ghost use Rattle.meaning.specs.Sources.{meaningOf};
+ghost use Rattle.answers.specs.Told.{bounds_told};
+ghost use Rattle.meaning.specs.Sources.{meaning_of};
 ghost use Rattle.export_answers.specs.Answers.{two};
 ghost use Rattle.export_losses.specs.Losses.{TakesPair, BoundsLoad, CountsLost};
 
@@ -12,7 +12,7 @@ use study_image::read_image;
 
 // Hands on the bounds that a call answered.
 fn hand_bounds(answer: BoundsAnswer, lower: &mut u64, upper: &mut u64) -> i64
-    ensures { TakesPair (boundsTold answer)
+    ensures { TakesPair (bounds_told answer)
         (two lower.old upper.old) (two lower.new upper.new) result }
 {
     match answer {
@@ -33,7 +33,7 @@ pub fn load_bounds(
     lower: &mut u64,
     upper: &mut u64,
 ) -> i64
-    ensures { BoundsLoad (meaningOf source tree.now) study.now load
+    ensures { BoundsLoad (meaning_of source tree.now) study.now load
         (two lower.old upper.old) (two lower.new upper.new) result }
 {
     hand_bounds(

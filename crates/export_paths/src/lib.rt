@@ -1,6 +1,6 @@
 // The paths and classes of an opened study for C, by its gates or by a drawn tree: the list of its paths, and bounds
 // for each path and class. Gates look at no tree.
-ghost use Rattle.meaning.specs.Sources.{meaningOf};
+ghost use Rattle.meaning.specs.Sources.{meaning_of};
 ghost use Rattle.export_paths.specs.Paths.{ListsPaths, BoundsPaths, BoundsClasses};
 
 use export_answers::{answer_count, answer_listing, answer_outcome};
@@ -10,7 +10,7 @@ use study_image::read_image;
 // Lists the paths of a study at the front of the buffer; answers how many there are. Refused by 16, then 20, 21 or 22,
 // then 18.
 pub fn list_paths(source: Source, study: &[u8], tree: &[u8], buffer: &mut [u8]) -> i64
-    ensures { ListsPaths (meaningOf source tree.now) study.now
+    ensures { ListsPaths (meaning_of source tree.now) study.now
         buffer.old buffer.new result }
 {
     answer_listing(path_calls::list_meant(source, read_image(study), tree, buffer))
@@ -25,7 +25,7 @@ pub fn path_bounds(
     lower: &mut [u64],
     upper: &mut [u64],
 ) -> i64
-    ensures { BoundsPaths (meaningOf source tree.now) study.now
+    ensures { BoundsPaths (meaning_of source tree.now) study.now
         lower.old upper.old lower.new upper.new result }
 {
     answer_count(path_calls::paths_meant(source, read_image(study), tree, lower, upper))
@@ -39,7 +39,7 @@ pub fn class_bounds(
     lower: &mut [u64],
     upper: &mut [u64],
 ) -> i64
-    ensures { BoundsClasses (meaningOf source tree.now) study.now
+    ensures { BoundsClasses (meaning_of source tree.now) study.now
         lower.old upper.old lower.new upper.new result }
 {
     answer_outcome(path_calls::classes_meant(source, read_image(study), tree, lower, upper))

@@ -1,6 +1,6 @@
 // Opening: the study is kept in a lent slice as its image.
 ghost use Rattle.std.specs.Prelude.{◌≡◌};
-ghost use Rattle.answers.specs.Told.{numberTold, outcomeTold};
+ghost use Rattle.answers.specs.Told.{number_told, outcome_told};
 ghost use Rattle.export_studies.specs.Images.{KeepsStudy, Opens};
 
 use answers::{Outcome, StudyAnswer};
@@ -10,7 +10,7 @@ use study_image::{IMAGE_BYTES, write_image};
 
 // The number by which a call was refused; 0 where it was done.
 fn refusal(outcome: Outcome) -> u8
-    ensures { result ≡ numberTold (outcomeTold outcome) }
+    ensures { result ≡ number_told (outcome_told outcome) }
 {
     match outcome {
         Outcome::Done => 0,

@@ -1,6 +1,6 @@
 // The losses of an opened study, by its gates or by a drawn tree: bounds for the loss of a load, and the figures; and
 // the loads that a class loses.
-ghost use Rattle.meaning.specs.Meaning.{byGates, byTree};
+ghost use Rattle.meaning.specs.Meaning.{by_gates, by_tree};
 ghost use Rattle.export_answers.specs.Answers.{two};
 ghost use Rattle.export_losses.specs.Figures.{GivesFigures};
 ghost use Rattle.export_losses.specs.Losses.{BoundsLoad, CountsLost};
@@ -16,7 +16,7 @@ pub extern "C" fn grid_load_bounds(
     lower: &mut u64,
     upper: &mut u64,
 ) -> i64
-    ensures { BoundsLoad byGates study.now load
+    ensures { BoundsLoad by_gates study.now load
         (two lower.old upper.old) (two lower.new upper.new) result }
 {
     export_losses::load_bounds(Source::Gates, study, &[], load, lower, upper)
@@ -31,7 +31,7 @@ pub extern "C" fn grid_drawn_load_bounds(
     lower: &mut u64,
     upper: &mut u64,
 ) -> i64
-    ensures { BoundsLoad (byTree tree.now) study.now load
+    ensures { BoundsLoad (by_tree tree.now) study.now load
         (two lower.old upper.old) (two lower.new upper.new) result }
 {
     export_losses::load_bounds(Source::Tree, study, tree, load, lower, upper)
@@ -51,7 +51,7 @@ pub extern "C" fn grid_figures(
     maifi_lower: &mut u64,
     maifi_upper: &mut u64,
 ) -> i64
-    ensures { GivesFigures byGates study.now
+    ensures { GivesFigures by_gates study.now
         (two saifi_lower.old saifi_upper.old)
         (two saidi_lower.old saidi_upper.old)
         (two caidi_lower.old caidi_upper.old)
@@ -90,7 +90,7 @@ pub extern "C" fn grid_drawn_figures(
     maifi_lower: &mut u64,
     maifi_upper: &mut u64,
 ) -> i64
-    ensures { GivesFigures (byTree tree.now) study.now
+    ensures { GivesFigures (by_tree tree.now) study.now
         (two saifi_lower.old saifi_upper.old)
         (two saidi_lower.old saidi_upper.old)
         (two caidi_lower.old caidi_upper.old)

@@ -6,39 +6,39 @@ use mathlib.Core.List.{List}
 use native.Mathlib.Omega.{arith}
 use lib.ListN.{length, get_or, take, replicate}
 use lib.Seq.{length-take-le}
-use Rattle.rules.specs.Limits.{mostComponents, mostGates}
+use Rattle.rules.specs.Limits.{most_components, most_gates}
 use Rattle.joint_states.specs.JointStates.{JointState}
 use Rattle.joint_states.proofs.Numbered.{number_up}
 use Rattle.study.specs.declared.Study.{Study}
-use Rattle.study.specs.Joint.{stateCounts}
-use Rattle.study.specs.Places.{gateAt}
+use Rattle.study.specs.Joint.{state_counts}
+use Rattle.study.specs.Places.{gate_at}
 use Rattle.ordering.specs.Inputs.{Input}
-use Rattle.gate_order.specs.Rows.{distinctGate}
+use Rattle.gate_order.specs.Rows.{distinct_gate}
 use Rattle.gate_order.proofs.Distinct.{distinct-fits, distinct-tests-every, distinct-gate-inputs-every}
 use Rattle.gate_order.proofs.InOrder.{Fits}
 use Rattle.soundness.specs.Sound.{Sound}
 use Rattle.soundness.proofs.Ranges.{components-most, gates-most, counts-long, counts-small, count-least}
 use Rattle.soundness.proofs.Ranges.{tests-most, gate-inputs-most, test-component, input-lower}
-use Rattle.fault_tree.specs.Readable.{RowReadable, allUp, TableBegins}
-use Rattle.fault_tree.specs.Rows.{rowPlaces, RowsOf}
+use Rattle.fault_tree.specs.Readable.{RowReadable, all_up, TableBegins}
+use Rattle.fault_tree.specs.Rows.{row_places, RowsOf}
 use Rattle.fault_tree.proofs.GateRows.{row_room}
 
-module _ (t : Study) (counts : List ℕ) (s : Sound t) (same : counts ≡ stateCounts t) (rows : List ℕ) (rowed : RowsOf t.gate t.gates rows) (i : ℕ)
+module _ (t : Study) (counts : List ℕ) (s : Sound t) (same : counts ≡ state_counts t) (rows : List ℕ) (rowed : RowsOf t.gate t.gates rows) (i : ℕ)
     (h : i < t.gates) where
   -- gate i has its places, and no more inputs than those
-  pub gate-fits : Fits (gateAt t i)
+  pub gate-fits : Fits (gate_at t i)
   gate-fits = record { shaped = rowed.shaped i h; tests = tests-most t s i h; gates = gate-inputs-most t s i h }
 
   -- its row, in joint state x, where the gates have these truths
-  pub row-readable : (x : List ℕ) (truths : List Bool) → JointState counts x → length truths ≡ mostGates → RowReadable rows (i * rowPlaces) x truths
+  pub row-readable : (x : List ℕ) (truths : List Bool) → JointState counts x → length truths ≡ most_gates → RowReadable rows (i * row_places) x truths
   row-readable x truths j long =
       let row = rowed.each i h in
       let inside = row_room rowed (gates-most t s) h in
-      let few = distinct-fits (gateAt t i) gate-fits in
+      let few = distinct-fits (gate_at t i) gate-fits in
       let component =
-      distinct-tests-every (λ (a : Input). a.number < length x) (gateAt t i) gate-fits (λ k less. rw (j.long, same) (test-component t s i h k less)) in
+      distinct-tests-every (λ (a : Input). a.number < length x) (gate_at t i) gate-fits (λ k less. rw (j.long, same) (test-component t s i h k less)) in
       let input =
-      distinct-gate-inputs-every (λ (a : Input). a.number < length truths) (gateAt t i) gate-fits
+      distinct-gate-inputs-every (λ (a : Input). a.number < length truths) (gate_at t i) gate-fits
       (λ k less. omega (arith, input-lower t s i h k less, gates-most t s, long)) in
       record {
         tests =
@@ -47,7 +47,7 @@ module _ (t : Study) (counts : List ℕ) (s : Sound t) (same : counts ≡ stateC
               count = omega (arith, row.tests, few.tests);
               component =
                   λ k less.
-                  let below : k < (distinctGate (gateAt t i)).tests = omega (arith, less, row.tests) in
+                  let below : k < (distinct_gate (gate_at t i)).tests = omega (arith, less, row.tests) in
                   omega (arith, row.component k (omega (arith, below, few.tests)), component k below);
               state = λ k less. omega (arith, j.below k (omega (arith, j.long)), counts-small t s counts same k (omega (arith, j.long)));
             };
@@ -57,7 +57,7 @@ module _ (t : Study) (counts : List ℕ) (s : Sound t) (same : counts ≡ stateC
               count = omega (arith, row.gates, few.gates);
               input =
                   λ k less.
-                  let below : k < (distinctGate (gateAt t i)).gates = omega (arith, less, row.gates) in
+                  let below : k < (distinct_gate (gate_at t i)).gates = omega (arith, less, row.gates) in
                   omega (arith, row.input k (omega (arith, below, few.gates)), input k below);
             };
       }
@@ -72,8 +72,8 @@ zeros (suc m) (suc n) zero = refl
 zeros (suc m) (suc n) (suc k) = zeros m n k
 
 -- a class table begins there
-pub begins : (t : Study) → Sound t → length t.component ≡ mostComponents → TableBegins t (stateCounts t) (take t.components allUp)
-unfolding allUp
+pub begins : (t : Study) → Sound t → length t.component ≡ most_components → TableBegins t (state_counts t) (take t.components all_up)
+unfolding all_up
 begins t s places =
     let long = counts-long t s places in
     record {
@@ -81,8 +81,8 @@ begins t s places =
       same = refl;
       joint =
           record {
-            long = length-take-le t.components allUp (components-most t s) ∙ sym long;
-            below = λ k h. rw (zeros mostComponents t.components k) (omega (arith, count-least t s k (omega (arith, long))));
+            long = length-take-le t.components all_up (components-most t s) ∙ sym long;
+            below = λ k h. rw (zeros most_components t.components k) (omega (arith, count-least t s k (omega (arith, long))));
           };
-      first = number_up (stateCounts t) (take t.components allUp) (zeros mostComponents t.components);
+      first = number_up (state_counts t) (take t.components all_up) (zeros most_components t.components);
     }

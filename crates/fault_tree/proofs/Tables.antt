@@ -7,40 +7,40 @@ use native.Mathlib.Omega.{arith}
 use lib.ListN.{length, get_or, set, length-map}
 use Rattle.lists.specs.Product.{product}
 use Rattle.lists.specs.Rows.{put}
-use Rattle.lists.proofs.Maps.{getD-map-inside}
+use Rattle.lists.proofs.Maps.{get_d-map-inside}
 use Rattle.lists.proofs.Writing.{Writing, writing_start, writing_more, writing-room, writing-done}
-use Rattle.rules.specs.Limits.{mostJointStates}
-use Rattle.joint_states.specs.JointStates.{JointState, jointStates, number_of}
-use Rattle.joint_states.proofs.Numbered.{number-below, length-jointStates, numbered}
+use Rattle.rules.specs.Limits.{most_joint_states}
+use Rattle.joint_states.specs.JointStates.{JointState, joint_states, number_of}
+use Rattle.joint_states.proofs.Numbered.{number-below, length-joint_states, numbered}
 use Rattle.study.specs.declared.Study.{Study}
-use Rattle.study.specs.Joint.{stateCounts}
+use Rattle.study.specs.Joint.{state_counts}
 use Rattle.soundness.specs.Sound.{Sound}
 use Rattle.soundness.proofs.Ranges.{joint-most}
 use Rattle.fault_tree.specs.Readable.{TableBegins}
 use Rattle.fault_tree.specs.Classes.{class_of, classes}
 
-pub classes-long : (t : Study) → length (classes t) ≡ product (stateCounts t)
+pub classes-long : (t : Study) → length (classes t) ≡ product (state_counts t)
 unfolding classes
-classes-long t = length-map (jointStates (stateCounts t)) (class_of t) ∙ length-jointStates (stateCounts t)
+classes-long t = length-map (joint_states (state_counts t)) (class_of t) ∙ length-joint_states (state_counts t)
 
 -- the class of the joint state numbered k
-pub class-at : (t : Study) (counts x : List ℕ) → counts ≡ stateCounts t → JointState counts x → (k : ℕ) → number_of counts x ≡ k
+pub class-at : (t : Study) (counts x : List ℕ) → counts ≡ state_counts t → JointState counts x → (k : ℕ) → number_of counts x ≡ k
     → get_or (classes t) k 0 ≡ class_of t x
 unfolding classes
 class-at t counts x same j k e =
-    let inside : k < length (jointStates counts) = omega (arith, e, number-below counts x j, length-jointStates counts) in
-    rw (sym same) (getD-map-inside (class_of t) (jointStates counts) k [] 0 inside ∙ ap (class_of t) (rw e at (numbered counts x j)))
+    let inside : k < length (joint_states counts) = omega (arith, e, number-below counts x j, length-joint_states counts) in
+    rw (sym same) (get_d-map-inside (class_of t) (joint_states counts) k [] 0 inside ∙ ap (class_of t) (rw e at (numbered counts x j)))
 
 pub record Tabled (t : Study) (counts table₀ : List ℕ) (all k : ℕ) (x table : List ℕ) : Type 0 where
   pub sound : Sound t
-  pub same : counts ≡ stateCounts t
+  pub same : counts ≡ state_counts t
   pub joint : JointState counts x
   pub number : number_of counts x ≡ k % product counts
   pub whole : all ≡ product counts
   pub writing : Writing (classes t) table₀ 0 k table k
 
 module _ {t : Study} {counts table₀ : List ℕ} {all : ℕ} where
-  pub tabled_start : {x : List ℕ} → TableBegins t counts x → mostJointStates ≤ length table₀ → all ≡ product counts → Tabled t counts table₀ all 0 x table₀
+  pub tabled_start : {x : List ℕ} → TableBegins t counts x → most_joint_states ≤ length table₀ → all ≡ product counts → Tabled t counts table₀ all 0 x table₀
   tabled_start b room whole =
       record {
         sound = b.sound;

@@ -1,14 +1,14 @@
 // The class of a joint state: bit j stands when load j is lost.
 ghost use Rattle.std.specs.Prelude.{◌≤◌, ◌≡◌};
-ghost use Rattle.rules.specs.Limits.{mostLoads};
-ghost use Rattle.fault_tree.specs.Classes.{lost as Classes·lost, classBy, loadsLost};
+ghost use Rattle.rules.specs.Limits.{most_loads};
+ghost use Rattle.fault_tree.specs.Classes.{lost as classes_lost, class_by, loads_lost};
 
 use entries::{Class, class_ones};
 use rules::{LOAD_PLACES, NEVER};
 use study::Load;
 
 fn lost(truths: &[bool], l: Load) -> bool
-    ensures { result ≡ Classes·lost truths.now l }
+    ensures { result ≡ classes_lost truths.now l }
 {
     if l.gate == NEVER {
         return false;
@@ -22,8 +22,8 @@ fn lost(truths: &[bool], l: Load) -> bool
 
 // The class of a joint state in which the gates have these truths.
 pub fn class_by(truths: &[bool], load: [Load; LOAD_PLACES], n: u8) -> Class
-    requires { n ≤ mostLoads }
-    ensures { result ≡ classBy truths.now load n }
+    requires { n ≤ most_loads }
+    ensures { result ≡ class_by truths.now load n }
 {
     let loads = n as usize;
     let mut class: Class = 0;
@@ -38,7 +38,7 @@ pub fn class_by(truths: &[bool], load: [Load; LOAD_PLACES], n: u8) -> Class
 
 // How many loads are lost in a class.
 pub fn loads_lost(class: Class) -> u32
-    ensures { result ≡ loadsLost class }
+    ensures { result ≡ loads_lost class }
 {
     class_ones(class)
 }

@@ -1,10 +1,10 @@
 // All gates as rows of bytes, one behind the other, each with its distinct inputs alone: they are found once, and what reads the rows for each joint state
 // copies no gate.
 ghost use Rattle.std.specs.Prelude.{ℕ, ◌+◌, ◌<◌, ◌≤◌, ◌≡◌, length, get_or};
-ghost use Rattle.rules.specs.Limits.{mostGates};
-ghost use Rattle.study.specs.Places.{noGate};
+ghost use Rattle.rules.specs.Limits.{most_gates};
+ghost use Rattle.study.specs.Places.{no_gate};
 ghost use Rattle.gate_order.specs.Order.{InOrder};
-ghost use Rattle.fault_tree.specs.Rows.{rowPlaces, rowsPlaces, RowPut, RowsOf};
+ghost use Rattle.fault_tree.specs.Rows.{row_places, rows_places, RowPut, RowsOf};
 
 use gate_order::without_repeats;
 use rules::{GATE_PLACES, INPUT_PLACES, TEST_PLACES};
@@ -30,14 +30,14 @@ pub const ROWS_PLACES: usize = GATE_PLACES * ROW_PLACES;
 
 // Room for the rows of all gates.
 pub fn no_rows() -> [u8; ROWS_PLACES]
-    ensures { rowsPlaces ≡ length result }
+    ensures { rows_places ≡ length result }
 {
     [0; ROWS_PLACES]
 }
 
 // Writes the row of a gate from a place on.
 fn put_row(rows: &mut [u8], at: usize, g: Gate)
-    requires { at + rowPlaces ≤ length rows.old }
+    requires { at + row_places ≤ length rows.old }
     ensures { RowPut g rows.old at rows.new }
 {
     let component = g.component;
@@ -52,9 +52,9 @@ fn put_row(rows: &mut [u8], at: usize, g: Gate)
 
 // Writes the rows of the first n gates, whose inputs are in order.
 pub fn put_rows(rows: &mut [u8], gate: [Gate; GATE_PLACES], n: usize)
-    requires few { n ≤ mostGates }
-    requires order { (i : ℕ) → i < n → InOrder (get_or gate i noGate) }
-    requires room { rowsPlaces ≡ length rows.old }
+    requires few { n ≤ most_gates }
+    requires order { (i : ℕ) → i < n → InOrder (get_or gate i no_gate) }
+    requires room { rows_places ≡ length rows.old }
     ensures { RowsOf gate n rows.new }
 {
     let mut i: usize = 0;

@@ -1,10 +1,10 @@
 // The classes of all joint states, into a lent class table.
 ghost use Rattle.std.specs.Prelude.{◌≤◌, ◌≡◌, length};
 ghost use Rattle.lists.specs.Rows.{put};
-ghost use Rattle.rules.specs.Limits.{mostJointStates};
+ghost use Rattle.rules.specs.Limits.{most_joint_states};
 ghost use Rattle.soundness.specs.Sound.{Sound};
 ghost use Rattle.fault_tree.specs.Classes.{classes};
-ghost use Rattle.fault_tree.specs.Readable.{allUp, TableBegins};
+ghost use Rattle.fault_tree.specs.Readable.{all_up, TableBegins};
 
 use crate::class::class_by;
 use crate::rows::{ROW_PLACES, no_rows, put_rows};
@@ -16,7 +16,7 @@ use study::{Study, joint_states, state_counts};
 
 // Every component place up.
 fn all_up() -> [u8; COMPONENT_PLACES]
-    ensures { result ≡ allUp }
+    ensures { result ≡ all_up }
 {
     [0; COMPONENT_PLACES]
 }
@@ -25,7 +25,7 @@ fn all_up() -> [u8; COMPONENT_PLACES]
 // is moved on from there.
 fn fill_table(t: Study, counts: &[u8], x: &mut [u8], table: &mut [Class])
     requires table_begins { TableBegins t counts.now x.old }
-    requires most_joint_states_in_bounds { mostJointStates ≤ length table.old }
+    requires most_joint_states_in_bounds { most_joint_states ≤ length table.old }
     ensures { table.new ≡ put table.old 0 (classes t) }
 {
     let gate = t.gate;
@@ -53,7 +53,7 @@ fn fill_table(t: Study, counts: &[u8], x: &mut [u8], table: &mut [Class])
 // Writes the classes of all joint states of a sound study at the front of a class table.
 pub fn put_classes(t: Study, table: &mut [Class])
     requires sound { Sound t }
-    requires most_joint_states_in_bounds { mostJointStates ≤ length table.old }
+    requires most_joint_states_in_bounds { most_joint_states ≤ length table.old }
     ensures { table.new ≡ put table.old 0 (classes t) }
 {
     let component = t.component;

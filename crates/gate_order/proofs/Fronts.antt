@@ -15,9 +15,9 @@ use Rattle.ordering.specs.Sorting.{Hold}
 use Rattle.ordering.proofs.Pairs.{paired-take, paired_long, paired-unmasked}
 use Rattle.ordering.proofs.Sets.{distinct-most}
 use Rattle.ordering.proofs.Sorted.{sorted-long}
-use Rattle.rules.specs.Limits.{mostGateInputs}
+use Rattle.rules.specs.Limits.{most_gate_inputs}
 use Rattle.gate_order.specs.Inputs.{unmasked}
-use Rattle.gate_order.specs.Rows.{noMasks}
+use Rattle.gate_order.specs.Rows.{no_masks}
 use Rattle.gate_order.proofs.Rows.{take_within}
 
 module _ (count size k : ℕ) (within : k ≡ min count size) where
@@ -45,30 +45,30 @@ module _ (count size k : ℕ) (within : k ≡ min count size) where
 
   -- two rows whose front parts are a row of inputs side by side
   module _ (c m x y : List ℕ) (row : List Input) (long : length c ≡ size) (long' : length m ≡ size) (same : paired (take k c) (take k m) ≡ row) where
-    row-long : length row ≡ k
-    row-long = ap length (sym same) ∙ paired_long (take k c) (take k m) (fronts-long c m long long') ∙ sym (front_long c long)
+    row_long : length row ≡ k
+    row_long = ap length (sym same) ∙ paired_long (take k c) (take k m) (fronts-long c m long long') ∙ sym (front_long c long)
 
     part-fronted : (front : List Input) (n : ℕ) → length front ≤ k → Fronted (take k c) (take k m) front x y n
         → Fronted c m front (x ++ drop k c) (y ++ drop k m) n
     part-fronted front n few part =
         record {
-          in-numbers = part-put c x (numbers front) long (omega (arith, few, length-map front (λ (a : Input). a.number))) part.in-numbers;
-          in-masks = part-put m y (masks front) long' (omega (arith, few, length-map front (λ (a : Input). a.mask))) part.in-masks;
+          in_numbers = part-put c x (numbers front) long (omega (arith, few, length-map front (λ (a : Input). a.number))) part.in_numbers;
+          in_masks = part-put m y (masks front) long' (omega (arith, few, length-map front (λ (a : Input). a.mask))) part.in_masks;
           many = part.many;
         }
 
     -- sorted
     pub sorted_front : Hold x y (sorted (paired (take k c) (take k m))) → Fronted c m (sorted row) (x ++ drop k c) (y ++ drop k m) k
     sorted_front sorts =
-        let all : length (sorted row) ≡ k = sorted-long row ∙ row-long in
+        let all : length (sorted row) ≡ k = sorted-long row ∙ row_long in
         let held : Hold x y (sorted row) = rw same at sorts in
         part-fronted (sorted row) k (omega (arith, all))
         (record {
-          in-numbers =
-              held.in-numbers
+          in_numbers =
+              held.in_numbers
               ∙ sym (put_whole (take k c) (numbers (sorted row)) (length-map (sorted row) (λ (a : Input). a.number) ∙ all ∙ front_long c long));
-          in-masks =
-              held.in-masks
+          in_masks =
+              held.in_masks
               ∙ sym (put_whole (take k m) (masks (sorted row)) (length-map (sorted row) (λ (a : Input). a.mask) ∙ all ∙ front_long m long'));
           many = sym all;
         })
@@ -76,14 +76,14 @@ module _ (count size k : ℕ) (within : k ≡ min count size) where
     -- the distinct ones
     pub distinct-front : (n : ℕ) → Fronted (take k c) (take k m) (distinct (paired (take k c) (take k m))) x y n
         → Fronted c m (distinct row) (x ++ drop k c) (y ++ drop k m) n
-    distinct-front n keeps = part-fronted (distinct row) n (omega (arith, distinct-most row, row-long)) (rw same at keeps)
+    distinct-front n keeps = part-fronted (distinct row) n (omega (arith, distinct-most row, row_long)) (rw same at keeps)
 
 -- gate inputs, beside masks of 0
-pub inputs-front : (count k : ℕ) → k ≡ min count mostGateInputs → (l m : List ℕ) → length l ≡ mostGateInputs → m ≡ noMasks
+pub inputs-front : (count k : ℕ) → k ≡ min count most_gate_inputs → (l m : List ℕ) → length l ≡ most_gate_inputs → m ≡ no_masks
     → paired (take k l) (take k m) ≡ take count (map unmasked l)
-unfolding noMasks
+unfolding no_masks
 inputs-front count k within l m long none =
     let beside : paired l m ≡ map unmasked l = ap (paired l) none ∙ ap (λ (n : ℕ). paired l (replicate n 0)) (sym long) ∙ paired-unmasked l in
     paired-take k l m
     ∙ ap (take k) beside
-    ∙ take-front count mostGateInputs k within (map unmasked l) (length-map l unmasked ∙ long)
+    ∙ take-front count most_gate_inputs k within (map unmasked l) (length-map l unmasked ∙ long)

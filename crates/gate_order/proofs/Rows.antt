@@ -10,7 +10,7 @@ use lib.Seq.{take_all, take_at, length-take-le}
 use Rattle.lists.specs.Rows.{put}
 use Rattle.lists.proofs.Elements.{Every}
 use Rattle.lists.proofs.Puts.{put-size}
-use Rattle.ordering.specs.Inputs.{Input, noInput, paired, numbers, masks}
+use Rattle.ordering.specs.Inputs.{Input, no_input, paired, numbers, masks}
 use Rattle.ordering.proofs.Pairs.{parted-paired, paired-numbers, paired-masks, paired-take, paired_long}
 use Rattle.gate_order.specs.Inputs.{unmasked}
 
@@ -69,7 +69,7 @@ tests-written c m n row same e =
     (paired_long (put c 0 (numbers row)) (put m 0 (masks row)) (c-long ∙ same ∙ sym m-long) ∙ c-long) e (tests-first c m row)
 
 -- gate inputs have no mask
-numbers-unmasked : (row : List Input) → Every (λ (a : Input). a.mask ≡ 0) noInput row → map unmasked (numbers row) ≡ row
+numbers-unmasked : (row : List Input) → Every (λ (a : Input). a.mask ≡ 0) no_input row → map unmasked (numbers row) ≡ row
 numbers-unmasked [] none = refl
 numbers-unmasked (a ∷ row) none =
     let mask = none 0 (omega arith) in
@@ -78,14 +78,14 @@ numbers-unmasked (a ∷ row) none =
     λ i. first i ∷ rest i
 
 -- gate inputs written over the front
-inputs-first : (l : List ℕ) (row : List Input) → Every (λ (a : Input). a.mask ≡ 0) noInput row → take (length row) (map unmasked (put l 0 (numbers row))) ≡ row
+inputs-first : (l : List ℕ) (row : List Input) → Every (λ (a : Input). a.mask ≡ 0) no_input row → take (length row) (map unmasked (put l 0 (numbers row))) ≡ row
 unfolding put
 inputs-first l row none =
     ap (take (length row)) (map-append (numbers row) _)
     ∙ take_at (map unmasked (numbers row)) _ (length row) (ap length (numbers-unmasked row none))
     ∙ numbers-unmasked row none
 
-pub inputs-written : (l : List ℕ) (n : ℕ) (row : List Input) → length row ≡ min n (length l) → Every (λ (a : Input). a.mask ≡ 0) noInput row
+pub inputs-written : (l : List ℕ) (n : ℕ) (row : List Input) → length row ≡ min n (length l) → Every (λ (a : Input). a.mask ≡ 0) no_input row
     → take n (map unmasked (put l 0 (numbers row))) ≡ row
 inputs-written l n row e none =
     let numbers-long = length-map row (λ (a : Input). a.number) in

@@ -4,11 +4,11 @@ use Rattle.std.specs.Prelude.{ℕ}
 use Rattle.ordering.specs.Inputs.{paired}
 use Rattle.ordering.specs.Sorting.{ascends}
 use Rattle.rules.specs.Breach.{first}
-use Rattle.rules.specs.Table.{unsoundFault}
+use Rattle.rules.specs.Table.{unsound_fault}
 use Rattle.study.specs.declared.Gate.{Gate}
-use Rattle.gate_order.specs.Inputs.{testsOf, gateInputsOf}
+use Rattle.gate_order.specs.Inputs.{tests_of, gate_inputs_of}
 
 -- 16 for a gate whose inputs are out of order
-unfoldable pub orderFault : Gate → ℕ
+unfoldable pub order_fault : Gate → ℕ
 unfolding paired ascends
-orderFault g = first (unsoundFault (ascends (testsOf g))) (unsoundFault (ascends (gateInputsOf g)))
+order_fault g = first (unsound_fault (ascends (tests_of g))) (unsound_fault (ascends (gate_inputs_of g)))

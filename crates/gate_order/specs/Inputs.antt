@@ -6,17 +6,17 @@ use Rattle.ordering.specs.Inputs.{Input, paired}
 use Rattle.study.specs.declared.Gate.{Gate}
 
 -- the tests of a gate, as they stand
-abbrev pub testsOf : Gate → List Input
-testsOf g = take g.tests (paired g.component g.mask)
+abbrev pub tests_of : Gate → List Input
+tests_of g = take g.tests (paired g.component g.mask)
 
 -- its gate inputs, as they stand
 abbrev pub unmasked : ℕ → Input
 unmasked n = record { number = n; mask = 0 }
 
-abbrev pub gateInputsOf : Gate → List Input
-gateInputsOf g = take g.gates (map unmasked g.input)
+abbrev pub gate_inputs_of : Gate → List Input
+gate_inputs_of g = take g.gates (map unmasked g.input)
 
 -- how many inputs a gate has, tests and gates together, by which its threshold is judged
-unfoldable pub inputCount : Gate → ℕ
+unfoldable pub input_count : Gate → ℕ
 unfolding paired distinct
-inputCount g = length (distinct (testsOf g)) + length (distinct (gateInputsOf g))
+input_count g = length (distinct (tests_of g)) + length (distinct (gate_inputs_of g))

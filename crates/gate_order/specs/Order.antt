@@ -5,35 +5,35 @@ use Rattle.lists.specs.Rows.{put}
 use Rattle.ordering.specs.Inputs.{paired, numbers, masks, Ascending, sorted}
 use Rattle.study.specs.declared.Gate.{Gate}
 use Rattle.study.specs.declared.Study.{Study}
-use Rattle.gate_order.specs.Inputs.{testsOf, gateInputsOf}
+use Rattle.gate_order.specs.Inputs.{tests_of, gate_inputs_of}
 
 -- the inputs of a gate stand in order
 pub record InOrder (g : Gate) : Type 0 where
-  pub tests : Ascending (testsOf g)
-  pub gate-inputs : Ascending (gateInputsOf g)
+  pub tests : Ascending (tests_of g)
+  pub gate_inputs : Ascending (gate_inputs_of g)
 
 -- a gate with its inputs in order; the places behind them are as they were
-unfoldable pub inOrder : Gate → Gate
+unfoldable pub in_order : Gate → Gate
 unfolding put paired sorted
-inOrder g =
+in_order g =
     record {
       threshold = g.threshold;
       tests = g.tests;
-      component = put g.component 0 (numbers (sorted (testsOf g)));
-      mask = put g.mask 0 (masks (sorted (testsOf g)));
+      component = put g.component 0 (numbers (sorted (tests_of g)));
+      mask = put g.mask 0 (masks (sorted (tests_of g)));
       gates = g.gates;
-      input = put g.input 0 (numbers (sorted (gateInputsOf g)));
+      input = put g.input 0 (numbers (sorted (gate_inputs_of g)));
     }
 
 -- a study with the inputs of each gate in order
 unfoldable pub ordered : Study → Study
-unfolding inOrder
+unfolding in_order
 ordered t =
     record {
       components = t.components;
       gates = t.gates;
       loads = t.loads;
       component = t.component;
-      gate = map inOrder t.gate;
+      gate = map in_order t.gate;
       load = t.load;
     }

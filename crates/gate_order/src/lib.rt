@@ -3,12 +3,12 @@ mod gate_inputs;
 mod tests;
 
 ghost use Rattle.std.specs.Prelude.{ℕ, min, ◌≡◌, length};
-ghost use Rattle.rules.specs.Limits.{mostTests, mostGateInputs};
+ghost use Rattle.rules.specs.Limits.{most_tests, most_gate_inputs};
 ghost use Rattle.study.specs.Places.{ShapedGate};
-ghost use Rattle.gate_order.specs.Inputs.{inputCount};
-ghost use Rattle.gate_order.specs.Rows.{distinctGate};
-ghost use Rattle.gate_order.specs.Breach.{orderFault};
-ghost use Rattle.gate_order.specs.Lent.{gateOf, PutInOrder};
+ghost use Rattle.gate_order.specs.Inputs.{input_count};
+ghost use Rattle.gate_order.specs.Rows.{distinct_gate};
+ghost use Rattle.gate_order.specs.Breach.{order_fault};
+ghost use Rattle.gate_order.specs.Lent.{gate_of, PutInOrder};
 ghost use Rattle.gate_order.specs.Order.{InOrder};
 
 use gate_inputs::{count_gate_inputs, keep_distinct_gate_inputs, order_gate_inputs};
@@ -36,12 +36,12 @@ pub fn put_in_order(
     gates: u8,
     input: &mut [u8],
 ) -> u32
-    requires component { length component.old ≡ mostTests }
-    requires mask { length mask.old ≡ mostTests }
-    requires input { length input.old ≡ mostGateInputs }
+    requires component { length component.old ≡ most_tests }
+    requires mask { length mask.old ≡ most_tests }
+    requires input { length input.old ≡ most_gate_inputs }
     ensures { (threshold : ℕ) → PutInOrder
-        (gateOf threshold tests component.old mask.old gates input.old)
-        (gateOf threshold tests component.new mask.new gates input.new) result }
+        (gate_of threshold tests component.old mask.old gates input.old)
+        (gate_of threshold tests component.new mask.new gates input.new) result }
 {
     let distinct_tests = order_tests(tests, component, mask);
     let distinct_gates = order_gate_inputs(gates, input);
@@ -58,8 +58,8 @@ pub struct InputsJudged {
 
 // Goes along the inputs of a gate once.
 pub fn judge_inputs(g: Gate) -> InputsJudged
-    ensures order { result.refusal ≡ orderFault g }
-    ensures many { orderFault g ≡ 0 → result.distinct ≡ inputCount g }
+    ensures order { result.refusal ≡ order_fault g }
+    ensures many { order_fault g ≡ 0 → result.distinct ≡ input_count g }
 {
     let component = g.component;
     let mask = g.mask;
@@ -75,7 +75,7 @@ pub fn judge_inputs(g: Gate) -> InputsJudged
 // A gate in order with its distinct inputs alone. It has its places, as every gate that is given by value.
 pub fn without_repeats(g: Gate) -> Gate
     ensures places { ShapedGate g }
-    ensures inputs { InOrder g → result ≡ distinctGate g }
+    ensures inputs { InOrder g → result ≡ distinct_gate g }
 {
     let mut component = g.component;
     let mut mask = g.mask;

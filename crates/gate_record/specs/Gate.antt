@@ -1,28 +1,28 @@
 -- Reading a gate record. Bit 0: the threshold. Bit 1: the tests. Bit 2: the gate inputs.
 use Rattle.std.specs.Prelude.{ℕ, cond, List, eqb, length, get_or, set}
-use Rattle.rules.specs.Limits.{gateMaps, mostTests, mostGateInputs}
-use Rattle.rules.specs.Table.{inputsFault, noComponentFault, maskFault, aheadFault, thresholdFault}
+use Rattle.rules.specs.Limits.{gate_maps, most_tests, most_gate_inputs}
+use Rattle.rules.specs.Table.{inputs_fault, no_component_fault, mask_fault, ahead_fault, threshold_fault}
 use Rattle.reading.specs.Reader.{Reader, byte, judge, return, repeat, ◌>>=◌, ◌>>◌}
-use Rattle.reading.specs.Fields.{fieldsByMap}
+use Rattle.reading.specs.Fields.{fields_by_map}
 use Rattle.study.specs.declared.Gate.{Gate}
-use Rattle.study.specs.Absent.{absentGate}
-use Rattle.gate_order.specs.Inputs.{inputCount}
+use Rattle.study.specs.Absent.{absent_gate}
+use Rattle.gate_order.specs.Inputs.{input_count}
 
-abbrev pub withThreshold : ℕ → Gate → Gate
-withThreshold n g =
+abbrev pub with_threshold : ℕ → Gate → Gate
+with_threshold n g =
     record { threshold = n; tests = g.tests; component = g.component; mask = g.mask; gates = g.gates; input = g.input }
 
-abbrev pub withTests : ℕ → Gate → Gate
-withTests n g =
+abbrev pub with_tests : ℕ → Gate → Gate
+with_tests n g =
     record { threshold = g.threshold; tests = n; component = g.component; mask = g.mask; gates = g.gates; input = g.input }
 
-abbrev pub withGates : ℕ → Gate → Gate
-withGates n g =
+abbrev pub with_gates : ℕ → Gate → Gate
+with_gates n g =
     record { threshold = g.threshold; tests = g.tests; component = g.component; mask = g.mask; gates = n; input = g.input }
 
 -- test j is of this component, by this mask
-abbrev pub withTest : ℕ → ℕ → ℕ → Gate → Gate
-withTest j component mask g =
+abbrev pub with_test : ℕ → ℕ → ℕ → Gate → Gate
+with_test j component mask g =
     record {
       threshold = g.threshold;
       tests = g.tests;
@@ -33,8 +33,8 @@ withTest j component mask g =
     }
 
 -- gate input j is this gate
-abbrev pub withInput : ℕ → ℕ → Gate → Gate
-withInput j gate g =
+abbrev pub with_input : ℕ → ℕ → Gate → Gate
+with_input j gate g =
     record {
       threshold = g.threshold;
       tests = g.tests;
@@ -47,13 +47,13 @@ withInput j gate g =
 unfoldable pub threshold : Gate → Reader Gate
 threshold g = do
   n ← byte
-  return (withThreshold n g)
+  return (with_threshold n g)
 
 -- a count of tests or of gate inputs
-unfoldable pub inputsByte : ℕ → Reader ℕ
-inputsByte most = do
+unfoldable pub inputs_byte : ℕ → Reader ℕ
+inputs_byte most = do
   n ← byte
-  judge (inputsFault most n)
+  judge (inputs_fault most n)
   return n
 
 -- test j: a component, then a mask over that component's states; `counts` has the state count of each component of
@@ -61,36 +61,36 @@ inputsByte most = do
 unfoldable pub test : List ℕ → ℕ → Gate → Reader Gate
 test counts j g = do
   component ← byte
-  judge (noComponentFault (length counts) component)
+  judge (no_component_fault (length counts) component)
   mask ← byte
-  judge (maskFault (get_or counts component 0) mask)
-  return (withTest j component mask g)
+  judge (mask_fault (get_or counts component 0) mask)
+  return (with_test j component mask g)
 
 unfoldable pub tests : List ℕ → Gate → Reader Gate
 tests counts g = do
-  n ← inputsByte mostTests
-  repeat (test counts) n (withTests n g)
+  n ← inputs_byte most_tests
+  repeat (test counts) n (with_tests n g)
 
 -- gate input j of the gate with this number
 unfoldable pub input : ℕ → ℕ → Gate → Reader Gate
 input gate j g = do
   n ← byte
-  judge (aheadFault gate n)
-  return (withInput j n g)
+  judge (ahead_fault gate n)
+  return (with_input j n g)
 
 unfoldable pub inputs : ℕ → Gate → Reader Gate
 inputs gate g = do
-  n ← inputsByte mostGateInputs
-  repeat (input gate) n (withGates n g)
+  n ← inputs_byte most_gate_inputs
+  repeat (input gate) n (with_gates n g)
 
-unfoldable pub gateField : List ℕ → ℕ → ℕ → Gate → Reader Gate
-gateField counts gate k g = cond (eqb k 0) (threshold g) (cond (eqb k 1) (tests counts g) (inputs gate g))
+unfoldable pub gate_field : List ℕ → ℕ → ℕ → Gate → Reader Gate
+gate_field counts gate k g = cond (eqb k 0) (threshold g) (cond (eqb k 1) (tests counts g) (inputs gate g))
 
 -- the record of the gate with this number; the threshold is judged after the last field, by the number of distinct
 -- inputs
 unfoldable pub gate : List ℕ → ℕ → Reader Gate
-unfolding inputCount
+unfolding input_count
 gate counts number = do
-  g ← fieldsByMap gateMaps (gateField counts number) absentGate
-  judge (thresholdFault (inputCount g) g.threshold)
+  g ← fields_by_map gate_maps (gate_field counts number) absent_gate
+  judge (threshold_fault (input_count g) g.threshold)
   return g

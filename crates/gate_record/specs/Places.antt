@@ -3,29 +3,29 @@
 use Rattle.std.specs.Prelude.{ℕ, List}
 use Rattle.reading.specs.Reader.{Reader, return, ◌>>=◌}
 use Rattle.study.specs.declared.Gate.{Gate}
-use Rattle.study.specs.Absent.{absentGate}
-use Rattle.gate_order.specs.Lent.{gateOf}
-use Rattle.gate_order.specs.Order.{inOrder}
+use Rattle.study.specs.Absent.{absent_gate}
+use Rattle.gate_order.specs.Lent.{gate_of}
+use Rattle.gate_order.specs.Order.{in_order}
 use Rattle.gate_record.specs.Gate.{gate}
 
 -- a gate of which nothing is given, as one that is absent but for its places
-abbrev pub nothingGiven : List ℕ → List ℕ → List ℕ → Gate
-nothingGiven component mask input =
-    gateOf absentGate.threshold absentGate.tests component mask absentGate.gates input
+abbrev pub nothing_given : List ℕ → List ℕ → List ℕ → Gate
+nothing_given component mask input =
+    gate_of absent_gate.threshold absent_gate.tests component mask absent_gate.gates input
 
 -- the tests of a gate are so many, and these are their places
-abbrev pub withTestRow : ℕ → List ℕ → List ℕ → Gate → Gate
-withTestRow n component mask g =
+abbrev pub with_test_row : ℕ → List ℕ → List ℕ → Gate → Gate
+with_test_row n component mask g =
     record { threshold = g.threshold; tests = n; component = component; mask = mask; gates = g.gates; input = g.input }
 
 -- its gate inputs likewise
-abbrev pub withInputRow : ℕ → List ℕ → Gate → Gate
-withInputRow n input g =
+abbrev pub with_input_row : ℕ → List ℕ → Gate → Gate
+with_input_row n input g =
     record { threshold = g.threshold; tests = g.tests; component = g.component; mask = g.mask; gates = n; input = input }
 
 -- the same gate with its inputs in order
-unfoldable pub gateInOrder : List ℕ → ℕ → Reader Gate
-unfolding inOrder
-gateInOrder counts number = do
+unfoldable pub gate_in_order : List ℕ → ℕ → Reader Gate
+unfolding in_order
+gate_in_order counts number = do
   g ← gate counts number
-  return (inOrder g)
+  return (in_order g)

@@ -1,11 +1,11 @@
 // The gate inputs of a gate: a count, then so many numbers of lower gates, which go to lent places.
 ghost use Rattle.std.specs.Prelude.{◌≡◌, ℕ, ◌≤◌, length};
-ghost use Rattle.rules.specs.Limits.{mostGateInputs};
-ghost use Rattle.reading.specs.Fields.{whereLeft};
+ghost use Rattle.rules.specs.Limits.{most_gate_inputs};
+ghost use Rattle.reading.specs.Fields.{where_left};
 ghost use Rattle.reading.specs.Reader.{ReadsAt, ReadsWith, repeat};
 ghost use Rattle.study.specs.declared.Gate.{Gate};
-ghost use Rattle.gate_record.specs.Gate.{inputsByte, withInput, input as Gate·input, inputs};
-ghost use Rattle.gate_record.specs.Places.{withInputRow};
+ghost use Rattle.gate_record.specs.Gate.{inputs_byte, with_input, input as gate_input, inputs};
+ghost use Rattle.gate_record.specs.Places.{with_input_row};
 
 use crate::RowRead;
 use reading::{ByteRead, byte_at};
@@ -13,7 +13,7 @@ use rules::{MOST_GATE_INPUTS, ahead_fault, first, inputs_fault};
 
 // A count of tests or of gate inputs, which is in range where it is not refused.
 pub fn inputs_at(bytes: &[u8], at: usize, most: u8) -> ByteRead
-    ensures { ReadsWith (λ n. n ≤ most) bytes.now at (inputsByte most) result.refusal result.next result.value }
+    ensures { ReadsWith (λ n. n ≤ most) bytes.now at (inputs_byte most) result.refusal result.next result.value }
 {
     let b = byte_at(bytes, at);
     ByteRead {
@@ -25,7 +25,7 @@ pub fn inputs_at(bytes: &[u8], at: usize, most: u8) -> ByteRead
 
 // A gate input of the gate with this number, whatever its place.
 fn read_input(bytes: &[u8], at: usize, number: usize) -> ByteRead
-    ensures { (j : ℕ) (g : Gate) → ReadsAt bytes.now at (Gate·input number j g) result.refusal result.next (withInput j result.value g) }
+    ensures { (j : ℕ) (g : Gate) → ReadsAt bytes.now at (gate_input number j g) result.refusal result.next (with_input j result.value g) }
 {
     let b = byte_at(bytes, at);
     ByteRead {
@@ -38,8 +38,8 @@ fn read_input(bytes: &[u8], at: usize, number: usize) -> ByteRead
 // So many gate inputs, up to the first breach.
 fn read_input_list(bytes: &[u8], at: usize, number: usize, n: usize, input: &mut [u8]) -> RowRead
     requires { n ≤ length input.old }
-    ensures { (k : ℕ) (g : Gate) → ReadsAt bytes.now at (repeat (Gate·input number) n (withInputRow k input.old g)) result.refusal result.next
-        (withInputRow k input.new g) }
+    ensures { (k : ℕ) (g : Gate) → ReadsAt bytes.now at (repeat (gate_input number) n (with_input_row k input.old g)) result.refusal result.next
+        (with_input_row k input.new g) }
 {
     let mut next = at;
     let mut j: usize = 0;
@@ -67,9 +67,9 @@ pub fn read_inputs(
     absent: u8,
     input: &mut [u8],
 ) -> ByteRead
-    requires { length input.old ≡ mostGateInputs }
-    ensures { (g : Gate) → ReadsAt bytes.now at (whereLeft left (inputs number) (withInputRow absent input.old g)) result.refusal result.next
-        (withInputRow result.value input.new g) }
+    requires { length input.old ≡ most_gate_inputs }
+    ensures { (g : Gate) → ReadsAt bytes.now at (where_left left (inputs number) (with_input_row absent input.old g)) result.refusal result.next
+        (with_input_row result.value input.new g) }
 {
     if left != 1 {
         return ByteRead {

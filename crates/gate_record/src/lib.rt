@@ -3,14 +3,14 @@ mod inputs;
 mod tests;
 
 ghost use Rattle.std.specs.Prelude.{◌≡◌, ◌<◌, length};
-ghost use Rattle.rules.specs.Limits.{gateMaps, mostTests, mostGateInputs};
+ghost use Rattle.rules.specs.Limits.{gate_maps, most_tests, most_gate_inputs};
 ghost use Rattle.reading.specs.Reader.{ReadsAt};
 ghost use Rattle.reading.specs.Fields.{field_at, fields};
 ghost use Rattle.study.specs.declared.Gate.{Gate};
-ghost use Rattle.study.specs.Absent.{absentGate};
-ghost use Rattle.gate_order.specs.Lent.{gateOf};
-ghost use Rattle.gate_record.specs.Gate.{withThreshold, threshold, gateField};
-ghost use Rattle.gate_record.specs.Places.{nothingGiven, gateInOrder};
+ghost use Rattle.study.specs.Absent.{absent_gate};
+ghost use Rattle.gate_order.specs.Lent.{gate_of};
+ghost use Rattle.gate_record.specs.Gate.{with_threshold, threshold, gate_field};
+ghost use Rattle.gate_record.specs.Places.{nothing_given, gate_in_order};
 
 use gate_order::put_in_order;
 use inputs::read_inputs;
@@ -38,8 +38,8 @@ pub struct RowRead {
 
 // The field of bit 0, where the bit stands in the map. It is judged after the gate's last field.
 fn read_threshold(bytes: &[u8], at: usize, map: u8, absent: u8) -> ByteRead
-    ensures { (g : Gate) → ReadsAt bytes.now at (field_at (λ k. threshold) map 0 (withThreshold absent g)) result.refusal result.next
-        (withThreshold result.value g) }
+    ensures { (g : Gate) → ReadsAt bytes.now at (field_at (λ k. threshold) map 0 (with_threshold absent g)) result.refusal result.next
+        (with_threshold result.value g) }
 {
     if map_digit(map, 0) != 1 {
         return ByteRead {
@@ -63,15 +63,15 @@ fn read_fields(
     mask: &mut [u8],
     input: &mut [u8],
 ) -> GateRead
-    requires map { map < gateMaps }
-    requires component { length component.old ≡ mostTests }
-    requires mask { length mask.old ≡ mostTests }
-    requires input { length input.old ≡ mostGateInputs }
+    requires map { map < gate_maps }
+    requires component { length component.old ≡ most_tests }
+    requires mask { length mask.old ≡ most_tests }
+    requires input { length input.old ≡ most_gate_inputs }
     ensures { ReadsAt bytes.now at
-        (fields (gateField counts.now number) map
-        (nothingGiven component.old mask.old input.old))
+        (fields (gate_field counts.now number) map
+        (nothing_given component.old mask.old input.old))
         result.refusal result.next
-        (gateOf result.threshold result.tests component.new mask.new result.gates input.new) }
+        (gate_of result.threshold result.tests component.new mask.new result.gates input.new) }
 {
     let absent = absent_gate();
     let t = read_threshold(bytes, at, map, absent.threshold);
@@ -98,11 +98,11 @@ pub fn read_gate(
     mask: &mut [u8],
     input: &mut [u8],
 ) -> GateRead
-    requires component { component.old ≡ absentGate.component }
-    requires mask { mask.old ≡ absentGate.mask }
-    requires input { input.old ≡ absentGate.input }
-    ensures { ReadsAt bytes.now at (gateInOrder counts.now number) result.refusal result.next
-        (gateOf result.threshold result.tests component.new mask.new result.gates input.new) }
+    requires component { component.old ≡ absent_gate.component }
+    requires mask { mask.old ≡ absent_gate.mask }
+    requires input { input.old ≡ absent_gate.input }
+    ensures { ReadsAt bytes.now at (gate_in_order counts.now number) result.refusal result.next
+        (gate_of result.threshold result.tests component.new mask.new result.gates input.new) }
 {
     let m = map_at(bytes, at, GATE_MAPS);
     if m.refusal != 0 {

@@ -1,11 +1,11 @@
 // The tests of a gate: a count, then so many pairs of a component and a mask of its states, which go to lent places.
 ghost use Rattle.std.specs.Prelude.{◌≡◌, ℕ, ◌≤◌, length};
-ghost use Rattle.rules.specs.Limits.{mostTests};
+ghost use Rattle.rules.specs.Limits.{most_tests};
 ghost use Rattle.reading.specs.Fields.{field_at};
 ghost use Rattle.reading.specs.Reader.{ReadsAt, repeat};
 ghost use Rattle.study.specs.declared.Gate.{Gate};
-ghost use Rattle.gate_record.specs.Gate.{withTest, test, tests};
-ghost use Rattle.gate_record.specs.Places.{withTestRow};
+ghost use Rattle.gate_record.specs.Gate.{with_test, test, tests};
+ghost use Rattle.gate_record.specs.Places.{with_test_row};
 
 use crate::RowRead;
 use crate::inputs::inputs_at;
@@ -25,7 +25,7 @@ struct TestRead {
 // A test, whatever its place: the component, then the mask, each judged as soon as it is read.
 fn read_test(bytes: &[u8], at: usize, counts: &[u8]) -> TestRead
     ensures { (j : ℕ) (g : Gate) → ReadsAt bytes.now at (test counts.now j g) result.refusal result.next
-        (withTest j result.component result.mask g) }
+        (with_test j result.component result.mask g) }
 {
     let c = byte_at(bytes, at);
     let m = byte_at(bytes, c.next);
@@ -51,8 +51,8 @@ fn read_test_list(
     requires components { n ≤ length component.old }
     requires masks { n ≤ length mask.old }
     ensures { (k : ℕ) (g : Gate) → ReadsAt bytes.now at
-        (repeat (test counts.now) n (withTestRow k component.old mask.old g)) result.refusal result.next
-        (withTestRow k component.new mask.new g) }
+        (repeat (test counts.now) n (with_test_row k component.old mask.old g)) result.refusal result.next
+        (with_test_row k component.new mask.new g) }
 {
     let mut next = at;
     let mut j: usize = 0;
@@ -82,11 +82,11 @@ pub fn read_tests(
     component: &mut [u8],
     mask: &mut [u8],
 ) -> ByteRead
-    requires components { length component.old ≡ mostTests }
-    requires masks { length mask.old ≡ mostTests }
+    requires components { length component.old ≡ most_tests }
+    requires masks { length mask.old ≡ most_tests }
     ensures { (g : Gate) → ReadsAt bytes.now at
-        (field_at (λ k. tests counts.now) map 1 (withTestRow absent component.old mask.old g)) result.refusal result.next
-        (withTestRow result.value component.new mask.new g) }
+        (field_at (λ k. tests counts.now) map 1 (with_test_row absent component.old mask.old g)) result.refusal result.next
+        (with_test_row result.value component.new mask.new g) }
 {
     if map_digit(map, 1) != 1 {
         return ByteRead {

@@ -8,8 +8,8 @@ use lib.ListN.{length, get_or, drop, length-map}
 use Rattle.lists.specs.Counting.{sum}
 use Rattle.lists.proofs.SumBelow.{sum_alike}
 use Rattle.study.specs.declared.Load.{Load}
-use Rattle.study.specs.Zero.{zeroLoad}
-use Rattle.indices.specs.Figures.{customersServed, customersLost, minutesLost, loadsSum, customersSum, lossSum, minutesSum, figuresOf}
+use Rattle.study.specs.Zero.{zero_load}
+use Rattle.indices.specs.Figures.{customers_served, customers_lost, minutes_lost, loads_sum, customers_sum, loss_sum, minutes_sum, figures_of}
 use Rattle.indices.specs.Parts.{short, sustained, every}
 
 -- a load without its loss gate
@@ -28,32 +28,32 @@ bare-same (x ∷ l) (y ∷ k) c m =
     let rest = bare-same l k (ap (λ (r : List ℕ). drop 1 r) c) (ap (λ (r : List ℕ). drop 1 r) m) in
     λ i. record { gate = 0; customers = customers i; minutes = minutes i } ∷ rest i
 
-at_bare : (l : List Load) (j : ℕ) → get_or (map bare l) j zeroLoad ≡ bare (get_or l j zeroLoad)
+at_bare : (l : List Load) (j : ℕ) → get_or (map bare l) j zero_load ≡ bare (get_or l j zero_load)
 at_bare [] j = refl
 at_bare (x ∷ l) zero = refl
 at_bare (x ∷ l) (suc j) = at_bare l j
 
 -- ---- the sums over loads
 
-sum-bare : (takesPart : Load → Bool) (value : ℕ → Load → ℕ) → ((x : Load) → takesPart (bare x) ≡ takesPart x)
-    → ((j : ℕ) (x : Load) → value j (bare x) ≡ value j x) → (l : List Load) → loadsSum takesPart value (map bare l) ≡ loadsSum takesPart value l
-unfolding loadsSum
-sum-bare takesPart value part same l =
+sum-bare : (takes_part : Load → Bool) (value : ℕ → Load → ℕ) → ((x : Load) → takes_part (bare x) ≡ takes_part x)
+    → ((j : ℕ) (x : Load) → value j (bare x) ≡ value j x) → (l : List Load) → loads_sum takes_part value (map bare l) ≡ loads_sum takes_part value l
+unfolding loads_sum
+sum-bare takes_part value part same l =
     ap (sum _) (length-map l bare)
-    ∙ sum_alike _ _ (length l) (λ j h. rw (at_bare l j, part (get_or l j zeroLoad), same j (get_or l j zeroLoad)) refl)
+    ∙ sum_alike _ _ (length l) (λ j h. rw (at_bare l j, part (get_or l j zero_load), same j (get_or l j zero_load)) refl)
 
-pub customers-bare : (l : List Load) → customersSum (map bare l) ≡ customersSum l
-unfolding customersSum
-customers-bare l = sum-bare every customersServed (λ x. refl) (λ j x. refl) l
+pub customers-bare : (l : List Load) → customers_sum (map bare l) ≡ customers_sum l
+unfolding customers_sum
+customers-bare l = sum-bare every customers_served (λ x. refl) (λ j x. refl) l
 
-module _ (takesPart : Load → Bool) (part : (x : Load) → takesPart (bare x) ≡ takesPart x) (p : ℕ → ℕ) (l : List Load) where
-  loss-bare : lossSum takesPart p (map bare l) ≡ lossSum takesPart p l
-  unfolding lossSum
-  loss-bare = sum-bare takesPart (customersLost p) part (λ j x. refl) l
+module _ (takes_part : Load → Bool) (part : (x : Load) → takes_part (bare x) ≡ takes_part x) (p : ℕ → ℕ) (l : List Load) where
+  loss-bare : loss_sum takes_part p (map bare l) ≡ loss_sum takes_part p l
+  unfolding loss_sum
+  loss-bare = sum-bare takes_part (customers_lost p) part (λ j x. refl) l
 
-  minutes-bare : minutesSum takesPart p (map bare l) ≡ minutesSum takesPart p l
-  unfolding minutesSum
-  minutes-bare = sum-bare takesPart (minutesLost p) part (λ j x. refl) l
+  minutes-bare : minutes_sum takes_part p (map bare l) ≡ minutes_sum takes_part p l
+  unfolding minutes_sum
+  minutes-bare = sum-bare takes_part (minutes_lost p) part (λ j x. refl) l
 
 -- ---- and so the figures
 
@@ -65,8 +65,8 @@ sustained-bare : (x : Load) → sustained (bare x) ≡ sustained x
 unfolding sustained short
 sustained-bare x = refl
 
-pub figures-bare : (customers : ℕ) (lower upper : List ℕ) (l : List Load) → figuresOf customers lower upper (map bare l) ≡ figuresOf customers lower upper l
-unfolding figuresOf
+pub figures-bare : (customers : ℕ) (lower upper : List ℕ) (l : List Load) → figures_of customers lower upper (map bare l) ≡ figures_of customers lower upper l
+unfolding figures_of
 figures-bare customers lower upper l =
     let low : ℕ → ℕ = λ j. get_or lower j 0 in
     let high : ℕ → ℕ = λ j. get_or upper j 0 in

@@ -7,7 +7,7 @@ use Rattle.answers.specs.declared.bounds.Enclosure.{Enclosure}
 use Rattle.answers.specs.declared.figures.Caidi.{Caidi}
 use Rattle.answers.specs.declared.figures.Figures.{Figures}
 use Rattle.indices.specs.declared.sums.Sums.{Sums}
-use Rattle.indices.specs.Figures.{quotients, caidi, figuresOf}
+use Rattle.indices.specs.Figures.{quotients, caidi, figures_of}
 use Rattle.indices.specs.Sums.{SumsFit, SumsOf}
 
 pub sums-fit : {losses : List ℕ} {loads : List Load} {sums : Sums} → SumsOf losses loads sums → SumsFit sums
@@ -19,7 +19,7 @@ module _ {lower upper : List ℕ} {loads : List Load} {low high : Sums} (lows : 
       → saifi ≡ quotients low.loss customers high.loss customers
       → saidi ≡ quotients low.minutes customers high.minutes customers
       → maifi ≡ quotients low.momentary customers high.momentary customers
-      → ◌≡◌ {A = Figures} (record { saifi = saifi; saidi = saidi; caidi = c; maifi = maifi }) (figuresOf customers lower upper loads)
-  unfolding figuresOf
+      → ◌≡◌ {A = Figures} (record { saifi = saifi; saidi = saidi; caidi = c; maifi = maifi }) (figures_of customers lower upper loads)
+  unfolding figures_of
   figures-by-sums customers is-caidi is-saifi is-saidi is-maifi =
       cc (lows.loss.is, lows.minutes.is, lows.momentary.is, highs.loss.is, highs.minutes.is, highs.momentary.is)

@@ -9,12 +9,12 @@ use native.Mathlib.Omega.{arith}
 use lib.ListN.{length, get_or}
 use Rattle.lists.specs.Counting.{sum, counted}
 use Rattle.units.specs.One.{one}
-use Rattle.units.specs.Rounding.{quotientDown, quotientUp}
+use Rattle.units.specs.Rounding.{quotient_down, quotient_up}
 use Rattle.units.proofs.Quotients.{quotient-below, quotient-above}
 use Rattle.study.specs.declared.Load.{Load}
-use Rattle.study.specs.Zero.{zeroLoad}
+use Rattle.study.specs.Zero.{zero_load}
 use Rattle.answers.specs.declared.bounds.Enclosure.{Enclosure}
-use Rattle.indices.specs.Figures.{loadsSum, lossSum, minutesSum, boundOf, quotients, figuresOf}
+use Rattle.indices.specs.Figures.{loads_sum, loss_sum, minutes_sum, bound_of, quotients, figures_of}
 use Rattle.indices.specs.Enclosed.{Encloses, LossesEnclosed, EnclosesPerCustomer, EnclosesPerInterruption}
 use Rattle.indices.specs.Parts.{short, sustained}
 use Rattle.indices.proofs.Stated.{stated-some, stated-bounds}
@@ -59,8 +59,8 @@ over-exact {low} {high} {x} {w} c some whole b =
 over-bounds : {low high x least most y w : ℕ} → 0 < least → 0 < w → Between low high x w → Between least most y w
     → Encloses (quotients low most high least) x y
 over-bounds {low} {high} {x} {least} {most} {y} {w} some whole b d =
-    let lower = quotientDown low most in
-    let upper = quotientUp high least in
+    let lower = quotient_down low most in
+    let upper = quotient_up high least in
     record {
       divisor = omega (arith, mul-pos some whole, d.below);
       below = omega (arith, mul-le-mul_left lower d.above, mul-le-mul_right w (quotient-below low most), b.below);
@@ -72,36 +72,36 @@ over-bounds {low} {high} {x} {least} {most} {y} {w} some whole b d =
 module _ {lower upper : List ℕ} {x : ℕ → ℕ} {w : ℕ} (customers : ℕ) (loads : List Load) (enclosed : LossesEnclosed lower upper x w (length loads)) where
   -- P × C of one load
   loss-of : (j : ℕ) → j < length loads
-      → Between (boundOf lower j * (get_or loads j zeroLoad).customers) (boundOf upper j * (get_or loads j zeroLoad).customers)
-      (x j * (get_or loads j zeroLoad).customers) w
-  loss-of j h = times (get_or loads j zeroLoad).customers (record { below = enclosed.below j h; above = enclosed.above j h })
+      → Between (bound_of lower j * (get_or loads j zero_load).customers) (bound_of upper j * (get_or loads j zero_load).customers)
+      (x j * (get_or loads j zero_load).customers) w
+  loss-of j h = times (get_or loads j zero_load).customers (record { below = enclosed.below j h; above = enclosed.above j h })
 
-  module _ (takesPart : Load → Bool) where
-    loss-between : Between (lossSum takesPart (boundOf lower) loads) (lossSum takesPart (boundOf upper) loads) (lossSum takesPart x loads) w
-    unfolding lossSum loadsSum
-    loss-between = sums-between _ _ _ w (length loads) (λ j h. counted-between (takesPart (get_or loads j zeroLoad)) (loss-of j h))
+  module _ (takes_part : Load → Bool) where
+    loss-between : Between (loss_sum takes_part (bound_of lower) loads) (loss_sum takes_part (bound_of upper) loads) (loss_sum takes_part x loads) w
+    unfolding loss_sum loads_sum
+    loss-between = sums-between _ _ _ w (length loads) (λ j h. counted-between (takes_part (get_or loads j zero_load)) (loss-of j h))
 
-    minutes-between : Between (minutesSum takesPart (boundOf lower) loads) (minutesSum takesPart (boundOf upper) loads) (minutesSum takesPart x loads) w
-    unfolding minutesSum loadsSum
+    minutes-between : Between (minutes_sum takes_part (bound_of lower) loads) (minutes_sum takes_part (bound_of upper) loads) (minutes_sum takes_part x loads) w
+    unfolding minutes_sum loads_sum
     minutes-between =
         sums-between _ _ _ w (length loads)
-        (λ j h. counted-between (takesPart (get_or loads j zeroLoad)) (times (get_or loads j zeroLoad).minutes (loss-of j h)))
+        (λ j h. counted-between (takes_part (get_or loads j zero_load)) (times (get_or loads j zero_load).minutes (loss-of j h)))
 
   module _ (some : 0 < customers) where
-    pub saifi-encloses : EnclosesPerCustomer (figuresOf customers lower upper loads).saifi customers (lossSum sustained) x w loads
-    unfolding figuresOf
-    saifi-encloses = over-exact customers some enclosed.whole (loss-between sustained)
+    pub saifi_encloses : EnclosesPerCustomer (figures_of customers lower upper loads).saifi customers (loss_sum sustained) x w loads
+    unfolding figures_of
+    saifi_encloses = over-exact customers some enclosed.whole (loss-between sustained)
 
-    pub saidi-encloses : EnclosesPerCustomer (figuresOf customers lower upper loads).saidi customers (minutesSum sustained) x w loads
-    unfolding figuresOf
-    saidi-encloses = over-exact customers some enclosed.whole (minutes-between sustained)
+    pub saidi_encloses : EnclosesPerCustomer (figures_of customers lower upper loads).saidi customers (minutes_sum sustained) x w loads
+    unfolding figures_of
+    saidi_encloses = over-exact customers some enclosed.whole (minutes-between sustained)
 
-    pub maifi-encloses : EnclosesPerCustomer (figuresOf customers lower upper loads).maifi customers (lossSum short) x w loads
-    unfolding figuresOf
-    maifi-encloses = over-exact customers some enclosed.whole (loss-between short)
+    pub maifi_encloses : EnclosesPerCustomer (figures_of customers lower upper loads).maifi customers (loss_sum short) x w loads
+    unfolding figures_of
+    maifi_encloses = over-exact customers some enclosed.whole (loss-between short)
 
-  pub caidi-encloses : EnclosesPerInterruption (figuresOf customers lower upper loads).caidi sustained x loads
-  unfolding figuresOf
-  caidi-encloses bounds stated =
-      subst (λ (b : Enclosure). Encloses b (minutesSum sustained x loads) (lossSum sustained x loads)) (stated-bounds _ _ _ _ stated)
+  pub caidi_encloses : EnclosesPerInterruption (figures_of customers lower upper loads).caidi sustained x loads
+  unfolding figures_of
+  caidi_encloses bounds stated =
+      subst (λ (b : Enclosure). Encloses b (minutes_sum sustained x loads) (loss_sum sustained x loads)) (stated-bounds _ _ _ _ stated)
       (over-bounds (pos_of_ne-zero (stated-some _ _ _ _ stated)) enclosed.whole (minutes-between sustained) (loss-between sustained))

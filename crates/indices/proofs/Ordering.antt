@@ -8,20 +8,20 @@ use lib.ListN.{length, get_or, take, length-take}
 use Rattle.lists.proofs.SumBelow.{sum-most}
 use Rattle.lists.proofs.SumOver.{counted-ordered}
 use Rattle.study.specs.declared.Load.{Load}
-use Rattle.study.specs.Zero.{zeroLoad}
-use Rattle.indices.specs.Figures.{loadsSum, lossSum, boundOf}
+use Rattle.study.specs.Zero.{zero_load}
+use Rattle.indices.specs.Figures.{loads_sum, loss_sum, bound_of}
 use Rattle.indices.specs.Losses.{AtMostOne, LossBounds}
 
 module _ {lower upper : List ℕ} {n : ℕ} (bounds : LossBounds lower upper n) where
   pub lower-most : AtMostOne lower n
   lower-most = record { most = λ j h. omega (arith, bounds.ordered j h, bounds.uppers.most j h) }
 
-  pub loss-ordered : (takesPart : Load → Bool) (load : List Load)
-      → lossSum takesPart (boundOf lower) (take n load) ≤ lossSum takesPart (boundOf upper) (take n load)
-  unfolding lossSum loadsSum
-  loss-ordered takesPart load =
+  pub loss-ordered : (takes_part : Load → Bool) (load : List Load)
+      → loss_sum takes_part (bound_of lower) (take n load) ≤ loss_sum takes_part (bound_of upper) (take n load)
+  unfolding loss_sum loads_sum
+  loss-ordered takes_part load =
       sum-most _ _ (length (take n load))
       (λ j h.
-      counted-ordered (takesPart (get_or (take n load) j zeroLoad))
-      (mul-le-mul_right (get_or (take n load) j zeroLoad).customers
+      counted-ordered (takes_part (get_or (take n load) j zero_load))
+      (mul-le-mul_right (get_or (take n load) j zero_load).customers
       (bounds.ordered j (omega (arith, h, length-take n load, min-le_left n (length load))))))

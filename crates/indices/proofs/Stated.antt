@@ -13,19 +13,19 @@ not-bounds bounds e = let z : ◌≡◌ {A = ℕ} 0 1 = cc in omega arith
 same-bounds : (a b : Enclosure) → Bounds a ≡ Bounds b → a ≡ b
 same-bounds a b e = cc
 
-module _ (lossLow lossHigh minutesLow minutesHigh : ℕ) where
-  pub caidi-not-stated : lossLow ≡ 0 → caidi lossLow lossHigh minutesLow minutesHigh ≡ NotStated
+module _ (loss_low loss_high minutes_low minutes_high : ℕ) where
+  pub caidi-not-stated : loss_low ≡ 0 → caidi loss_low loss_high minutes_low minutes_high ≡ NotStated
   unfolding caidi
-  caidi-not-stated none = rw (eq-eqb lossLow 0 none) refl
+  caidi-not-stated none = rw (eq-eqb loss_low 0 none) refl
 
-  pub caidi-stated : (lossLow ≡ 0 → ⊥)
-      → caidi lossLow lossHigh minutesLow minutesHigh ≡ Bounds (quotients minutesLow lossHigh minutesHigh lossLow)
+  pub caidi-stated : (loss_low ≡ 0 → ⊥)
+      → caidi loss_low loss_high minutes_low minutes_high ≡ Bounds (quotients minutes_low loss_high minutes_high loss_low)
   unfolding caidi
-  caidi-stated some = rw (ne_eqb lossLow 0 some) refl
+  caidi-stated some = rw (ne_eqb loss_low 0 some) refl
 
-  module _ {bounds : Enclosure} (stated : caidi lossLow lossHigh minutesLow minutesHigh ≡ Bounds bounds) where
-    pub stated-some : lossLow ≡ 0 → ⊥
+  module _ {bounds : Enclosure} (stated : caidi loss_low loss_high minutes_low minutes_high ≡ Bounds bounds) where
+    pub stated-some : loss_low ≡ 0 → ⊥
     stated-some none = not-bounds bounds (sym (caidi-not-stated none) ∙ stated)
 
-    pub stated-bounds : quotients minutesLow lossHigh minutesHigh lossLow ≡ bounds
+    pub stated-bounds : quotients minutes_low loss_high minutes_high loss_low ≡ bounds
     stated-bounds = same-bounds _ bounds (sym (caidi-stated stated-some) ∙ stated)

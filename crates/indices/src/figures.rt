@@ -1,10 +1,10 @@
 // SAIFI, SAIDI, CAIDI and MAIFI.
 ghost use Rattle.std.specs.Prelude.{◌<◌, ◌≤◌, ◌≡◌, take};
-ghost use Rattle.rules.specs.Limits.{mostLoads, mostServed};
+ghost use Rattle.rules.specs.Limits.{most_loads, most_served};
 ghost use Rattle.model.specs.Good.{Sizes};
-ghost use Rattle.indices.specs.Figures.{quotients as Figures·quotients, caidi, figuresOf};
+ghost use Rattle.indices.specs.Figures.{quotients as figures_quotients, caidi, figures_of};
 ghost use Rattle.indices.specs.Losses.{LossBounds};
-ghost use Rattle.indices.specs.Sums.{mostLoss, mostLossMinutes, SumsFit};
+ghost use Rattle.indices.specs.Sums.{most_loss, most_loss_minutes, SumsFit};
 
 use crate::sums::{Sums, sums_of};
 use answers::{Caidi, Enclosure, Figures};
@@ -15,10 +15,10 @@ use units::{quotient_down, quotient_up};
 // A lower sum over its divisor, rounded down, and an upper sum over its own, rounded up.
 fn quotients(low: u64, low_divisor: u64, high: u64, high_divisor: u64) -> Enclosure
     requires low_divisor_nonzero { 0 < low_divisor }
-    requires high_le_most_loss_minutes { high ≤ mostLossMinutes }
+    requires high_le_most_loss_minutes { high ≤ most_loss_minutes }
     requires high_divisor_nonzero { 0 < high_divisor }
-    requires high_divisor_le_most_loss { high_divisor ≤ mostLoss }
-    ensures { result ≡ Figures·quotients low low_divisor high high_divisor }
+    requires high_divisor_le_most_loss { high_divisor ≤ most_loss }
+    ensures { result ≡ figures_quotients low low_divisor high high_divisor }
 {
     Enclosure {
         lower: quotient_down(low, low_divisor),
@@ -47,12 +47,12 @@ pub fn figures_of(
     load: [Load; LOAD_PLACES],
     n: u8,
 ) -> Figures
-    requires n_le_most_loads { n ≤ mostLoads }
+    requires n_le_most_loads { n ≤ most_loads }
     requires sizes { Sizes (take n load) }
     requires loss_bounds { LossBounds lower upper n }
     requires customers_nonzero { 0 < customers }
-    requires customers_le_most_served { customers ≤ mostServed }
-    ensures { result ≡ figuresOf customers lower upper (take n load) }
+    requires customers_le_most_served { customers ≤ most_served }
+    ensures { result ≡ figures_of customers lower upper (take n load) }
 {
     let low = sums_of(lower, load, n);
     let high = sums_of(upper, load, n);

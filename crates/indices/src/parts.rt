@@ -1,6 +1,6 @@
 // Which loads take part in which sum.
 ghost use Rattle.std.specs.Prelude.{◌≡◌};
-ghost use Rattle.lists.specs.Counting.{counted as Counting·counted};
+ghost use Rattle.lists.specs.Counting.{counted as counting_counted};
 ghost use Rattle.indices.specs.Parts.{short};
 
 use rules::is_momentary;
@@ -15,7 +15,7 @@ pub fn is_short(l: Load) -> bool
 
 // What a load adds to a sum: nothing where it takes no part.
 pub fn counted(takes_part: bool, n: u64) -> u64
-    ensures { result ≡ Counting·counted takes_part n }
+    ensures { result ≡ counting_counted takes_part n }
 {
     if takes_part {
         return n;

@@ -8,8 +8,8 @@ use lib.ListN.{length, get_or, length-append, length-map, get_or-append}
 use lib.Seq.{get_or-append-add}
 use Rattle.lists.specs.Product.{product}
 use Rattle.lists.proofs.Elements.{Every}
-use Rattle.lists.proofs.Maps.{getD-map-inside}
-use Rattle.joint_states.specs.JointStates.{JointState, divided, jointStates, number_of}
+use Rattle.lists.proofs.Maps.{get_d-map-inside}
+use Rattle.joint_states.specs.JointStates.{JointState, divided, joint_states, number_of}
 use Rattle.joint_states.specs.Laws.{JointStatesListed}
 
 -- ---- a joint state, component by component
@@ -52,19 +52,19 @@ factor-some k c (suc m) h = omega arith
 -- a joint state with number k
 pub record WithNumber (counts : List ℕ) (k : ℕ) : Type 0 where
   pub joint : List ℕ
-  pub is-joint : JointState counts joint
+  pub is_joint : JointState counts joint
   pub number : number_of counts joint ≡ k
 
 pub with_number : (counts : List ℕ) (k : ℕ) → k < product counts → WithNumber counts k
 unfolding number_of product
-with_number [] k h = record { joint = []; is-joint = record { long = refl; below = λ i less. absurd (not-suc-le-zero less) }; number = omega arith }
+with_number [] k h = record { joint = []; is_joint = record { long = refl; below = λ i less. absurd (not-suc-le-zero less) }; number = omega arith }
 with_number (c ∷ cs) k h =
     let m = product cs in
     let some = factor-some k c m h in
     let rest = with_number cs (k % m) (mod-lt k some) in
     record {
       joint = (k / m) ∷ rest.joint;
-      is-joint = joint-cons ((div-lt_iff_lt-mul some).1 h) rest.is-joint;
+      is_joint = joint-cons ((div-lt_iff_lt-mul some).1 h) rest.is_joint;
       number = ap (λ (r : ℕ). k / m * m + r) rest.number ∙ div-add-mod' k m;
     }
 
@@ -79,23 +79,23 @@ number_up (c ∷ cs) (s ∷ x) up = rw (up 0, zero-mul, zero-add) (number_up cs 
 
 module _ (mark : ℕ → ℕ) (rows : ℕ → List (List ℕ)) (m : ℕ) (long : (s : ℕ) → length (rows s) ≡ m) where
   -- row k of the i-th state's
-  pub getD-divided : (s n i k : ℕ) → i < n → k < m → get_or (divided mark rows s n) (i * m + k) [] ≡ mark (s + i) ∷ get_or (rows (s + i)) k []
+  pub get_d-divided : (s n i k : ℕ) → i < n → k < m → get_or (divided mark rows s n) (i * m + k) [] ≡ mark (s + i) ∷ get_or (rows (s + i)) k []
   unfolding divided
-  getD-divided s zero i k h less = absurd (not-suc-le-zero h)
-  getD-divided s (suc n) zero k h less =
+  get_d-divided s zero i k h less = absurd (not-suc-le-zero h)
+  get_d-divided s (suc n) zero k h less =
       let rest = divided mark rows (s + 1) n in
       let inside : k < length (rows s) = rw (long s) less in
       let heads : k < length (map (λ (row : List ℕ). mark s ∷ row) (rows s)) = rw (length-map (rows s) (λ (row : List ℕ). mark s ∷ row)) inside in
       rw (zero-mul, zero-add, add-zero)
-      (get_or-append (map (λ (row : List ℕ). mark s ∷ row) (rows s)) rest [] k heads ∙ getD-map-inside (λ (row : List ℕ). mark s ∷ row) (rows s) k [] [] inside)
-  getD-divided s (suc n) (suc i) k h less =
+      (get_or-append (map (λ (row : List ℕ). mark s ∷ row) (rows s)) rest [] k heads ∙ get_d-map-inside (λ (row : List ℕ). mark s ∷ row) (rows s) k [] [] inside)
+  get_d-divided s (suc n) (suc i) k h less =
       let rest = divided mark rows (s + 1) n in
       let heads = map (λ (row : List ℕ). mark s ∷ row) (rows s) in
       let place : suc i * m + k ≡ length heads + (i * m + k) = rw (length-map (rows s) (λ (row : List ℕ). mark s ∷ row), long s) (omega arith) in
       let state : s + 1 + i ≡ s + suc i = omega arith in
       ap (λ (p : ℕ). get_or (heads ++ rest) p []) place
       ∙ get_or-append-add heads rest (i * m + k) []
-      ∙ getD-divided (s + 1) n i k (omega arith) less
+      ∙ get_d-divided (s + 1) n i k (omega arith) less
       ∙ ap (λ (z : ℕ). mark z ∷ get_or (rows z) k []) state
 
   pub length-divided : (s n : ℕ) → length (divided mark rows s n) ≡ n * m
@@ -107,40 +107,40 @@ module _ (mark : ℕ → ℕ) (rows : ℕ → List (List ℕ)) (m : ℕ) (long :
       ∙ ap (λ (k : ℕ). m + k) (length-divided (s + 1) n)
       ∙ omega arith
 
-pub length-jointStates : (counts : List ℕ) → length (jointStates counts) ≡ product counts
-unfolding jointStates product
-length-jointStates [] = refl
-length-jointStates (c ∷ cs) = length-divided (λ s. s) (λ s. jointStates cs) (product cs) (λ s. length-jointStates cs) 0 c
+pub length-joint_states : (counts : List ℕ) → length (joint_states counts) ≡ product counts
+unfolding joint_states product
+length-joint_states [] = refl
+length-joint_states (c ∷ cs) = length-divided (λ s. s) (λ s. joint_states cs) (product cs) (λ s. length-joint_states cs) 0 c
 
-pub numbered : (counts x : List ℕ) → JointState counts x → get_or (jointStates counts) (number_of counts x) [] ≡ x
-unfolding jointStates number_of
+pub numbered : (counts x : List ℕ) → JointState counts x → get_or (joint_states counts) (number_of counts x) [] ≡ x
+unfolding joint_states number_of
 numbered [] [] j = refl
 numbered [] (s ∷ x) j = absurd (omega (arith, j.long))
 numbered (c ∷ cs) [] j = absurd (joint-none j)
 numbered (c ∷ cs) (s ∷ x) j =
-    let all = length-jointStates cs in
-    getD-divided (λ s. s) (λ s. jointStates cs) (product cs) (λ s. all) 0 c s (number_of cs x) (joint-head j) (number-below cs x (joint-tail j))
-    ∙ ap (λ (z : ℕ). z ∷ get_or (jointStates cs) (number_of cs x) []) (zero-add s)
+    let all = length-joint_states cs in
+    get_d-divided (λ s. s) (λ s. joint_states cs) (product cs) (λ s. all) 0 c s (number_of cs x) (joint-head j) (number-below cs x (joint-tail j))
+    ∙ ap (λ (z : ℕ). z ∷ get_or (joint_states cs) (number_of cs x) []) (zero-add s)
     ∙ ap (λ (y : List ℕ). s ∷ y) (numbered cs x (joint-tail j))
 
 -- the one at place k has number k
-at_place : (counts : List ℕ) (k : ℕ) (h : k < product counts) → (with_number counts k h).joint ≡ get_or (jointStates counts) k []
+at_place : (counts : List ℕ) (k : ℕ) (h : k < product counts) → (with_number counts k h).joint ≡ get_or (joint_states counts) k []
 at_place counts k h =
     let w = with_number counts k h in
-    sym (numbered counts w.joint w.is-joint) ∙ ap (λ (n : ℕ). get_or (jointStates counts) n []) w.number
+    sym (numbered counts w.joint w.is_joint) ∙ ap (λ (n : ℕ). get_or (joint_states counts) n []) w.number
 
 -- all that the list holds are joint states
-pub all-joint : (counts : List ℕ) → Every (JointState counts) [] (jointStates counts)
+pub all-joint : (counts : List ℕ) → Every (JointState counts) [] (joint_states counts)
 all-joint counts k h =
-    let inside : k < product counts = rw (length-jointStates counts) at h in
-    subst (JointState counts) (at_place counts k inside) (with_number counts k inside).is-joint
+    let inside : k < product counts = rw (length-joint_states counts) at h in
+    subst (JointState counts) (at_place counts k inside) (with_number counts k inside).is_joint
 
 pub joint-states-listed : JointStatesListed
 joint-states-listed counts =
     record {
-      many = length-jointStates counts;
-      joint = λ k h. all-joint counts k (rw (length-jointStates counts) h);
+      many = length-joint_states counts;
+      joint = λ k h. all-joint counts k (rw (length-joint_states counts) h);
       numbered = λ k h. sym (ap (number_of counts) (at_place counts k h)) ∙ (with_number counts k h).number;
       below = number-below counts;
-      at-number = numbered counts;
+      at_number = numbered counts;
     }

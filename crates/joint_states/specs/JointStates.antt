@@ -13,10 +13,10 @@ divided mark rows s zero = []
 divided mark rows s (suc n) = map (λ (row : List ℕ). mark s ∷ row) (rows s) ++ divided mark rows (s + 1) n
 
 -- all joint states in order: component 0 varies slowest, up first
-unfoldable pub jointStates : List ℕ → List (List ℕ)
+unfoldable pub joint_states : List ℕ → List (List ℕ)
 unfolding divided
-jointStates [] = [] ∷ []
-jointStates (c ∷ cs) = divided (λ s. s) (λ s. jointStates cs) 0 c
+joint_states [] = [] ∷ []
+joint_states (c ∷ cs) = divided (λ s. s) (λ s. joint_states cs) 0 c
 
 -- the number of a joint state in that order
 unfoldable pub number_of : List ℕ → List ℕ → ℕ
@@ -26,5 +26,5 @@ number_of (c ∷ cs) [] = 0
 number_of (c ∷ cs) (s ∷ x) = s * product cs + number_of cs x
 
 -- the most joint states whose numbers fit 64 bits
-abbrev pub mostNumbered : ℕ
-mostNumbered = 2 ^ 64
+abbrev pub most_numbered : ℕ
+most_numbered = 2 ^ 64

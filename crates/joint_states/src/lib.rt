@@ -1,7 +1,7 @@
 // Joint states: a state for each component, in order, component 0 varying slowest. Not for callers from outside: those call `planning`.
 ghost use Rattle.std.specs.Prelude.{◌+◌, ◌%◌, ◌≤◌, ◌≡◌};
 ghost use Rattle.lists.specs.Product.{product};
-ghost use Rattle.joint_states.specs.JointStates.{JointState, number_of, mostNumbered};
+ghost use Rattle.joint_states.specs.JointStates.{JointState, number_of, most_numbered};
 
 // Moves a joint state on to the one with the next number; behind the last comes the first again.
 pub fn next_joint_state(counts: &[u8], x: &mut [u8])
@@ -25,7 +25,7 @@ pub fn next_joint_state(counts: &[u8], x: &mut [u8])
 // weighs its state count.
 pub fn number_of(counts: &[u8], x: &[u8]) -> usize
     requires joint_state { JointState counts.now x.now }
-    requires counts_bound { product counts.now ≤ mostNumbered }
+    requires counts_bound { product counts.now ≤ most_numbered }
     ensures { result ≡ number_of counts.now x.now }
 {
     let mut number: usize = 0;

@@ -4,26 +4,26 @@ use mathlib.Core.Path.{◌≡◌, refl, sym, ◌∙◌}
 use mathlib.Core.List.{List, [], ◌∷◌}
 use native.Mathlib.Omega.{arith}
 use lib.ListN.{length}
-use Rattle.rules.specs.Table.{roomFault}
+use Rattle.rules.specs.Table.{room_fault}
 use Rattle.rules.proofs.Kept.{list-last}
 use Rattle.rules.proofs.Rows.{room-kept}
 use Rattle.text.specs.Writing.{Room, Wrote}
 use Rattle.answers.specs.declared.counts.CountAnswer.TheVariants.{Count, Refused}
-use Rattle.answers.specs.Told.{tells, countTold}
+use Rattle.answers.specs.Told.{tells, count_told}
 use Rattle.answers.proofs.Answered.{answered-done, answered-refused, answered-tells, filled-done, filled-refused}
-use Rattle.lent_text.specs.Lent.{textFault, reported, written}
+use Rattle.lent_text.specs.Lent.{text_fault, reported, written}
 
 -- without a breach the text fits
-fault-kept : (text buffer : List ℕ) → textFault text buffer ≡ 0 → length text ≤ length buffer
-unfolding textFault
+fault-kept : (text buffer : List ℕ) → text_fault text buffer ≡ 0 → length text ≤ length buffer
+unfolding text_fault
 fault-kept text buffer none = room-kept (length text) (length buffer) (sym (list-last _) ∙ none)
 
 -- ---- as the code judges it
 
-module _ (text buffer : List ℕ) {fault : ℕ} (is-fault : fault ≡ roomFault (length text) (length buffer)) where
+module _ (text buffer : List ℕ) {fault : ℕ} (is-fault : fault ≡ room_fault (length text) (length buffer)) where
   -- the room alone is judged
-  judged : fault ≡ textFault text buffer
-  unfolding textFault
+  judged : fault ≡ text_fault text buffer
+  unfolding text_fault
   judged = is-fault ∙ sym (list-last _)
 
   -- a buffer that is too short
@@ -44,6 +44,6 @@ module _ (text buffer : List ℕ) {fault : ℕ} (is-fault : fault ≡ roomFault 
       (sym (answered-done Refused _ _ kept), wrote.holds ∙ sym (filled-done _ text buffer kept))
 
 -- the number of bytes is told, or the breach
-pub reported-tells : (text buffer : List ℕ) → countTold (reported text buffer) ≡ tells (textFault text buffer) (length text ∷ [])
+pub reported-tells : (text buffer : List ℕ) → count_told (reported text buffer) ≡ tells (text_fault text buffer) (length text ∷ [])
 unfolding reported
-reported-tells text buffer = answered-tells Refused (textFault text buffer) (Count (length text)) countTold (length text ∷ []) (λ n. refl) refl
+reported-tells text buffer = answered-tells Refused (text_fault text buffer) (Count (length text)) count_told (length text ∷ []) (λ n. refl) refl

@@ -1,21 +1,21 @@
 -- A text in a lent buffer: what a call that writes it answers, and what it leaves of the buffer.
 use Rattle.std.specs.Prelude.{ℕ, List, [], ◌∷◌, length}
-use Rattle.rules.specs.Breach.{firstBreach}
-use Rattle.rules.specs.Table.{roomFault}
+use Rattle.rules.specs.Breach.{first_breach}
+use Rattle.rules.specs.Table.{room_fault}
 use Rattle.answers.specs.Answered.{answered, filled}
 use Rattle.answers.specs.declared.counts.CountAnswer.{CountAnswer}
 use Rattle.answers.specs.declared.counts.CountAnswer.TheVariants.{Count, Refused}
 
 -- 18 where the buffer is too short for the text
-unfoldable pub textFault : List ℕ → List ℕ → ℕ
-textFault text buffer = firstBreach (roomFault (length text) (length buffer) ∷ [])
+unfoldable pub text_fault : List ℕ → List ℕ → ℕ
+text_fault text buffer = first_breach (room_fault (length text) (length buffer) ∷ [])
 
 -- the answer: the number of bytes
 unfoldable pub reported : List ℕ → List ℕ → CountAnswer
-unfolding answered textFault
-reported text buffer = answered Refused (textFault text buffer) (Count (length text))
+unfolding answered text_fault
+reported text buffer = answered Refused (text_fault text buffer) (Count (length text))
 
 -- the text fills the buffer's front, and nothing behind it changes; a buffer that is too short stays as it was
 unfoldable pub written : List ℕ → List ℕ → List ℕ
-unfolding filled textFault
-written text buffer = filled (textFault text buffer) text buffer
+unfolding filled text_fault
+written text buffer = filled (text_fault text buffer) text buffer

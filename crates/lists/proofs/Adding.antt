@@ -6,14 +6,14 @@ use native.Mathlib.Nat.{not-suc-le-zero, le_of_suc-le-suc}
 use native.Mathlib.Numerals.{add-one}
 use native.Mathlib.Omega.{arith}
 use lib.ListN.{length, get_or, take}
-use Rattle.lists.specs.Counting.{sumOver}
+use Rattle.lists.specs.Counting.{sum_over}
 use Rattle.lists.specs.Tabulate.{tabulate}
 use Rattle.lists.proofs.SumOver.{sum-over-append}
 
 module _ {A : Type 0} (f : A → ℕ) where
   -- one element more
-  pub add-next : (l : List A) (k : ℕ) (d : A) → k < length l → sumOver f (take (k + 1) l) ≡ sumOver f (take k l) + f (get_or l k d)
-  unfolding sumOver
+  pub add-next : (l : List A) (k : ℕ) (d : A) → k < length l → sum_over f (take (k + 1) l) ≡ sum_over f (take k l) + f (get_or l k d)
+  unfolding sum_over
   add-next [] k d h = absurd (not-suc-le-zero h)
   add-next (x ∷ l) zero d h = omega arith
   add-next (x ∷ l) (suc k) d h =
@@ -21,6 +21,6 @@ module _ {A : Type 0} (f : A → ℕ) where
       rw (add-one (suc k)) (omega (arith, rest))
 
   -- one value of a function more
-  pub add-value : (g : ℕ → A) (k : ℕ) → sumOver f (tabulate g (k + 1)) ≡ sumOver f (tabulate g k) + f (g k)
-  unfolding sumOver tabulate
+  pub add-value : (g : ℕ → A) (k : ℕ) → sum_over f (tabulate g (k + 1)) ≡ sum_over f (tabulate g k) + f (g k)
+  unfolding sum_over tabulate
   add-value g k = rw (add-one k) (omega (arith, sum-over-append f (tabulate g k) (g k ∷ [])))

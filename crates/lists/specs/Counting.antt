@@ -28,10 +28,10 @@ counted false n = 0
 
 -- those elements of a list that take part
 unfoldable pub those : {A : Type 0} → (A → Bool) → List A → List A
-those takesPart [] = []
-those takesPart (x ∷ l) = cond (takesPart x) (x ∷ those takesPart l) (those takesPart l)
+those takes_part [] = []
+those takes_part (x ∷ l) = cond (takes_part x) (x ∷ those takes_part l) (those takes_part l)
 
 -- the sum of f over the elements of a list
-unfoldable pub sumOver : {A : Type 0} → (A → ℕ) → List A → ℕ
-sumOver f [] = 0
-sumOver f (x ∷ l) = f x + sumOver f l
+unfoldable pub sum_over : {A : Type 0} → (A → ℕ) → List A → ℕ
+sum_over f [] = 0
+sum_over f (x ∷ l) = f x + sum_over f l

@@ -1,10 +1,10 @@
 // Reads one load record. Not for callers from outside.
 ghost use Rattle.std.specs.Prelude.{◌<◌};
 ghost use Rattle.reading.specs.Reader.{ReadsAt};
-ghost use Rattle.rules.specs.Limits.{loadMaps};
-ghost use Rattle.reading.specs.Fields.{field_at, whereLeft, fields};
-ghost use Rattle.study.specs.Absent.{absentLoad};
-ghost use Rattle.load_record.specs.Load.{lossGate, size, customers, minutes, loadField, load};
+ghost use Rattle.rules.specs.Limits.{load_maps};
+ghost use Rattle.reading.specs.Fields.{field_at, where_left, fields};
+ghost use Rattle.study.specs.Absent.{absent_load};
+ghost use Rattle.load_record.specs.Load.{loss_gate, size, customers, minutes, load_field, load};
 
 use reading::{WordRead, byte_at, field_count, fields_behind, map_at, map_digit, word_at};
 use rules::{LOAD_MAPS, MOST_CUSTOMERS, MOST_MINUTES, first, no_gate_fault, size_fault};
@@ -19,7 +19,7 @@ pub struct LoadRead {
 
 // The field of bit 0.
 fn read_loss_gate(bytes: &[u8], at: usize, gates: u8, l: Load) -> LoadRead
-    ensures { ReadsAt bytes.now at (lossGate gates l) result.refusal result.next result.load }
+    ensures { ReadsAt bytes.now at (loss_gate gates l) result.refusal result.next result.load }
 {
     let b = byte_at(bytes, at);
     LoadRead {
@@ -72,7 +72,7 @@ fn read_minutes(bytes: &[u8], at: usize, l: Load) -> LoadRead
 // The field of bit 0 or 1, where the bit stands in the map.
 fn read_field(bytes: &[u8], at: usize, gates: u8, map: u8, k: u8, l: Load) -> LoadRead
     requires { k < 2 }
-    ensures { ReadsAt bytes.now at (field_at (loadField gates) map k l) result.refusal result.next result.load }
+    ensures { ReadsAt bytes.now at (field_at (load_field gates) map k l) result.refusal result.next result.load }
 {
     if map_digit(map, k) != 1 {
         return LoadRead {
@@ -89,7 +89,7 @@ fn read_field(bytes: &[u8], at: usize, gates: u8, map: u8, k: u8, l: Load) -> Lo
 
 // The last field, where one field is left to read.
 fn read_last(bytes: &[u8], at: usize, left: u32, l: Load) -> LoadRead
-    ensures { ReadsAt bytes.now at (whereLeft left minutes l) result.refusal result.next result.load }
+    ensures { ReadsAt bytes.now at (where_left left minutes l) result.refusal result.next result.load }
 {
     if left != 1 {
         return LoadRead {
@@ -103,8 +103,8 @@ fn read_last(bytes: &[u8], at: usize, left: u32, l: Load) -> LoadRead
 
 // The fields whose bit stands in the map, lowest bit first, over their absent values: as many as the map has ones.
 fn read_fields(bytes: &[u8], at: usize, gates: u8, map: u8) -> LoadRead
-    requires { map < loadMaps }
-    ensures { ReadsAt bytes.now at (fields (loadField gates) map absentLoad) result.refusal result.next result.load }
+    requires { map < load_maps }
+    ensures { ReadsAt bytes.now at (fields (load_field gates) map absent_load) result.refusal result.next result.load }
 {
     let gate = read_field(bytes, at, gates, map, 0, absent_load());
     let customers = read_field(bytes, gate.next, gates, map, 1, gate.load);

@@ -3,8 +3,8 @@ use Prim.Native.Nat.{ℕ}
 use mathlib.Core.Path.{◌≡◌, sym, ◌∙◌}
 use mathlib.Core.Bool.{Bool}
 use mathlib.Core.List.{[], ◌∷◌}
-use Rattle.rules.specs.Breach.{first, firstBreach}
-use Rattle.rules.specs.Table.{unsoundFault, itemFault}
+use Rattle.rules.specs.Breach.{first, first_breach}
+use Rattle.rules.specs.Table.{unsound_fault, item_fault}
 use Rattle.rules.proofs.Kept.{two-judged, both-kept}
 use Rattle.rules.proofs.Rows.{item-kept}
 use Rattle.study.specs.declared.Study.{Study}
@@ -13,13 +13,13 @@ use Rattle.soundness.proofs.Checked.{no-unsound}
 use Rattle.soundness.proofs.Judged.{unsound-is}
 use Rattle.loss_calls.specs.Losses.{HasLoad, LoadJudged}
 
-pub load-judged : {t : Study} {j fault front back : ℕ} {is-sound : Bool} → fault ≡ first front back → is-sound ≡ sound t → front ≡ unsoundFault is-sound
-    → back ≡ itemFault t.loads j → LoadJudged t j fault
+pub load-judged : {t : Study} {j fault front back : ℕ} {is_sound : Bool} → fault ≡ first front back → is_sound ≡ sound t → front ≡ unsound_fault is_sound
+    → back ≡ item_fault t.loads j → LoadJudged t j fault
 load-judged {t} {j} {fault} e is unsound item =
     let judged = two-judged e (unsound-is t is unsound) item in
-    record { is = judged; has-load = λ none. has (sym judged ∙ none) }
+    record { is = judged; has_load = λ none. has (sym judged ∙ none) }
   where
-    has : firstBreach (unsoundFault (sound t) ∷ itemFault t.loads j ∷ []) ≡ 0 → HasLoad t j
+    has : first_breach (unsound_fault (sound t) ∷ item_fault t.loads j ∷ []) ≡ 0 → HasLoad t j
     has none =
-        let both = both-kept (unsoundFault (sound t)) (itemFault t.loads j) none in
-        record { is-sound = no-unsound t both.left; below = item-kept t.loads j both.right }
+        let both = both-kept (unsound_fault (sound t)) (item_fault t.loads j) none in
+        record { is_sound = no-unsound t both.left; below = item-kept t.loads j both.right }

@@ -1,33 +1,33 @@
 -- What the calls for the bounds of a load answer, by a study's gates or by a drawn tree, and by what they are refused.
 use Rattle.std.specs.Prelude.{ℕ, List, [], ◌∷◌}
-use Rattle.rules.specs.Breach.{firstBreach}
-use Rattle.rules.specs.Table.{unsoundFault, itemFault}
+use Rattle.rules.specs.Breach.{first_breach}
+use Rattle.rules.specs.Table.{unsound_fault, item_fault}
 use Rattle.study.specs.declared.Study.{Study}
 use Rattle.answers.specs.Answered.{answered}
 use Rattle.answers.specs.declared.bounds.BoundsAnswer.{BoundsAnswer}
 use Rattle.answers.specs.declared.bounds.BoundsAnswer.TheVariants.{Bounds, Refused as NoBounds}
 use Rattle.answers.specs.declared.bounds.Enclosure.{Enclosure}
-use Rattle.model.specs.Model.{Model, components, pathsOf, probabilityTable}
-use Rattle.probability.specs.Totals.{lowerLoss, upperLoss}
+use Rattle.model.specs.Model.{Model, components, paths_of, probability_table}
+use Rattle.probability.specs.Totals.{lower_loss, upper_loss}
 use Rattle.soundness.specs.Check.{sound}
-use Rattle.meaning.specs.Meaning.{Meaning, meaningFault, modelOf}
+use Rattle.meaning.specs.Meaning.{Meaning, meaning_fault, model_of}
 
 -- 16, then 17, then a breach of the meaning
-abbrev pub lossBreaches : Meaning → Study → ℕ → List ℕ
-lossBreaches m t j = unsoundFault (sound t) ∷ itemFault t.loads j ∷ meaningFault m t ∷ []
+abbrev pub loss_breaches : Meaning → Study → ℕ → List ℕ
+loss_breaches m t j = unsound_fault (sound t) ∷ item_fault t.loads j ∷ meaning_fault m t ∷ []
 
-unfoldable pub lossFault : Meaning → Study → ℕ → ℕ
-lossFault m t j = firstBreach (lossBreaches m t j)
+unfoldable pub loss_fault : Meaning → Study → ℕ → ℕ
+loss_fault m t j = first_breach (loss_breaches m t j)
 
 -- the bounds for the loss of load j
-abbrev pub lossOf : Model → ℕ → Enclosure
-lossOf m j =
+abbrev pub loss_of : Model → ℕ → Enclosure
+loss_of m j =
     record {
-      lower = lowerLoss (probabilityTable m) (components m) (pathsOf m) j;
-      upper = upperLoss (probabilityTable m) (components m) (pathsOf m) j;
+      lower = lower_loss (probability_table m) (components m) (paths_of m) j;
+      upper = upper_loss (probability_table m) (components m) (paths_of m) j;
     }
 
 -- the answer: the pair itself
-unfoldable pub loadBounded : Meaning → Study → ℕ → BoundsAnswer
-unfolding answered lossFault
-loadBounded m t j = answered NoBounds (lossFault m t j) (Bounds (lossOf (modelOf m t) j))
+unfoldable pub load_bounded : Meaning → Study → ℕ → BoundsAnswer
+unfolding answered loss_fault
+load_bounded m t j = answered NoBounds (loss_fault m t j) (Bounds (loss_of (model_of m t) j))

@@ -1,27 +1,27 @@
 -- What the calls for the figures of a study answer, by its gates or by a drawn tree.
 use Rattle.std.specs.Prelude.{ℕ, List, [], ◌∷◌, take}
-use Rattle.rules.specs.Breach.{firstBreach}
-use Rattle.rules.specs.Table.{unsoundFault, customersFault}
+use Rattle.rules.specs.Breach.{first_breach}
+use Rattle.rules.specs.Table.{unsound_fault, customers_fault}
 use Rattle.study.specs.declared.Study.{Study}
 use Rattle.answers.specs.Answered.{answered}
 use Rattle.answers.specs.declared.figures.FiguresAnswer.{FiguresAnswer}
 use Rattle.answers.specs.declared.figures.FiguresAnswer.TheVariants.{Figures, Refused}
-use Rattle.indices.specs.Figures.{customersSum}
+use Rattle.indices.specs.Figures.{customers_sum}
 use Rattle.soundness.specs.Check.{sound}
-use Rattle.meaning.specs.Meaning.{Meaning, meaningFault, modelOf}
-use Rattle.evaluation.specs.Figures.{modelFigures}
+use Rattle.meaning.specs.Meaning.{Meaning, meaning_fault, model_of}
+use Rattle.evaluation.specs.Figures.{model_figures}
 
 -- the customers of all loads of a study
-abbrev pub customersOf : Study → ℕ
-customersOf t = customersSum (take t.loads t.load)
+abbrev pub customers_of : Study → ℕ
+customers_of t = customers_sum (take t.loads t.load)
 
 -- 16, then a breach of the meaning, then 19
-abbrev pub figuresBreaches : Meaning → Study → List ℕ
-figuresBreaches m t = unsoundFault (sound t) ∷ meaningFault m t ∷ customersFault (customersOf t) ∷ []
+abbrev pub figures_breaches : Meaning → Study → List ℕ
+figures_breaches m t = unsound_fault (sound t) ∷ meaning_fault m t ∷ customers_fault (customers_of t) ∷ []
 
-unfoldable pub figuresFault : Meaning → Study → ℕ
-figuresFault m t = firstBreach (figuresBreaches m t)
+unfoldable pub figures_fault : Meaning → Study → ℕ
+figures_fault m t = first_breach (figures_breaches m t)
 
-unfoldable pub figuresGiven : Meaning → Study → FiguresAnswer
+unfoldable pub figures_given : Meaning → Study → FiguresAnswer
 unfolding answered
-figuresGiven m t = answered Refused (figuresFault m t) (Figures (modelFigures (modelOf m t)))
+figures_given m t = answered Refused (figures_fault m t) (Figures (model_figures (model_of m t)))

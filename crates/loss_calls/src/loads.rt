@@ -1,8 +1,8 @@
 // The calls for the bounds of a load's loss.
 ghost use Rattle.std.specs.Prelude.{◌≡◌};
-ghost use Rattle.meaning.specs.Meaning.{byGates, byTree};
-ghost use Rattle.meaning.specs.Sources.{meaningOf};
-ghost use Rattle.loss_calls.specs.Bounds.{loadBounded};
+ghost use Rattle.meaning.specs.Meaning.{by_gates, by_tree};
+ghost use Rattle.meaning.specs.Sources.{meaning_of};
+ghost use Rattle.loss_calls.specs.Bounds.{load_bounded};
 ghost use Rattle.loss_calls.specs.Losses.{LoadJudged};
 
 use answers::{BoundsAnswer, Enclosure};
@@ -25,7 +25,7 @@ fn load_breach(study: Study, load: usize) -> u8
 
 // The bounds by either source, of which gates look at no tree. Refused by 16, 17, then 20, 21 or 22.
 pub fn load_meant(source: Source, study: Study, tree: &[u8], load: usize) -> BoundsAnswer
-    ensures { result ≡ loadBounded (meaningOf source tree.now) study load }
+    ensures { result ≡ load_bounded (meaning_of source tree.now) study load }
 {
     let breach = load_breach(study, load);
     if breach != 0 {
@@ -47,14 +47,14 @@ pub fn load_meant(source: Source, study: Study, tree: &[u8], load: usize) -> Bou
 
 // Bounds for the loss of a load. Refused by 16, 17, in this order.
 pub fn load_bounds(study: Study, load: usize) -> BoundsAnswer
-    ensures { result ≡ loadBounded byGates study load }
+    ensures { result ≡ load_bounded by_gates study load }
 {
     load_meant(Source::Gates, study, &[], load)
 }
 
 // The same by a drawn tree in place of the study's gates. Refused by 16, 17, then 20, 21 or 22.
 pub fn drawn_load_bounds(study: Study, tree: &[u8], load: usize) -> BoundsAnswer
-    ensures { result ≡ loadBounded (byTree tree.now) study load }
+    ensures { result ≡ load_bounded (by_tree tree.now) study load }
 {
     load_meant(Source::Tree, study, tree, load)
 }

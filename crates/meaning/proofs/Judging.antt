@@ -2,17 +2,17 @@
 use Prim.Native.Nat.{ℕ}
 use mathlib.Core.Path.{◌≡◌, sym, ◌∙◌}
 use mathlib.Core.List.{List, [], ◌∷◌}
-use Rattle.rules.specs.Breach.{firstBreach}
-use Rattle.rules.specs.Table.{unsoundFault}
+use Rattle.rules.specs.Breach.{first_breach}
+use Rattle.rules.specs.Table.{unsound_fault}
 use Rattle.rules.proofs.Kept.{list-last, part-broken, part-kept}
 use Rattle.study.specs.declared.Study.{Study}
 use Rattle.soundness.specs.Check.{sound}
-use Rattle.meaning.specs.Meaning.{Meaning, meaningFault, meantBreaches}
+use Rattle.meaning.specs.Meaning.{Meaning, meaning_fault, meant_breaches}
 use Rattle.meaning.specs.Sources.{Judged}
 
 module _ {m : Meaning} {t : Study} {was table : List ℕ} {breach : ℕ} (judged : Judged m t was table breach) where
-  pub judged-first : (bs : List ℕ) → (breach ≡ 0 → ⊥) → breach ≡ firstBreach (unsoundFault (sound t) ∷ meaningFault m t ∷ bs)
-  judged-first bs some = part-broken (meantBreaches m t) bs judged.is some
+  pub judged-first : (bs : List ℕ) → (breach ≡ 0 → ⊥) → breach ≡ first_breach (unsound_fault (sound t) ∷ meaning_fault m t ∷ bs)
+  judged-first bs some = part-broken (meant_breaches m t) bs judged.is some
 
-  pub judged-next : breach ≡ 0 → (b : ℕ) → firstBreach (unsoundFault (sound t) ∷ meaningFault m t ∷ b ∷ []) ≡ b
-  judged-next none b = part-kept (meantBreaches m t) (b ∷ []) (sym judged.is ∙ none) ∙ list-last b
+  pub judged-next : breach ≡ 0 → (b : ℕ) → first_breach (unsound_fault (sound t) ∷ meaning_fault m t ∷ b ∷ []) ≡ b
+  judged-next none b = part-kept (meant_breaches m t) (b ∷ []) (sym judged.is ∙ none) ∙ list-last b

@@ -5,45 +5,45 @@ use mathlib.Core.List.{List}
 use lib.ListN.{length, take}
 use Rattle.lists.specs.Product.{product}
 use Rattle.lists.proofs.Fronts.{put-taken}
-use Rattle.rules.specs.Limits.{mostJointStates}
+use Rattle.rules.specs.Limits.{most_joint_states}
 use Rattle.study.specs.declared.Study.{Study}
-use Rattle.study.specs.Joint.{stateCounts}
+use Rattle.study.specs.Joint.{state_counts}
 use Rattle.soundness.specs.Sound.{Sound}
 use Rattle.model.specs.Good.{Good}
 use Rattle.model.specs.declared.HeldModel.{HeldModel}
-use Rattle.model.specs.InHand.{modelHeld}
-use Rattle.model.specs.Model.{Model, classesOf, components, pathsOf, probabilityTable}
+use Rattle.model.specs.InHand.{model_held}
+use Rattle.model.specs.Model.{Model, classes_of, components, paths_of, probability_table}
 use Rattle.model.proofs.Classes.{classes-long}
 use Rattle.study_model.specs.Holding.{Holds}
-use Rattle.study_model.specs.Model.{modelBy}
+use Rattle.study_model.specs.Model.{model_by}
 use Rattle.study_model.proofs.ClassFront.{front-paths, front-values}
 use Rattle.study_model.proofs.Good.{with-good}
-use Rattle.meaning.specs.Meaning.{Meaning, classMeant, modelOf}
+use Rattle.meaning.specs.Meaning.{Meaning, class_meant, model_of}
 use Rattle.meaning.specs.Sources.{Tabled}
 
-pub meant-good : (m : Meaning) (t : Study) → Sound t → Good (modelOf m t)
-unfolding modelOf
-meant-good m t sound = with-good t sound (classMeant m t)
+pub meant-good : (m : Meaning) (t : Study) → Sound t → Good (model_of m t)
+unfolding model_of
+meant-good m t sound = with-good t sound (class_meant m t)
 
 -- a study in hand beside such a table
-module _ (m : Meaning) {t : Study} {h : HeldModel} {was : List ℕ} (table : List ℕ) (sound : Sound t) (holds : Holds t h) (room : mostJointStates ≤ length table)
+module _ (m : Meaning) {t : Study} {h : HeldModel} {was : List ℕ} (table : List ℕ) (sound : Sound t) (holds : Holds t h) (room : most_joint_states ≤ length table)
     (tabled : Tabled m t was table) where
-  table-front : take (product (stateCounts t)) table ≡ classesOf (modelOf m t)
-  unfolding modelOf
-  table-front = ap (take (product (stateCounts t))) tabled.holds ∙ put-taken was (classesOf (modelOf m t)) (classes-long (modelOf m t))
+  table-front : take (product (state_counts t)) table ≡ classes_of (model_of m t)
+  unfolding model_of
+  table-front = ap (take (product (state_counts t))) tabled.holds ∙ put-taken was (classes_of (model_of m t)) (classes-long (model_of m t))
 
-  pub table-paths : pathsOf (modelHeld h table) ≡ pathsOf (modelOf m t)
-  unfolding modelOf
-  table-paths = ap pathsOf (holds.model table) ∙ front-paths table sound room (classMeant m t) table-front
+  pub table-paths : paths_of (model_held h table) ≡ paths_of (model_of m t)
+  unfolding model_of
+  table-paths = ap paths_of (holds.model table) ∙ front-paths table sound room (class_meant m t) table-front
 
   pub table-values : {A : Type 0} (f : List ℕ → ℕ → List (List ℕ) → A)
-      → f (probabilityTable (modelHeld h table)) (components (modelHeld h table)) (pathsOf (modelHeld h table))
-      ≡ f (probabilityTable (modelOf m t)) (components (modelOf m t)) (pathsOf (modelOf m t))
-  unfolding modelOf
+      → f (probability_table (model_held h table)) (components (model_held h table)) (paths_of (model_held h table))
+      ≡ f (probability_table (model_of m t)) (components (model_of m t)) (paths_of (model_of m t))
+  unfolding model_of
   table-values f =
-      ap (λ (n : Model). f (probabilityTable n) (components n) (pathsOf n)) (holds.model table)
-      ∙ front-values table sound room (classMeant m t) table-front f
+      ap (λ (n : Model). f (probability_table n) (components n) (paths_of n)) (holds.model table)
+      ∙ front-values table sound room (class_meant m t) table-front f
 
-  pub table-loads : (modelHeld h table).loads ≡ (modelOf m t).loads
-  unfolding modelOf modelBy
+  pub table-loads : (model_held h table).loads ≡ (model_of m t).loads
+  unfolding model_of model_by
   table-loads = ap (λ (n : Model). n.loads) (holds.model table)

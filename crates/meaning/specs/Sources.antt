@@ -1,29 +1,29 @@
 -- The meaning of a call as the code holds it: where the classes come from, and the bytes of a tree, which gates do not look at.
 use Rattle.std.specs.Prelude.{ℕ, ◌≡◌, List}
 use Rattle.lists.specs.Rows.{put}
-use Rattle.rules.specs.Breach.{firstBreach}
+use Rattle.rules.specs.Breach.{first_breach}
 use Rattle.study.specs.declared.Study.{Study}
 use Rattle.soundness.specs.Sound.{Sound}
-use Rattle.model.specs.Model.{classesOf}
+use Rattle.model.specs.Model.{classes_of}
 use Rattle.meaning.specs.declared.Source.{Source}
 use Rattle.meaning.specs.declared.Source.TheVariants.{Gates, Tree}
-use Rattle.meaning.specs.Meaning.{Meaning, byGates, byTree, meaningFault, modelOf, meantBreaches}
+use Rattle.meaning.specs.Meaning.{Meaning, by_gates, by_tree, meaning_fault, model_of, meant_breaches}
 
-abbrev pub meaningOf : Source → List ℕ → Meaning
-meaningOf Gates tree = byGates
-meaningOf Tree tree = byTree tree
+abbrev pub meaning_of : Source → List ℕ → Meaning
+meaning_of Gates tree = by_gates
+meaning_of Tree tree = by_tree tree
 
 -- the classes of all joint states stand at the front of a table, and nothing else of it is changed
 pub record Tabled (m : Meaning) (t : Study) (was table : List ℕ) : Type 0 where
-  pub holds : table ≡ put was 0 (classesOf (modelOf m t))
+  pub holds : table ≡ put was 0 (classes_of (model_of m t))
 
 -- a sound study is judged under a meaning
 pub record ClassesPut (m : Meaning) (t : Study) (was table : List ℕ) (breach : ℕ) : Type 0 where
-  pub is : breach ≡ meaningFault m t
+  pub is : breach ≡ meaning_fault m t
   pub tabled : breach ≡ 0 → Tabled m t was table
 
 -- any study is
 pub record Judged (m : Meaning) (t : Study) (was table : List ℕ) (breach : ℕ) : Type 0 where
-  pub is : breach ≡ firstBreach (meantBreaches m t)
-  pub is-sound : breach ≡ 0 → Sound t
+  pub is : breach ≡ first_breach (meant_breaches m t)
+  pub is_sound : breach ≡ 0 → Sound t
   pub tabled : breach ≡ 0 → Tabled m t was table

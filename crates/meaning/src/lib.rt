@@ -4,9 +4,9 @@ mod drawn;
 
 ghost use Rattle.std.specs.Prelude.{◌≤◌, length};
 ghost use Rattle.lists.specs.Cleared.{Cleared};
-ghost use Rattle.rules.specs.Limits.{mostJointStates};
+ghost use Rattle.rules.specs.Limits.{most_joint_states};
 ghost use Rattle.soundness.specs.Sound.{Sound};
-ghost use Rattle.meaning.specs.Sources.{meaningOf, ClassesPut, Judged};
+ghost use Rattle.meaning.specs.Sources.{meaning_of, ClassesPut, Judged};
 
 use drawn::put_drawn;
 use entries::Class;
@@ -23,7 +23,7 @@ pub enum Source {
 
 // A class table with every place cleared.
 pub fn no_classes() -> [Class; JOINT_STATE_PLACES]
-    ensures { Cleared mostJointStates result }
+    ensures { Cleared most_joint_states result }
 {
     [0; JOINT_STATE_PLACES]
 }
@@ -32,8 +32,8 @@ pub fn no_classes() -> [Class; JOINT_STATE_PLACES]
 // table may hold anything.
 pub fn put_classes(source: Source, t: Study, tree: &[u8], classes: &mut [Class]) -> u8
     requires sound { Sound t }
-    requires most_joint_states_in_bounds { mostJointStates ≤ length classes.old }
-    ensures { ClassesPut (meaningOf source tree.now) t classes.old classes.new result }
+    requires most_joint_states_in_bounds { most_joint_states ≤ length classes.old }
+    ensures { ClassesPut (meaning_of source tree.now) t classes.old classes.new result }
 {
     match source {
         Source::Gates => {
@@ -46,8 +46,8 @@ pub fn put_classes(source: Source, t: Study, tree: &[u8], classes: &mut [Class])
 
 // The same of any study. Refused by 16, then 20, 21 or 22.
 pub fn judged_classes(source: Source, study: Study, tree: &[u8], classes: &mut [Class]) -> u8
-    requires { mostJointStates ≤ length classes.old }
-    ensures { Judged (meaningOf source tree.now) study classes.old classes.new result }
+    requires { most_joint_states ≤ length classes.old }
+    ensures { Judged (meaning_of source tree.now) study classes.old classes.new result }
 {
     let unsound = unsound_fault(is_sound(study));
     if unsound != 0 {

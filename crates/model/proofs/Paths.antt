@@ -17,31 +17,31 @@ use Rattle.paths.proofs.OnePath.{one-path-each}
 use Rattle.paths.proofs.Tell.{paths-tell}
 use Rattle.model.specs.Good.{Good}
 use Rattle.model.specs.Laws.{EachIsEntry, OnePathEach, PathsAscend, BlankExactly, ClassAlike, PathsTell}
-use Rattle.model.specs.Model.{Model, components, classesOf, pathsOf}
+use Rattle.model.specs.Model.{Model, components, classes_of, paths_of}
 use Rattle.model.proofs.Classes.{classes-long, class-at, good-block}
 
 pub each-entry : EachIsEntry
-unfolding pathsOf
+unfolding paths_of
 each-entry m good i h =
-    let e = block-entry m.counts (classesOf m) (good-block m good) i h in
+    let e = block-entry m.counts (classes_of m) (good-block m good) i h in
     record {
       long = e.long;
       states = e.states;
       joint = e.joint;
-      is-joint = e.is-joint;
+      is_joint = e.is_joint;
       fitted = e.fitted;
-      bears = e.bears ∙ class-at m e.joint e.is-joint;
+      bears = e.bears ∙ class-at m e.joint e.is_joint;
     }
 
 pub one-path : OnePathEach
-unfolding pathsOf
+unfolding paths_of
 one-path m good x j =
-    subst (λ (class : ℕ). OnePath (components m) class x (pathsOf m)) (class-at m x j)
-    (one-path-each m.counts (classesOf m) (good-block m good) x j)
+    subst (λ (class : ℕ). OnePath (components m) class x (paths_of m)) (class-at m x j)
+    (one-path-each m.counts (classes_of m) (good-block m good) x j)
 
 pub ascending : PathsAscend
-unfolding pathsOf
-ascending m good = paths-ascend m.counts (classesOf m) (good-block m good)
+unfolding paths_of
+ascending m good = paths-ascend m.counts (classes_of m) (good-block m good)
 
 -- two ways to class joint states that agree on them tell the same components blank
 blank-alike : (counts : List ℕ) (f g : List ℕ → ℕ) (k : ℕ) (entry : List ℕ) → ((x : List ℕ) → JointState counts x → f x ≡ g x)
@@ -53,40 +53,40 @@ blank-alike counts f g k entry agree iff =
     }
 
 pub blank-iff : BlankExactly
-unfolding pathsOf
+unfolding paths_of
 blank-iff m good i k h less =
-    blank-alike m.counts (class_at m.counts (classesOf m)) m.class k (get_or (pathsOf m) i []) (class-at m)
-    (blank-exactly m.counts (classesOf m) (good-block m good) i k h less)
+    blank-alike m.counts (class_at m.counts (classes_of m)) m.class k (get_or (paths_of m) i []) (class-at m)
+    (blank-exactly m.counts (classes_of m) (good-block m good) i k h less)
 
 -- ---- two models over the same state counts
 
 module _ (m n : Model) (counts : m.counts ≡ n.counts) where
   -- the class that the second has for a joint state of the first
-  second-class : (x : List ℕ) → JointState m.counts x → class_at m.counts (classesOf n) x ≡ n.class x
+  second-class : (x : List ℕ) → JointState m.counts x → class_at m.counts (classes_of n) x ≡ n.class x
   second-class x j =
-      ap (λ (l : List ℕ). class_at l (classesOf n) x) counts ∙ class-at n x (subst (λ (l : List ℕ). JointState l x) counts j)
+      ap (λ (l : List ℕ). class_at l (classes_of n) x) counts ∙ class-at n x (subst (λ (l : List ℕ). JointState l x) counts j)
 
-  same-classes : ClassAlike m n → classesOf m ≡ classesOf n
+  same-classes : ClassAlike m n → classes_of m ≡ classes_of n
   same-classes alike =
-      ext_get_or 0 (classesOf m) (classesOf n) (classes-long m ∙ ap product counts ∙ sym (classes-long n))
+      ext_get_or 0 (classes_of m) (classes_of n) (classes-long m ∙ ap product counts ∙ sym (classes-long n))
       (λ k h.
       let w = with_number m.counts k (rw (classes-long m) at h) in
-      rw (sym w.number) (class-at m w.joint w.is-joint ∙ alike w.joint w.is-joint ∙ sym (second-class w.joint w.is-joint)))
+      rw (sym w.number) (class-at m w.joint w.is_joint ∙ alike w.joint w.is_joint ∙ sym (second-class w.joint w.is_joint)))
 
   -- the paths of the second over the state counts of the first
-  second-paths : paths m.counts (classesOf n) ≡ pathsOf n
-  unfolding pathsOf
-  second-paths = ap (λ (l : List ℕ). paths l (classesOf n)) counts
+  second-paths : paths m.counts (classes_of n) ≡ paths_of n
+  unfolding paths_of
+  second-paths = ap (λ (l : List ℕ). paths l (classes_of n)) counts
 
-  same-paths : ClassAlike m n → pathsOf m ≡ pathsOf n
-  unfolding pathsOf
+  same-paths : ClassAlike m n → paths_of m ≡ paths_of n
+  unfolding paths_of
   same-paths alike = ap (paths m.counts) (same-classes alike) ∙ second-paths
 
-  paths-alike : Good m → Good n → pathsOf m ≡ pathsOf n → ClassAlike m n
-  unfolding pathsOf
+  paths-alike : Good m → Good n → paths_of m ≡ paths_of n → ClassAlike m n
+  unfolding paths_of
   paths-alike good other same x j =
-      let second : Block m.counts (classesOf n) = subst (λ (l : List ℕ). Block l (classesOf n)) (sym counts) (good-block n other) in
-      let classes = paths-tell m.counts (classesOf m) (classesOf n) (good-block m good) second (same ∙ sym second-paths) in
+      let second : Block m.counts (classes_of n) = subst (λ (l : List ℕ). Block l (classes_of n)) (sym counts) (good-block n other) in
+      let classes = paths-tell m.counts (classes_of m) (classes_of n) (good-block m good) second (same ∙ sym second-paths) in
       sym (class-at m x j) ∙ ap (λ (l : List ℕ). class_at m.counts l x) classes ∙ second-class x j
 
 pub paths-same-iff : PathsTell

@@ -3,23 +3,23 @@ use Rattle.std.specs.Prelude.{ℕ, ◌<◌, ◌≤◌, ◌≡◌, List, [], leng
 use Rattle.lists.specs.Counting.{sum}
 use Rattle.lists.specs.Product.{product}
 use Rattle.units.specs.One.{one}
-use Rattle.rules.specs.Limits.{mostComponents, mostLoads, fewestStates, mostStates, mostJointStates, mostCustomers, mostMinutes}
+use Rattle.rules.specs.Limits.{most_components, most_loads, fewest_states, most_states, most_joint_states, most_customers, most_minutes}
 use Rattle.study.specs.declared.Load.{Load}
-use Rattle.study.specs.Zero.{zeroLoad}
+use Rattle.study.specs.Zero.{zero_load}
 use Rattle.model.specs.Model.{Model}
 
 -- the probabilities of a component's states: of its `states` states they sum to one, and a state that it lacks has probability 0
 pub record Whole (states : ℕ) (row : List ℕ) : Type 0 where
-  pub places : length row ≡ mostStates
+  pub places : length row ≡ most_states
   pub sums : sum (λ (s : ℕ). get_or row s 0) states ≡ one
   pub lacking : (s : ℕ) → states ≤ s → get_or row s 0 ≡ 0
 
 -- the components: how many states each has, and how many joint states they have together
 pub record Counted (counts : List ℕ) : Type 0 where
-  pub few : length counts ≤ mostComponents
-  pub least : (k : ℕ) → k < length counts → fewestStates ≤ get_or counts k 0
-  pub most : (k : ℕ) → k < length counts → get_or counts k 0 ≤ mostStates
-  pub joint : product counts ≤ mostJointStates
+  pub few : length counts ≤ most_components
+  pub least : (k : ℕ) → k < length counts → fewest_states ≤ get_or counts k 0
+  pub most : (k : ℕ) → k < length counts → get_or counts k 0 ≤ most_states
+  pub joint : product counts ≤ most_joint_states
 
 -- a row of probabilities for each component
 pub record StateProbabilities (counts : List ℕ) (probabilities : List (List ℕ)) : Type 0 where
@@ -28,9 +28,9 @@ pub record StateProbabilities (counts : List ℕ) (probabilities : List (List �
 
 -- the loads are within their limits
 pub record Sizes (loads : List Load) : Type 0 where
-  pub few : length loads ≤ mostLoads
-  pub customers : (j : ℕ) → j < length loads → (get_or loads j zeroLoad).customers ≤ mostCustomers
-  pub minutes : (j : ℕ) → j < length loads → (get_or loads j zeroLoad).minutes ≤ mostMinutes
+  pub few : length loads ≤ most_loads
+  pub customers : (j : ℕ) → j < length loads → (get_or loads j zero_load).customers ≤ most_customers
+  pub minutes : (j : ℕ) → j < length loads → (get_or loads j zero_load).minutes ≤ most_minutes
 
 pub record Good (m : Model) : Type 0 where
   pub counts : Counted m.counts

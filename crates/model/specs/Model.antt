@@ -1,7 +1,7 @@
 -- The model: components with the probabilities of their states, a class for each joint state, and loads.
 use Rattle.std.specs.Prelude.{ℕ, List, map, length}
 use Rattle.lists.specs.Rows.{joined}
-use Rattle.joint_states.specs.JointStates.{jointStates}
+use Rattle.joint_states.specs.JointStates.{joint_states}
 use Rattle.study.specs.declared.Load.{Load}
 use Rattle.paths.specs.Paths.{paths}
 
@@ -19,16 +19,16 @@ abbrev pub components : Model → ℕ
 components m = length m.counts
 
 -- the classes of all joint states, by their number
-unfoldable pub classesOf : Model → List ℕ
-unfolding jointStates
-classesOf m = map m.class (jointStates m.counts)
+unfoldable pub classes_of : Model → List ℕ
+unfolding joint_states
+classes_of m = map m.class (joint_states m.counts)
 
 -- its paths, an entry each
-unfoldable pub pathsOf : Model → List (List ℕ)
-unfolding paths classesOf
-pathsOf m = paths m.counts (classesOf m)
+unfoldable pub paths_of : Model → List (List ℕ)
+unfolding paths classes_of
+paths_of m = paths m.counts (classes_of m)
 
 -- the probabilities of all components, one behind the other
-unfoldable pub probabilityTable : Model → List ℕ
+unfoldable pub probability_table : Model → List ℕ
 unfolding joined
-probabilityTable m = joined m.probabilities
+probability_table m = joined m.probabilities

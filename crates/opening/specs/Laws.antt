@@ -1,22 +1,22 @@
 -- What holds of every opening: what it refuses by, what it reads of the bytes, and what it returns.
 use Rattle.std.specs.Prelude.{ℕ, ◌+◌, ◌≤◌, ◌≡◌, List, [], ◌++◌, length, take}
-use Rattle.rules.specs.Limits.{longestStudy}
+use Rattle.rules.specs.Limits.{longest_study}
 use Rattle.study.specs.Places.{Shaped}
-use Rattle.answers.specs.Told.{Told, result, refusal, outcomeTold}
+use Rattle.answers.specs.Told.{Told, result, refusal, outcome_told}
 use Rattle.soundness.specs.Sound.{Sound}
 use Rattle.opening.specs.Opening.{opened}
 
 -- what opening tells: that it is done, or the number of a refusal
-abbrev pub openingTold : List ℕ → Told
-openingTold bytes = outcomeTold (opened bytes).outcome
+abbrev pub opening_told : List ℕ → Told
+opening_told bytes = outcome_told (opened bytes).outcome
 
 -- bytes open
 abbrev pub IsOpened : List ℕ → Type 0
-IsOpened bytes = openingTold bytes ≡ result []
+IsOpened bytes = opening_told bytes ≡ result []
 
 -- or they are refused, by this number
 abbrev pub IsRefused : List ℕ → ℕ → Type 0
-IsRefused bytes n = openingTold bytes ≡ refusal n
+IsRefused bytes n = opening_told bytes ≡ refusal n
 
 -- An opening that is not refused returns a sound study.
 abbrev pub OpenedSound : Type 0
@@ -47,6 +47,6 @@ pub record FirstBreach : Type 0 where
 -- How many of the bytes opening reads.
 pub record LongestStudy : Type 0 where
   -- bytes that open are no more than the longest study
-  pub most : (bytes : List ℕ) → IsOpened bytes → length bytes ≤ longestStudy
+  pub most : (bytes : List ℕ) → IsOpened bytes → length bytes ≤ longest_study
   -- one byte more than the longest study decides the whole answer, whatever follows
-  pub decides : (bytes : List ℕ) → opened (take (longestStudy + 1) bytes) ≡ opened bytes
+  pub decides : (bytes : List ℕ) → opened (take (longest_study + 1) bytes) ≡ opened bytes

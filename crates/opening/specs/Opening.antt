@@ -2,8 +2,8 @@
 -- as the bytes give it, and answered with the inputs of its gates in order.
 use Rattle.std.specs.Prelude.{ℕ, ◌*◌, List, length, take, set}
 use Rattle.lists.specs.Product.{product}
-use Rattle.rules.specs.Limits.{mostComponents, mostGates, mostLoads}
-use Rattle.rules.specs.Table.{countFault, widthFault, leftFault}
+use Rattle.rules.specs.Limits.{most_components, most_gates, most_loads}
+use Rattle.rules.specs.Table.{count_fault, width_fault, left_fault}
 use Rattle.reading.specs.Reader.{Read, refused, got, Reader, byte, judge, return, repeat, ◌>>=◌, ◌>>◌}
 use Rattle.component_record.specs.Component.{component}
 use Rattle.gate_record.specs.Gate.{gate}
@@ -16,34 +16,34 @@ use Rattle.answers.specs.Answered.{answered}
 use Rattle.answers.specs.declared.outcome.Outcome.TheVariants.{Done, Refused}
 use Rattle.answers.specs.declared.outcome.StudyAnswer.{StudyAnswer}
 use Rattle.study.specs.Joint.{states}
-use Rattle.study.specs.Zero.{noComponents, noGates, noLoads, zeroStudy}
+use Rattle.study.specs.Zero.{no_components, no_gates, no_loads, zero_study}
 use Rattle.gate_order.specs.Order.{ordered}
 
 -- one of the first three bytes
 unfoldable pub count : ℕ → Reader ℕ
 count most = do
   n ← byte
-  judge (countFault most n)
+  judge (count_fault most n)
   return n
 
 -- a component after others that have so many joint states
-unfoldable pub componentAfter : ℕ → Reader Component
-componentAfter jointStates = do
+unfoldable pub component_after : ℕ → Reader Component
+component_after joint_states = do
   c ← component
-  judge (widthFault (jointStates * c.states))
+  judge (width_fault (joint_states * c.states))
   return c
 
 -- component i; those before it have as many joint states as the product of their state counts
-unfoldable pub componentRecord : ℕ → List Component → Reader Component
-componentRecord i cs = componentAfter (product (take i (states cs)))
+unfoldable pub component_record : ℕ → List Component → Reader Component
+component_record i cs = component_after (product (take i (states cs)))
 
 -- gate i; `counts` has the state count of each component
-abbrev pub gateRecord : List ℕ → ℕ → List Gate → Reader Gate
-gateRecord counts i gs = gate counts i
+abbrev pub gate_record : List ℕ → ℕ → List Gate → Reader Gate
+gate_record counts i gs = gate counts i
 
 -- a load of a study with so many gates
-abbrev pub loadRecord : ℕ → ℕ → List Load → Reader Load
-loadRecord gates j ls = load gates
+abbrev pub load_record : ℕ → ℕ → List Load → Reader Load
+load_record gates j ls = load gates
 
 -- each record goes to its own place
 abbrev pub placing : {A : Type 0} → (ℕ → List A → Reader A) → ℕ → List A → Reader (List A)
@@ -54,38 +54,38 @@ placing next i places = do
 -- the records of a study with these counts
 unfoldable pub records : ℕ → ℕ → ℕ → Reader Study
 records components gates loads = do
-  cs ← repeat (placing componentRecord) components noComponents
-  gs ← repeat (placing (gateRecord (take components (states cs)))) gates noGates
-  ls ← repeat (placing (loadRecord gates)) loads noLoads
+  cs ← repeat (placing component_record) components no_components
+  gs ← repeat (placing (gate_record (take components (states cs)))) gates no_gates
+  ls ← repeat (placing (load_record gates)) loads no_loads
   return (record { components = components; gates = gates; loads = loads; component = cs; gate = gs; load = ls })
 
 -- a study as the bytes give it
 unfoldable pub study : Reader Study
 study = do
-  components ← count mostComponents
-  gates ← count mostGates
-  loads ← count mostLoads
+  components ← count most_components
+  gates ← count most_gates
+  loads ← count most_loads
   records components gates loads
 
 -- a refused opening answers the number and a study of zeros
-unfoldable pub refusedOpening : ℕ → StudyAnswer
-refusedOpening n = record { outcome = Refused n; study = zeroStudy }
+unfoldable pub refused_opening : ℕ → StudyAnswer
+refused_opening n = record { outcome = Refused n; study = zero_study }
 
 -- the answer to a reading; the end is judged last, and then the inputs of each gate are put in order
 unfoldable pub answer : Read Study → StudyAnswer
 unfolding answered ordered
-answer (refused n) = refusedOpening n
-answer (got t rest) = answered refusedOpening (leftFault (length rest)) (record { outcome = Done; study = ordered t })
+answer (refused n) = refused_opening n
+answer (got t rest) = answered refused_opening (left_fault (length rest)) (record { outcome = Done; study = ordered t })
 
 -- the study of a reading as the bytes give it, before its inputs are put in order; of zeros where the reading is
 -- refused
 unfoldable pub given : Read Study → Study
-given (refused n) = zeroStudy
+given (refused n) = zero_study
 given (got t rest) = t
 
-unfoldable pub asGiven : List ℕ → Study
+unfoldable pub as_given : List ℕ → Study
 unfolding given
-asGiven bytes = given (study bytes)
+as_given bytes = given (study bytes)
 
 -- what opening answers
 unfoldable pub opened : List ℕ → StudyAnswer

@@ -1,10 +1,10 @@
 // The gate records of a study.
 ghost use Rattle.std.specs.Prelude.{◌≤◌};
-ghost use Rattle.rules.specs.Limits.{mostGates};
+ghost use Rattle.rules.specs.Limits.{most_gates};
 ghost use Rattle.reading.specs.Reader.{ReadsAt, repeat};
-ghost use Rattle.study.specs.Zero.{noGates};
+ghost use Rattle.study.specs.Zero.{no_gates};
 ghost use Rattle.opening.specs.Opening.{placing};
-ghost use Rattle.opening.specs.Places.{gateRecordInOrder};
+ghost use Rattle.opening.specs.Places.{gate_record_in_order};
 
 use gate_record::read_gate;
 use rules::{GATE_PLACES, INPUT_PLACES, TEST_PLACES};
@@ -19,8 +19,8 @@ pub struct GatesRead {
 
 // So many gate records, each in its place with its inputs in order, up to the first breach; `counts` has the state count of each component.
 pub fn read_gates(bytes: &[u8], at: usize, counts: &[u8], n: usize) -> GatesRead
-    requires { n ≤ mostGates }
-    ensures { ReadsAt bytes.now at (repeat (placing (gateRecordInOrder counts.now)) n noGates) result.refusal result.next result.gate }
+    requires { n ≤ most_gates }
+    ensures { ReadsAt bytes.now at (repeat (placing (gate_record_in_order counts.now)) n no_gates) result.refusal result.next result.gate }
 {
     let mut next = at;
     let mut gate = no_gates();

@@ -6,7 +6,7 @@ mod loads;
 
 ghost use Rattle.std.specs.Prelude.{◌≡◌, ◌≤◌};
 ghost use Rattle.reading.specs.Reader.{ReadsWith};
-ghost use Rattle.opening.specs.Opening.{count, refusedOpening, opened};
+ghost use Rattle.opening.specs.Opening.{count, refused_opening, opened};
 ghost use Rattle.opening.specs.Places.{CountsAhead};
 
 use answers::{Outcome, StudyAnswer};
@@ -43,7 +43,7 @@ fn count_at(bytes: &[u8], at: usize, most: u8) -> ByteRead
 
 // The answer of an opening that is refused.
 fn refused_opening(number: u8) -> StudyAnswer
-    ensures { result ≡ refusedOpening number }
+    ensures { result ≡ refused_opening number }
 {
     let study = zero_study();
     StudyAnswer {

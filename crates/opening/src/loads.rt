@@ -1,9 +1,9 @@
 // The load records of a study.
 ghost use Rattle.std.specs.Prelude.{◌≤◌};
-ghost use Rattle.rules.specs.Limits.{mostLoads};
+ghost use Rattle.rules.specs.Limits.{most_loads};
 ghost use Rattle.reading.specs.Reader.{ReadsAt, repeat};
-ghost use Rattle.study.specs.Zero.{noLoads};
-ghost use Rattle.opening.specs.Opening.{loadRecord, placing};
+ghost use Rattle.study.specs.Zero.{no_loads};
+ghost use Rattle.opening.specs.Opening.{load_record, placing};
 
 use load_record::read_load;
 use rules::LOAD_PLACES;
@@ -18,8 +18,8 @@ pub struct LoadsRead {
 
 // So many load records of a study with so many gates, each in its place, up to the first breach.
 pub fn read_loads(bytes: &[u8], at: usize, gates: u8, n: usize) -> LoadsRead
-    requires { n ≤ mostLoads }
-    ensures { ReadsAt bytes.now at (repeat (placing (loadRecord gates)) n noLoads) result.refusal result.next result.load }
+    requires { n ≤ most_loads }
+    ensures { ReadsAt bytes.now at (repeat (placing (load_record gates)) n no_loads) result.refusal result.next result.load }
 {
     let mut next = at;
     let mut load = no_loads();

@@ -2,25 +2,25 @@
 -- what they come to is said in `Laws`.
 use Rattle.std.specs.Prelude.{ℕ, ◌≡◌, Bool, true, false, cond, List, [], ◌∷◌, length}
 use Rattle.lists.specs.Rows.{put}
-use Rattle.ordering.specs.Distinct.{sameInput, distinct}
+use Rattle.ordering.specs.Distinct.{same_input, distinct}
 use Rattle.ordering.specs.Inputs.{Input, numbers, masks}
 use Rattle.ordering.specs.Sorting.{ascends}
 
 -- an input is the first of a row
-unfoldable pub standsNext : Input → List Input → Bool
-unfolding sameInput
-standsNext a [] = false
-standsNext a (b ∷ row) = sameInput a b
+unfoldable pub stands_next : Input → List Input → Bool
+unfolding same_input
+stands_next a [] = false
+stands_next a (b ∷ row) = same_input a b
 
 -- a row without the inputs that stand right behind again
 unfoldable pub thinned : List Input → List Input
-unfolding standsNext
+unfolding stands_next
 thinned [] = []
-thinned (a ∷ row) = cond (standsNext a row) (thinned row) (a ∷ thinned row)
+thinned (a ∷ row) = cond (stands_next a row) (thinned row) (a ∷ thinned row)
 
 -- how many inputs a row may have for their number to be a byte
-abbrev pub mostCounted : ℕ
-mostCounted = 255
+abbrev pub most_counted : ℕ
+most_counted = 255
 
 -- a row was found to be in order or not, and then to have so many distinct inputs
 pub record Counts (row : List Input) (in_order : Bool) (n : ℕ) : Type 0 where
@@ -29,6 +29,6 @@ pub record Counts (row : List Input) (in_order : Bool) (n : ℕ) : Type 0 where
 
 -- two rows of bytes were n₀ and m₀, and now hold a row of inputs at their front, so many, and what they held behind it
 pub record Fronted (n₀ m₀ : List ℕ) (row : List Input) (n m : List ℕ) (count : ℕ) : Type 0 where
-  pub in-numbers : n ≡ put n₀ 0 (numbers row)
-  pub in-masks : m ≡ put m₀ 0 (masks row)
+  pub in_numbers : n ≡ put n₀ 0 (numbers row)
+  pub in_masks : m ≡ put m₀ 0 (masks row)
   pub many : count ≡ length row

@@ -1,8 +1,8 @@
 // The distinct inputs of a row in order, where repeats stand side by side: of those the last counts.
 ghost use Rattle.std.specs.Prelude.{suc, ◌<◌, ◌≤◌, ◌≡◌, length, get_or, drop};
 ghost use Rattle.ordering.specs.Distinct.{distinct};
-ghost use Rattle.ordering.specs.Thinning.{standsNext, mostCounted, Counts, Fronted};
-ghost use Rattle.ordering.specs.Inputs.{noInput, paired, Ascending};
+ghost use Rattle.ordering.specs.Thinning.{stands_next, most_counted, Counts, Fronted};
+ghost use Rattle.ordering.specs.Inputs.{no_input, paired, Ascending};
 
 use crate::rank;
 
@@ -11,7 +11,7 @@ fn stands_next(number: &[u8], mask: &[u8], at: usize) -> bool
     requires rows { length number.now ≡ length mask.now }
     requires inside { at < length number.now }
     ensures { result
-        ≡ standsNext (get_or (paired number.now mask.now) at noInput) (drop (suc at) (paired number.now mask.now)) }
+        ≡ stands_next (get_or (paired number.now mask.now) at no_input) (drop (suc at) (paired number.now mask.now)) }
 {
     if number.len() <= at + 1 {
         return false;
@@ -29,7 +29,7 @@ pub struct Counted {
 // Goes along a row once: no input may rank below the one before it, and where it ranks above, another one begins.
 pub fn count_distinct(number: &[u8], mask: &[u8]) -> Counted
     requires rows { length number.now ≡ length mask.now }
-    requires few { length number.now ≤ mostCounted }
+    requires few { length number.now ≤ most_counted }
     ensures { Counts (paired number.now mask.now) result.ascends result.distinct }
 {
     if number.len() == 0 {

@@ -1,8 +1,8 @@
 // The calls for the bounds of a study's classes, added up in two lent slices.
 ghost use Rattle.std.specs.Prelude.{◌≡◌};
-ghost use Rattle.meaning.specs.Meaning.{byGates, byTree};
-ghost use Rattle.meaning.specs.Sources.{meaningOf};
-ghost use Rattle.path_calls.specs.Bounds.{classesBounded, lowerOfClasses, upperOfClasses};
+ghost use Rattle.meaning.specs.Meaning.{by_gates, by_tree};
+ghost use Rattle.meaning.specs.Sources.{meaning_of};
+ghost use Rattle.path_calls.specs.Bounds.{classes_bounded, lower_of_classes, upper_of_classes};
 
 use answers::Outcome;
 use evaluation::bound_classes;
@@ -19,11 +19,11 @@ pub fn classes_meant(
     upper: &mut [u64],
 ) -> Outcome
     ensures answer { result
-        ≡ classesBounded (meaningOf source tree.now) study lower.old upper.old }
+        ≡ classes_bounded (meaning_of source tree.now) study lower.old upper.old }
     ensures lower { lower.new
-        ≡ lowerOfClasses (meaningOf source tree.now) study lower.old upper.old }
+        ≡ lower_of_classes (meaning_of source tree.now) study lower.old upper.old }
     ensures upper { upper.new
-        ≡ upperOfClasses (meaningOf source tree.now) study lower.old upper.old }
+        ≡ upper_of_classes (meaning_of source tree.now) study lower.old upper.old }
 {
     let mut classes = no_classes();
     let fault = judged_classes(source, study, tree, &mut classes);
@@ -35,9 +35,9 @@ pub fn classes_meant(
 
 // Bounds for the classes of a study, at the front of two slices, a place for each class. Refused by 16, 18, in this order.
 pub fn class_bounds(study: Study, lower: &mut [u64], upper: &mut [u64]) -> Outcome
-    ensures answer { result ≡ classesBounded byGates study lower.old upper.old }
-    ensures lower { lower.new ≡ lowerOfClasses byGates study lower.old upper.old }
-    ensures upper { upper.new ≡ upperOfClasses byGates study lower.old upper.old }
+    ensures answer { result ≡ classes_bounded by_gates study lower.old upper.old }
+    ensures lower { lower.new ≡ lower_of_classes by_gates study lower.old upper.old }
+    ensures upper { upper.new ≡ upper_of_classes by_gates study lower.old upper.old }
 {
     classes_meant(Source::Gates, study, &[], lower, upper)
 }
@@ -49,9 +49,9 @@ pub fn drawn_class_bounds(
     lower: &mut [u64],
     upper: &mut [u64],
 ) -> Outcome
-    ensures answer { result ≡ classesBounded (byTree tree.now) study lower.old upper.old }
-    ensures lower { lower.new ≡ lowerOfClasses (byTree tree.now) study lower.old upper.old }
-    ensures upper { upper.new ≡ upperOfClasses (byTree tree.now) study lower.old upper.old }
+    ensures answer { result ≡ classes_bounded (by_tree tree.now) study lower.old upper.old }
+    ensures lower { lower.new ≡ lower_of_classes (by_tree tree.now) study lower.old upper.old }
+    ensures upper { upper.new ≡ upper_of_classes (by_tree tree.now) study lower.old upper.old }
 {
     classes_meant(Source::Tree, study, tree, lower, upper)
 }

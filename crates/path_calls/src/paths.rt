@@ -1,8 +1,8 @@
 // The calls for the bounds of a study's paths, into two lent slices.
 ghost use Rattle.std.specs.Prelude.{◌≡◌};
-ghost use Rattle.meaning.specs.Meaning.{byGates, byTree};
-ghost use Rattle.meaning.specs.Sources.{meaningOf};
-ghost use Rattle.path_calls.specs.Bounds.{pathsBounded, lowerOfPaths, upperOfPaths};
+ghost use Rattle.meaning.specs.Meaning.{by_gates, by_tree};
+ghost use Rattle.meaning.specs.Sources.{meaning_of};
+ghost use Rattle.path_calls.specs.Bounds.{paths_bounded, lower_of_paths, upper_of_paths};
 
 use answers::CountAnswer;
 use evaluation::bound_paths;
@@ -19,11 +19,11 @@ pub fn paths_meant(
     upper: &mut [u64],
 ) -> CountAnswer
     ensures answer { result
-        ≡ pathsBounded (meaningOf source tree.now) study lower.old upper.old }
+        ≡ paths_bounded (meaning_of source tree.now) study lower.old upper.old }
     ensures lower { lower.new
-        ≡ lowerOfPaths (meaningOf source tree.now) study lower.old upper.old }
+        ≡ lower_of_paths (meaning_of source tree.now) study lower.old upper.old }
     ensures upper { upper.new
-        ≡ upperOfPaths (meaningOf source tree.now) study lower.old upper.old }
+        ≡ upper_of_paths (meaning_of source tree.now) study lower.old upper.old }
 {
     let mut classes = no_classes();
     let fault = judged_classes(source, study, tree, &mut classes);
@@ -35,9 +35,9 @@ pub fn paths_meant(
 
 // Bounds for the paths of a study, in the order of its list, at the front of two slices. Refused by 16, 18, in this order.
 pub fn path_bounds(study: Study, lower: &mut [u64], upper: &mut [u64]) -> CountAnswer
-    ensures answer { result ≡ pathsBounded byGates study lower.old upper.old }
-    ensures lower { lower.new ≡ lowerOfPaths byGates study lower.old upper.old }
-    ensures upper { upper.new ≡ upperOfPaths byGates study lower.old upper.old }
+    ensures answer { result ≡ paths_bounded by_gates study lower.old upper.old }
+    ensures lower { lower.new ≡ lower_of_paths by_gates study lower.old upper.old }
+    ensures upper { upper.new ≡ upper_of_paths by_gates study lower.old upper.old }
 {
     paths_meant(Source::Gates, study, &[], lower, upper)
 }
@@ -49,9 +49,9 @@ pub fn drawn_path_bounds(
     lower: &mut [u64],
     upper: &mut [u64],
 ) -> CountAnswer
-    ensures answer { result ≡ pathsBounded (byTree tree.now) study lower.old upper.old }
-    ensures lower { lower.new ≡ lowerOfPaths (byTree tree.now) study lower.old upper.old }
-    ensures upper { upper.new ≡ upperOfPaths (byTree tree.now) study lower.old upper.old }
+    ensures answer { result ≡ paths_bounded (by_tree tree.now) study lower.old upper.old }
+    ensures lower { lower.new ≡ lower_of_paths (by_tree tree.now) study lower.old upper.old }
+    ensures upper { upper.new ≡ upper_of_paths (by_tree tree.now) study lower.old upper.old }
 {
     paths_meant(Source::Tree, study, tree, lower, upper)
 }

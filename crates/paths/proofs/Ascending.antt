@@ -10,27 +10,27 @@ use lib.ListN.{length, get_or}
 use Rattle.lists.specs.Product.{product}
 use Rattle.lists.proofs.Elements.{Every, pairs-append, every_map, pairs-map}
 use Rattle.joint_states.specs.JointStates.{divided}
-use Rattle.entries.specs.Entries.{blankMark}
-use Rattle.paths.specs.Paths.{part, isBlank, paths}
+use Rattle.entries.specs.Entries.{blank_mark}
+use Rattle.paths.specs.Paths.{part, is_blank, paths}
 use Rattle.paths.specs.Ways.{mark, ways, branches}
 use Rattle.paths.specs.Words.{Ascends, Ascending}
 use Rattle.paths.specs.Theorems.{PathsAscend}
 use Rattle.paths.proofs.Parts.{first_some, first-most, part-block}
 use Rattle.paths.proofs.Placed.{placed}
-use Rattle.paths.proofs.Ways.{partPaths, paths-branches, headed, ways-most}
+use Rattle.paths.proofs.Ways.{part_paths, paths-branches, headed, ways-most}
 
 -- ---- two entries
 
 module _ (n : ℕ) (earlier later : List ℕ) where
   -- they differ in the first component
-  ascends-first : (s t : ℕ) → s < t → t < blankMark → Ascends (suc n) (s ∷ earlier) (t ∷ later)
+  ascends-first : (s t : ℕ) → s < t → t < blank_mark → Ascends (suc n) (s ∷ earlier) (t ∷ later)
   ascends-first s t h most =
       record {
         component = 0;
         inside = omega arith;
         alike = λ k less. absurd (not-suc-le-zero less);
-        settled-earlier = λ blank. omega arith;
-        settled-later = λ blank. omega arith;
+        settled_earlier = λ blank. omega arith;
+        settled_later = λ blank. omega arith;
         lower = h;
       }
 
@@ -41,8 +41,8 @@ module _ (n : ℕ) (earlier later : List ℕ) where
         component = suc a.component;
         inside = omega (arith, a.inside);
         alike = alike;
-        settled-earlier = a.settled-earlier;
-        settled-later = a.settled-later;
+        settled_earlier = a.settled_earlier;
+        settled_later = a.settled_later;
         lower = a.lower;
       }
     where
@@ -55,9 +55,9 @@ module _ (n : ℕ) (earlier later : List ℕ) where
 -- of two states below `states`, the later one has the higher mark, which is not the blank mark
 record Rising (marks : ℕ → ℕ) (states : ℕ) : Type 0 where
   lower : (s t : ℕ) → s < t → t < states → marks s < marks t
-  most : (s t : ℕ) → s < t → t < states → marks t < blankMark
+  most : (s t : ℕ) → s < t → t < states → marks t < blank_mark
 
-mark-rising : (b : Bool) (c : ℕ) → c ≤ blankMark → Rising (mark b) (ways b c)
+mark-rising : (b : Bool) (c : ℕ) → c ≤ blank_mark → Rising (mark b) (ways b c)
 unfolding mark ways
 mark-rising true c h = record { lower = λ s t less below. absurd (omega arith); most = λ s t less below. absurd (omega arith) }
 mark-rising false c h = record { lower = λ s t less below. less; most = λ s t less below. omega arith }
@@ -90,9 +90,9 @@ pub paths-ascend : PathsAscend
 unfolding paths branches
 paths-ascend [] block b = λ i j less h. absurd (omega arith)
 paths-ascend (c ∷ cs) block b =
-    let blank = isBlank c (product cs) block in
+    let blank = is_blank c (product cs) block in
     let most = ways-most blank c (first_some b) in
     rw (paths-branches c cs block)
-    (divided-ascends (length cs) (mark blank) (partPaths cs block) (ways blank c) (mark-rising blank c (first-most b))
+    (divided-ascends (length cs) (mark blank) (part_paths cs block) (ways blank c) (mark-rising blank c (first-most b))
     (λ s below. paths-ascend cs (part (product cs) s block) (part-block b s (omega arith)))
     0 (ways blank c) (omega arith))

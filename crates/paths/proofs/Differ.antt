@@ -9,12 +9,12 @@ use lib.ListN.{get_or}
 use lib.Seq.{ext_get_or}
 use Rattle.joint_states.specs.JointStates.{JointState}
 use Rattle.joint_states.proofs.Numbered.{joint-cons, joint-tail}
-use Rattle.entries.specs.Entries.{blankMark}
+use Rattle.entries.specs.Entries.{blank_mark}
 use Rattle.paths.specs.Words.{Settled, DifferAt}
 
 -- state s has what a mark asks: to be the marked state, or anything if the mark is blank
 abbrev pub Meets : ℕ → ℕ → Type 0
-Meets mark s = (mark ≡ blankMark → ⊥) → s ≡ mark
+Meets mark s = (mark ≡ blank_mark → ⊥) → s ≡ mark
 
 module _ {c : ℕ} {cs : List ℕ} where
   -- they differ in the first

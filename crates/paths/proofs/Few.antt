@@ -7,12 +7,12 @@ use native.Mathlib.Omega.{arith}
 use lib.ListN.{length, length-append, length-map}
 use Rattle.lists.specs.Product.{product}
 use Rattle.joint_states.specs.JointStates.{divided}
-use Rattle.paths.specs.Paths.{part, isBlank, paths}
+use Rattle.paths.specs.Paths.{part, is_blank, paths}
 use Rattle.paths.specs.Ways.{mark, ways, branches}
 use Rattle.paths.specs.Blocks.{Block}
 use Rattle.paths.specs.Theorems.{FewPaths}
 use Rattle.paths.proofs.Parts.{first_some, part-block}
-use Rattle.paths.proofs.Ways.{partPaths, paths-branches, headed, ways-some, ways-most}
+use Rattle.paths.proofs.Ways.{part_paths, paths-branches, headed, ways-some, ways-most}
 
 -- ---- rows of each state, where those of each state below `states` are some, and at most m
 
@@ -38,19 +38,19 @@ some-path : (counts block : List ℕ) → Block counts block → 0 < length (pat
 unfolding paths branches
 some-path [] block b = omega arith
 some-path (c ∷ cs) block b =
-    let blank = isBlank c (product cs) block in
+    let blank = is_blank c (product cs) block in
     rw (paths-branches c cs block)
-    (divided-some (mark blank) (partPaths cs block) c (λ k h. some-path cs (part (product cs) k block) (part-block b k h)) 0 (ways blank c)
+    (divided-some (mark blank) (part_paths cs block) c (λ k h. some-path cs (part (product cs) k block) (part-block b k h)) 0 (ways blank c)
     (omega (arith, ways-most blank c (first_some b))) (ways-some blank c (first_some b)))
 
 most-paths : (counts block : List ℕ) → Block counts block → length (paths counts block) ≤ product counts
 unfolding paths branches product
 most-paths [] block b = omega arith
 most-paths (c ∷ cs) block b =
-    let blank = isBlank c (product cs) block in
+    let blank = is_blank c (product cs) block in
     let inside = ways-most blank c (first_some b) in
     let all =
-    divided-most (mark blank) (partPaths cs block) c (product cs) (λ k h. most-paths cs (part (product cs) k block) (part-block b k h)) 0
+    divided-most (mark blank) (part_paths cs block) c (product cs) (λ k h. most-paths cs (part (product cs) k block) (part-block b k h)) 0
     (ways blank c) (omega (arith, inside)) in
     rw (paths-branches c cs block) (omega (arith, all, mul-le-mul_right (product cs) inside))
 

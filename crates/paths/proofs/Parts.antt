@@ -9,7 +9,7 @@ use lib.Seq.{length-take-le, get_or-take, get_or-drop}
 use Rattle.lists.specs.Product.{product}
 use Rattle.joint_states.specs.JointStates.{JointState, number_of}
 use Rattle.joint_states.proofs.Numbered.{number-below}
-use Rattle.entries.specs.Entries.{blankMark}
+use Rattle.entries.specs.Entries.{blank_mark}
 use Rattle.paths.specs.Paths.{part}
 use Rattle.paths.specs.Blocks.{Block, class_at}
 
@@ -17,7 +17,7 @@ module _ {c : ℕ} {cs block : List ℕ} (b : Block (c ∷ cs) block) where
   pub first_some : 0 < c
   first_some = b.some 0 (omega arith)
 
-  pub first-most : c ≤ blankMark
+  pub first-most : c ≤ blank_mark
   first-most = b.most 0 (omega arith)
 
   pub part-block : (s : ℕ) → s < c → Block cs (part (product cs) s block)

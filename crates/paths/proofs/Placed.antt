@@ -8,11 +8,11 @@ use lib.ListN.{length, get_or}
 use Rattle.lists.specs.Product.{product}
 use Rattle.lists.proofs.Elements.{Every, every_append, every_map}
 use Rattle.joint_states.specs.JointStates.{divided}
-use Rattle.paths.specs.Paths.{isBlank, paths}
+use Rattle.paths.specs.Paths.{is_blank, paths}
 use Rattle.paths.specs.Ways.{mark, ways, branches}
 use Rattle.paths.specs.Blocks.{Block}
 use Rattle.paths.proofs.Parts.{first_some}
-use Rattle.paths.proofs.Ways.{partPaths, paths-branches, headed, ways-most}
+use Rattle.paths.proofs.Ways.{part_paths, paths-branches, headed, ways-most}
 
 -- the entry is the mark of a state from s on and below t, in front of a row of that state
 pub record Placed (marks : ℕ → ℕ) (rows : ℕ → List (List ℕ)) (s t : ℕ) (entry : List ℕ) : Type 0 where
@@ -38,9 +38,9 @@ module _ (marks : ℕ → ℕ) (rows : ℕ → List (List ℕ)) where
 
 -- each path goes on from the part of one state of the first component
 pub path-placed : (c : ℕ) (cs block : List ℕ) → Block (c ∷ cs) block
-    → Every (Placed (mark (isBlank c (product cs) block)) (partPaths cs block) 0 c) [] (paths (c ∷ cs) block)
+    → Every (Placed (mark (is_blank c (product cs) block)) (part_paths cs block) 0 c) [] (paths (c ∷ cs) block)
 unfolding branches
 path-placed c cs block b =
-    let blank = isBlank c (product cs) block in
+    let blank = is_blank c (product cs) block in
     rw (paths-branches c cs block)
-    (placed (mark blank) (partPaths cs block) c 0 (ways blank c) (omega (arith, ways-most blank c (first_some b))))
+    (placed (mark blank) (part_paths cs block) c 0 (ways blank c) (omega (arith, ways-most blank c (first_some b))))

@@ -6,7 +6,7 @@ use mathlib.Core.List.{List, ◌∷◌, map, append-nil}
 use native.Mathlib.Omega.{arith}
 use Rattle.lists.specs.Product.{product}
 use Rattle.joint_states.specs.JointStates.{divided}
-use Rattle.paths.specs.Paths.{part, isBlank, rows_at, paths}
+use Rattle.paths.specs.Paths.{part, is_blank, rows_at, paths}
 use Rattle.paths.specs.Ways.{mark, ways, branches}
 
 -- a mark in front of each row
@@ -30,9 +30,9 @@ rows-branches true c rest = sym (append-nil (headed (mark true 0) (rest 0)))
 rows-branches false c rest = refl
 
 -- the paths of the part at state s, over the later components
-abbrev pub partPaths : List ℕ → List ℕ → ℕ → List (List ℕ)
-partPaths cs block s = paths cs (part (product cs) s block)
+abbrev pub part_paths : List ℕ → List ℕ → ℕ → List (List ℕ)
+part_paths cs block s = paths cs (part (product cs) s block)
 
-pub paths-branches : (c : ℕ) (cs block : List ℕ) → paths (c ∷ cs) block ≡ branches (isBlank c (product cs) block) c (partPaths cs block)
+pub paths-branches : (c : ℕ) (cs block : List ℕ) → paths (c ∷ cs) block ≡ branches (is_blank c (product cs) block) c (part_paths cs block)
 unfolding paths
-paths-branches c cs block = rows-branches (isBlank c (product cs) block) c (partPaths cs block)
+paths-branches c cs block = rows-branches (is_blank c (product cs) block) c (part_paths cs block)

@@ -1,11 +1,11 @@
 -- The rows of paths at a component in one form, for code and proofs: it has one way on where it is blank, or else one for each state.
 use Rattle.std.specs.Prelude.{ℕ, Bool, true, false, List}
 use Rattle.joint_states.specs.JointStates.{divided}
-use Rattle.entries.specs.Entries.{blankMark}
+use Rattle.entries.specs.Entries.{blank_mark}
 
 -- what a path's entry holds for a component that is blank, or else in state s
 unfoldable pub mark : Bool → ℕ → ℕ
-mark true s = blankMark
+mark true s = blank_mark
 mark false s = s
 
 -- the number of ways on

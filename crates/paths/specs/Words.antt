@@ -2,10 +2,10 @@
 use Rattle.std.specs.Prelude.{ℕ, ◌<◌, ◌≡◌, Bool, true, ◌&&◌, ◌||◌, List, [], ◌∷◌, eqb, length, get_or}
 use Rattle.lists.specs.Counting.{those}
 use Rattle.joint_states.specs.JointStates.{JointState}
-use Rattle.entries.specs.Entries.{blankMark, entryBytes, classBorne}
+use Rattle.entries.specs.Entries.{blank_mark, entry_bytes, class_borne}
 
 abbrev pub Blank : List ℕ → ℕ → Type 0
-Blank entry k = get_or entry k blankMark ≡ blankMark
+Blank entry k = get_or entry k blank_mark ≡ blank_mark
 
 -- "settled": the entry holds a state for component k
 abbrev pub Settled : List ℕ → ℕ → Type 0
@@ -15,17 +15,17 @@ Settled entry k = Blank entry k → ⊥
 unfoldable pub fits : List ℕ → List ℕ → Bool
 fits [] entry = true
 fits (s ∷ x) [] = true
-fits (s ∷ x) (mark ∷ entry) = (eqb mark blankMark || eqb mark s) && fits x entry
+fits (s ∷ x) (mark ∷ entry) = (eqb mark blank_mark || eqb mark s) && fits x entry
 
 -- an entry over components with these state counts: a mark for each of them, then a class; a settled mark is a state
 -- that its component has; and some joint state fits, whose class it bears, so that no path is empty
 pub record IsEntry (counts : List ℕ) (class : List ℕ → ℕ) (entry : List ℕ) : Type 0 where
-  pub long : length entry ≡ entryBytes (length counts)
-  pub states : (k : ℕ) → k < length counts → Settled entry k → get_or entry k blankMark < get_or counts k 0
+  pub long : length entry ≡ entry_bytes (length counts)
+  pub states : (k : ℕ) → k < length counts → Settled entry k → get_or entry k blank_mark < get_or counts k 0
   pub joint : List ℕ
-  pub is-joint : JointState counts joint
+  pub is_joint : JointState counts joint
   pub fitted : fits joint entry ≡ true
-  pub bears : classBorne (length counts) entry ≡ class joint
+  pub bears : class_borne (length counts) entry ≡ class joint
 
 -- the paths that a joint state fits
 abbrev pub fitting : List ℕ → List (List ℕ) → List (List ℕ)
@@ -35,15 +35,15 @@ fitting x entries = those (fits x) entries
 pub record OnePath (n class : ℕ) (x : List ℕ) (entries : List (List ℕ)) : Type 0 where
   pub path : List ℕ
   pub only : fitting x entries ≡ path ∷ []
-  pub bears : classBorne n path ≡ class
+  pub bears : class_borne n path ≡ class
 
 -- "ascend by state": where the two first differ, both are settled and the earlier one has the lower state
 pub record Ascends (n : ℕ) (earlier later : List ℕ) : Type 0 where
   pub component : ℕ
   pub inside : component < n
   pub alike : (k : ℕ) → k < component → get_or earlier k 0 ≡ get_or later k 0
-  pub settled-earlier : Settled earlier component
-  pub settled-later : Settled later component
+  pub settled_earlier : Settled earlier component
+  pub settled_later : Settled later component
   pub lower : get_or earlier component 0 < get_or later component 0
 
 abbrev pub Ascending : ℕ → List (List ℕ) → Type 0

@@ -5,31 +5,31 @@ use mathlib.Core.List.{List, []}
 use native.Mathlib.Omega.{arith}
 use lib.ListN.{length, get_or, set, length-map}
 use Rattle.lists.specs.Rows.{put}
-use Rattle.lists.proofs.Maps.{getD-map-inside}
+use Rattle.lists.proofs.Maps.{get_d-map-inside}
 use Rattle.lists.proofs.Writing.{Writing, writing_start, writing_more, writing-room, writing-done}
 use Rattle.probability.specs.Bounded.{Boundable, Bounded}
-use Rattle.probability.specs.Bounds.{pathBound}
+use Rattle.probability.specs.Bounds.{path_bound}
 use Rattle.units.specs.Rounding.{up}
-use Rattle.entries.specs.Entries.{entry_at, entriesOf}
-use Rattle.probability.specs.Totals.{pathBounds}
+use Rattle.entries.specs.Entries.{entry_at, entries_of}
+use Rattle.probability.specs.Totals.{path_bounds}
 use Rattle.entries.proofs.Entries.{entries-long, entry-is}
 
 module _ (rounding : ℕ) (probabilities : List ℕ) (n : ℕ) (list : List ℕ) (paths : ℕ) where
   -- a bound for each path of the list
   abbrev pub bounds : List ℕ
-  bounds = pathBounds rounding probabilities n (entriesOf n paths list)
+  bounds = path_bounds rounding probabilities n (entries_of n paths list)
 
   pub bounds-long : length bounds ≡ paths
-  unfolding pathBounds
-  bounds-long = length-map (entriesOf n paths list) (pathBound rounding probabilities n) ∙ entries-long n paths list
+  unfolding path_bounds
+  bounds-long = length-map (entries_of n paths list) (path_bound rounding probabilities n) ∙ entries-long n paths list
 
   -- that of entry k
   pub bound-is : {k bound : ℕ} → k < paths → Bounded rounding probabilities n (entry_at n list k) bound → bound ≡ get_or bounds k 0
-  unfolding pathBounds
+  unfolding path_bounds
   bound-is {k} {bound} h bounded =
       bounded.is
-      ∙ ap (pathBound rounding probabilities n) (sym (entry-is n paths list k h))
-      ∙ sym (getD-map-inside (pathBound rounding probabilities n) (entriesOf n paths list) k [] 0 (rw (entries-long n paths list) h))
+      ∙ ap (path_bound rounding probabilities n) (sym (entry-is n paths list k h))
+      ∙ sym (get_d-map-inside (path_bound rounding probabilities n) (entries_of n paths list) k [] 0 (rw (entries-long n paths list) h))
 
 pub record Bounding (rounding : ℕ) (probabilities : List ℕ) (n : ℕ) (list : List ℕ) (paths : ℕ) (d₀ : List ℕ) (k : ℕ) (d : List ℕ) : Type 0 where
   pub rounds : rounding ≤ up

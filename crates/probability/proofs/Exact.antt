@@ -4,9 +4,9 @@ use mathlib.Core.Path.{◌≡◌, ap}
 use mathlib.Core.Bool.{Bool}
 use mathlib.Core.List.{List, []}
 use lib.ListN.{get_or}
-use Rattle.lists.specs.Counting.{sumOver}
+use Rattle.lists.specs.Counting.{sum_over}
 use Rattle.lists.proofs.Those.{those-alike}
-use Rattle.joint_states.specs.JointStates.{JointState, jointStates}
+use Rattle.joint_states.specs.JointStates.{JointState, joint_states}
 use Rattle.joint_states.proofs.Numbered.{all-joint}
 use Rattle.probability.specs.Exact.{weight, exact}
 
@@ -14,5 +14,5 @@ pub exact-alike : (rows : List (List ℕ)) (counts : List ℕ) (f g : List ℕ �
     → exact rows counts f ≡ exact rows counts g
 unfolding exact
 exact-alike rows counts f g agree =
-    ap (sumOver (weight rows))
-    (those-alike f g [] (jointStates counts) (λ k h. agree (get_or (jointStates counts) k []) (all-joint counts k h)))
+    ap (sum_over (weight rows))
+    (those-alike f g [] (joint_states counts) (λ k h. agree (get_or (joint_states counts) k []) (all-joint counts k h)))

@@ -9,8 +9,8 @@ use lib.ListN.{length, get_or}
 use Rattle.lists.proofs.SumOver.{counted-most, sum-over-most}
 use Rattle.units.specs.One.{one}
 use Rattle.units.specs.Rounding.{up, scale}
-use Rattle.entries.specs.Entries.{blankMark, classBorne}
-use Rattle.probability.specs.Bounds.{factored, pathBound, total}
+use Rattle.entries.specs.Entries.{blank_mark, class_borne}
+use Rattle.probability.specs.Bounds.{factored, path_bound, total}
 use Rattle.probability.specs.Probabilities.{AtMostOne}
 use Rattle.probability.proofs.TotalTerms.{term, total-terms}
 
@@ -21,18 +21,18 @@ scale-most rounding a p less most probability =
     omega (arith, product)
 
 module _ (rounding : ℕ) (less : rounding ≤ up) (probabilities : List ℕ) (probability : AtMostOne probabilities) (n : ℕ) where
-  pub path-most : (i : ℕ) (entry : List ℕ) → pathBound rounding probabilities i entry ≤ one
-  unfolding pathBound factored
+  pub path-most : (i : ℕ) (entry : List ℕ) → path_bound rounding probabilities i entry ≤ one
+  unfolding path_bound factored
   path-most zero entry = omega arith
   path-most (suc i) entry =
-      go (eqb (get_or entry i blankMark) blankMark) (pathBound rounding probabilities i entry) _ (path-most i entry) (probability.each _)
+      go (eqb (get_or entry i blank_mark) blank_mark) (path_bound rounding probabilities i entry) _ (path-most i entry) (probability.each _)
     where
       go : (b : Bool) (bound p : ℕ) → bound ≤ one → p ≤ one → cond b bound (scale rounding bound p) ≤ one
       go true bound p most each = most
       go false bound p most each = scale-most rounding bound p less most each
 
   term-most : (keep : ℕ → Bool) (entry : List ℕ) → term rounding probabilities n keep entry ≤ one
-  term-most keep entry = omega (arith, counted-most (keep (classBorne n entry)) (pathBound rounding probabilities n entry), path-most n entry)
+  term-most keep entry = omega (arith, counted-most (keep (class_borne n entry)) (path_bound rounding probabilities n entry), path-most n entry)
 
   pub total-most : (keep : ℕ → Bool) (entries : List (List ℕ)) → total rounding probabilities n keep entries ≤ length entries * one
   total-most keep entries =

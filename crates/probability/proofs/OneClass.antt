@@ -6,18 +6,18 @@ use mathlib.Core.List.{List}
 use native.Mathlib.Omega.{arith}
 use lib.Dec.{eqb}
 use borrow.Author.Tests.{eq-eqb, ne_eqb}
-use Rattle.lists.specs.Counting.{truth, counted, those, sumOver}
+use Rattle.lists.specs.Counting.{truth, counted, those, sum_over}
 use Rattle.lists.specs.Tabulate.{tabulate}
 use Rattle.lists.proofs.Adding.{add-value}
 use Rattle.lists.proofs.SumOver.{sum-over-most}
 use Rattle.lists.proofs.Sums.{truth-most}
 use Rattle.units.specs.One.{one}
 use Rattle.units.specs.Rounding.{down, up}
-use Rattle.entries.specs.Entries.{classBorne, entry_at, entriesOf}
+use Rattle.entries.specs.Entries.{class_borne, entry_at, entries_of}
 use Rattle.entries.proofs.Entries.{entries-long}
 use Rattle.probability.specs.declared.classes.ClassTotal.{ClassTotal}
 use Rattle.probability.specs.Bounded.{Bounded}
-use Rattle.probability.specs.Bounds.{pathBound, total}
+use Rattle.probability.specs.Bounds.{path_bound, total}
 use Rattle.probability.specs.ClassTotal.{TotalOf}
 use Rattle.probability.specs.Probabilities.{AtMostOne}
 use Rattle.probability.proofs.Most.{total-most}
@@ -26,32 +26,32 @@ use Rattle.probability.proofs.TotalTerms.{term, total-terms}
 module _ (probabilities : List ℕ) (n class : ℕ) (list : List ℕ) (k : ℕ) where
   -- whether an entry bears the class
   abbrev bears : List ℕ → Bool
-  bears entry = eqb (classBorne n entry) class
+  bears entry = eqb (class_borne n entry) class
 
   abbrev next : List ℕ
   next = entry_at n list k
 
   -- ---- one entry more
 
-  sum-next : (f : List ℕ → ℕ) → sumOver f (entriesOf n (k + 1) list) ≡ sumOver f (entriesOf n k list) + f next
-  unfolding entriesOf
+  sum-next : (f : List ℕ → ℕ) → sum_over f (entries_of n (k + 1) list) ≡ sum_over f (entries_of n k list) + f next
+  unfolding entries_of
   sum-next f = add-value f (entry_at n list) k
 
   total-next : (rounding : ℕ)
-      → total rounding probabilities n (λ (c : ℕ). eqb c class) (entriesOf n (k + 1) list)
-      ≡ total rounding probabilities n (λ (c : ℕ). eqb c class) (entriesOf n k list) + counted (bears next) (pathBound rounding probabilities n next)
+      → total rounding probabilities n (λ (c : ℕ). eqb c class) (entries_of n (k + 1) list)
+      ≡ total rounding probabilities n (λ (c : ℕ). eqb c class) (entries_of n k list) + counted (bears next) (path_bound rounding probabilities n next)
   total-next rounding =
       let keep : ℕ → Bool = λ (c : ℕ). eqb c class in
       omega (
         arith,
-        total-terms rounding probabilities n keep (entriesOf n (k + 1) list),
-        total-terms rounding probabilities n keep (entriesOf n k list),
+        total-terms rounding probabilities n keep (entries_of n (k + 1) list),
+        total-terms rounding probabilities n keep (entries_of n k list),
         sum-next (term rounding probabilities n keep),
       )
 
-  with-next : {t r : ClassTotal} (b : Bool) → bears next ≡ b → TotalOf probabilities n class (entriesOf n k list) t → r.paths ≡ t.paths + truth b
-      → r.lower ≡ t.lower + counted b (pathBound down probabilities n next)
-      → r.upper ≡ min one (t.upper + counted b (pathBound up probabilities n next)) → TotalOf probabilities n class (entriesOf n (k + 1) list) r
+  with-next : {t r : ClassTotal} (b : Bool) → bears next ≡ b → TotalOf probabilities n class (entries_of n k list) t → r.paths ≡ t.paths + truth b
+      → r.lower ≡ t.lower + counted b (path_bound down probabilities n next)
+      → r.upper ≡ min one (t.upper + counted b (path_bound up probabilities n next)) → TotalOf probabilities n class (entries_of n (k + 1) list) r
   with-next b e before paths lower upper =
       record {
         paths = omega (arith, before.paths, paths, rw e at (sum-next (λ (entry : List ℕ). truth (bears entry))));
@@ -59,47 +59,47 @@ module _ (probabilities : List ℕ) (n class : ℕ) (list : List ℕ) (k : ℕ) 
         upper = omega (arith, before.upper, upper, rw e at (total-next up));
       }
 
-module _ {probabilities : List ℕ} {n class : ℕ} (list : List ℕ) (k : ℕ) {t : ClassTotal} (before : TotalOf probabilities n class (entriesOf n k list) t) where
+module _ {probabilities : List ℕ} {n class : ℕ} (list : List ℕ) (k : ℕ) {t : ClassTotal} (before : TotalOf probabilities n class (entries_of n k list) t) where
   -- it bears another class
-  pub other-borne : {borne : ℕ} → borne ≡ classBorne n (entry_at n list k) → (borne ≡ class → ⊥) → TotalOf probabilities n class (entriesOf n (k + 1) list) t
+  pub other-borne : {borne : ℕ} → borne ≡ class_borne n (entry_at n list k) → (borne ≡ class → ⊥) → TotalOf probabilities n class (entries_of n (k + 1) list) t
   other-borne is other =
-      let none = ne_eqb (classBorne n (entry_at n list k)) class (λ same. other (is ∙ same)) in
+      let none = ne_eqb (class_borne n (entry_at n list k)) class (λ same. other (is ∙ same)) in
       with-next probabilities n class list k false none before (omega arith) (omega arith) (omega (arith, before.upper))
 
   -- it bears the class
-  pub own-borne : {borne low high sum : ℕ} → borne ≡ classBorne n (entry_at n list k) → borne ≡ class
+  pub own-borne : {borne low high sum : ℕ} → borne ≡ class_borne n (entry_at n list k) → borne ≡ class
       → Bounded down probabilities n (entry_at n list k) low → Bounded up probabilities n (entry_at n list k) high → sum ≡ min one (t.upper + high)
-      → TotalOf probabilities n class (entriesOf n (k + 1) list) (record { paths = t.paths + 1; lower = t.lower + low; upper = sum })
+      → TotalOf probabilities n class (entries_of n (k + 1) list) (record { paths = t.paths + 1; lower = t.lower + low; upper = sum })
   own-borne is own low high e =
-      let one_more = eq-eqb (classBorne n (entry_at n list k)) class (sym is ∙ own) in
+      let one_more = eq-eqb (class_borne n (entry_at n list k)) class (sym is ∙ own) in
       with-next probabilities n class list k true one_more before refl (omega (arith, low.is)) (omega (arith, e, high.is))
 
   -- ---- it fits
 
   pub paths-few : t.paths ≤ k
   paths-few =
-      let borne : List ℕ → ℕ = λ (entry : List ℕ). truth (eqb (classBorne n entry) class) in
-      let most = sum-over-most borne 1 (λ entry. truth-most (eqb (classBorne n entry) class)) (entriesOf n k list) in
+      let borne : List ℕ → ℕ = λ (entry : List ℕ). truth (eqb (class_borne n entry) class) in
+      let most = sum-over-most borne 1 (λ entry. truth-most (eqb (class_borne n entry) class)) (entries_of n k list) in
       omega (arith, before.paths, most, entries-long n k list)
 
   pub lower-most : AtMostOne probabilities → t.lower ≤ k * one
   lower-most table =
-      let most = total-most down (omega arith) probabilities table n (λ (c : ℕ). eqb c class) (entriesOf n k list) in
+      let most = total-most down (omega arith) probabilities table n (λ (c : ℕ). eqb c class) (entries_of n k list) in
       omega (arith, before.lower, most, entries-long n k list)
 
 -- ---- in a loop
 
 pub record OneClass (probabilities : List ℕ) (n class : ℕ) (list : List ℕ) (paths k : ℕ) (t : ClassTotal) : Type 0 where
   pub inside : k ≤ paths
-  pub made : TotalOf probabilities n class (entriesOf n k list) t
+  pub made : TotalOf probabilities n class (entries_of n k list) t
 
 module _ {probabilities : List ℕ} {n class : ℕ} {list : List ℕ} {paths : ℕ} where
   pub class-start : OneClass probabilities n class list paths 0 (record { paths = 0; lower = 0; upper = 0 })
-  unfolding entriesOf tabulate total those sumOver
+  unfolding entries_of tabulate total those sum_over
   class-start = record { inside = omega arith; made = record { paths = refl; lower = refl; upper = refl } }
 
   pub class-done : {k : ℕ} {t : ClassTotal} → OneClass probabilities n class list paths k t → paths ≤ k
-      → TotalOf probabilities n class (entriesOf n paths list) t
+      → TotalOf probabilities n class (entries_of n paths list) t
   class-done {k} {t} done h =
       let all : k ≡ paths = omega (arith, h, done.inside) in
-      subst (λ (m : ℕ). TotalOf probabilities n class (entriesOf n m list) t) all done.made
+      subst (λ (m : ℕ). TotalOf probabilities n class (entries_of n m list) t) all done.made

@@ -2,7 +2,7 @@
 use Rattle.std.specs.Prelude.{ℕ, ◌≤◌, ◌≡◌, List}
 use Rattle.units.specs.One.{one}
 use Rattle.entries.specs.Lists.{PathList}
-use Rattle.probability.specs.Bounds.{pathBound}
+use Rattle.probability.specs.Bounds.{path_bound}
 use Rattle.probability.specs.Probabilities.{AtMostOne}
 
 -- a table of probabilities beside a list of so many paths
@@ -12,5 +12,5 @@ pub record Boundable (probabilities : List ℕ) (n : ℕ) (list : List ℕ) (pat
 
 -- the bound of the path of an entry
 pub record Bounded (rounding : ℕ) (probabilities : List ℕ) (n : ℕ) (entry : List ℕ) (bound : ℕ) : Type 0 where
-  pub is : bound ≡ pathBound rounding probabilities n entry
+  pub is : bound ≡ path_bound rounding probabilities n entry
   pub most : bound ≤ one

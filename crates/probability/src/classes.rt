@@ -1,6 +1,6 @@
 // What one class comes to over the paths of a list: a pass over the list, and no places for the other classes.
 ghost use Rattle.std.specs.Prelude.{◌+◌};
-ghost use Rattle.entries.specs.Entries.{entriesOf};
+ghost use Rattle.entries.specs.Entries.{entries_of};
 ghost use Rattle.probability.specs.Bounded.{Boundable};
 ghost use Rattle.probability.specs.ClassTotal.{TotalOf};
 
@@ -27,8 +27,8 @@ fn with_entry(
     total: ClassTotal,
 ) -> ClassTotal
     requires boundable { Boundable probabilities.now n list.now (k + 1) }
-    requires total_of { TotalOf probabilities.now n class (entriesOf n k list.now) total }
-    ensures { TotalOf probabilities.now n class (entriesOf n (k + 1) list.now) result }
+    requires total_of { TotalOf probabilities.now n class (entries_of n k list.now) total }
+    ensures { TotalOf probabilities.now n class (entries_of n (k + 1) list.now) result }
 {
     if class_at(list, n, k) != class {
         return total;
@@ -51,7 +51,7 @@ pub fn class_total(
     class: Class,
 ) -> ClassTotal
     requires { Boundable probabilities.now n list.now paths }
-    ensures { TotalOf probabilities.now n class (entriesOf n paths list.now) result }
+    ensures { TotalOf probabilities.now n class (entries_of n paths list.now) result }
 {
     let mut total = ClassTotal {
         paths: 0,

@@ -3,13 +3,13 @@ ghost use Rattle.std.specs.Prelude.{◌≤◌, ◌<◌, ◌≡◌, length};
 ghost use Rattle.lists.specs.Rows.{put};
 ghost use Rattle.units.specs.One.{one};
 ghost use Rattle.units.specs.Rounding.{up};
-ghost use Rattle.entries.specs.Entries.{entry_at, entriesOf};
+ghost use Rattle.entries.specs.Entries.{entry_at, entries_of};
 ghost use Rattle.entries.specs.Lists.{EntryIn};
-ghost use Rattle.rules.specs.Limits.{mostComponents};
-ghost use Rattle.probability.specs.Bounds.{factored as Bounds·factored};
+ghost use Rattle.rules.specs.Limits.{most_components};
+ghost use Rattle.probability.specs.Bounds.{factored as bounds_factored};
 ghost use Rattle.probability.specs.Bounded.{Boundable, Bounded};
 ghost use Rattle.probability.specs.Probabilities.{AtMostOne};
-ghost use Rattle.probability.specs.Totals.{pathBounds};
+ghost use Rattle.probability.specs.Totals.{path_bounds};
 
 use crate::probabilities::probability_at;
 use entries::{BLANK, entry_at};
@@ -19,9 +19,9 @@ use units::{ONE, scale};
 pub fn factored(rounding: u64, probabilities: &[u32], i: usize, mark: u8, bound: u64) -> u64
     requires rounding_le_up { rounding ≤ up }
     requires at_most_one { AtMostOne probabilities.now }
-    requires i_lt_most_components { i < mostComponents }
+    requires i_lt_most_components { i < most_components }
     requires bound_le_one { bound ≤ one }
-    ensures value { result ≡ Bounds·factored rounding probabilities.now i mark bound }
+    ensures value { result ≡ bounds_factored rounding probabilities.now i mark bound }
     ensures upper_bound { result ≤ one }
 {
     if mark == BLANK {
@@ -38,7 +38,7 @@ pub fn factored(rounding: u64, probabilities: &[u32], i: usize, mark: u8, bound:
 pub fn path_bound(rounding: u64, probabilities: &[u32], n: usize, entry: &[u8]) -> u64
     requires rounding_le_up { rounding ≤ up }
     requires at_most_one { AtMostOne probabilities.now }
-    requires n_le_most_components { n ≤ mostComponents }
+    requires n_le_most_components { n ≤ most_components }
     requires n_in_bounds { n ≤ length entry.now }
     ensures { Bounded rounding probabilities.now n entry.now result }
 {
@@ -55,7 +55,7 @@ pub fn path_bound(rounding: u64, probabilities: &[u32], n: usize, entry: &[u8]) 
 pub fn bound_at(rounding: u64, probabilities: &[u32], n: usize, list: &[u8], k: usize) -> u64
     requires rounding_le_up { rounding ≤ up }
     requires at_most_one { AtMostOne probabilities.now }
-    requires n_le_most_components { n ≤ mostComponents }
+    requires n_le_most_components { n ≤ most_components }
     requires entry_in { EntryIn list.now n k }
     ensures { Bounded rounding probabilities.now n (entry_at n list.now k) result }
 {
@@ -74,7 +74,7 @@ pub fn path_bounds(
     requires rounding_le_up { rounding ≤ up }
     requires boundable { Boundable probabilities.now n list.now paths }
     requires paths_in_bounds { paths ≤ length out.old }
-    ensures { out.new ≡ put out.old 0 (pathBounds rounding probabilities.now n (entriesOf n paths list.now)) }
+    ensures { out.new ≡ put out.old 0 (path_bounds rounding probabilities.now n (entries_of n paths list.now)) }
 {
     let mut k: usize = 0;
     while k < paths {

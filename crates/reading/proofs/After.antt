@@ -8,44 +8,44 @@ use borrow.Author.Tests.{ne_eqb}
 use lib.ListN.{drop}
 use Rattle.rules.specs.Breach.{first}
 use Rattle.rules.proofs.Kept.{first-kept, first-last, first_next}
-use Rattle.reading.specs.Reader.{Read, Reader, Reads, ReadsAt, ReadsWith, refused, and_then, judge, return, asRead, ◌>>=◌, ◌>>◌}
+use Rattle.reading.specs.Reader.{Read, Reader, Reads, ReadsAt, ReadsWith, refused, and_then, judge, return, as_read, ◌>>=◌, ◌>>◌}
 
 -- what holds a refusal is that refusal, whatever value is held
-pub asRead-refused : {A : Type 0} (s : List ℕ) (q n : ℕ) (v : A) → (q ≡ 0 → ⊥) → asRead s q n v ≡ refused q
-unfolding asRead
-asRead-refused s q n v some = rw (ne_eqb q 0 some)
+pub as_read-refused : {A : Type 0} (s : List ℕ) (q n : ℕ) (v : A) → (q ≡ 0 → ⊥) → as_read s q n v ≡ refused q
+unfolding as_read
+as_read-refused s q n v some = rw (ne_eqb q 0 some)
 
 -- so that a refused reading may hold any place and any value
 pub refused-any : {A : Type 0} {s : List ℕ} {p n n' : ℕ} {v v' : A} {r : Read A} → Reads s p n v r → (p ≡ 0 → ⊥) → Reads s p n' v' r
 refused-any {s = s} {p = p} {n = n} {n' = n'} {v = v} {v' = v'} here some =
-    record { same = asRead-refused s p n' v' some ∙ sym (asRead-refused s p n v some) ∙ here.same }
+    record { same = as_read-refused s p n' v' some ∙ sym (as_read-refused s p n v some) ∙ here.same }
 
 -- and one that is not refused holds the value that was read
 pub kept-as : {A : Type 0} {s : List ℕ} {p n : ℕ} {v v' : A} {r : Read A} → Reads s p n v r → p ≡ 0 → v' ≡ v → Reads s 0 n v' r
 kept-as {A} {s} {n = n} {v = v} here none e =
-    record { same = ap (λ (w : A). asRead s 0 n w) e ∙ ap (λ (q : ℕ). asRead s q n v) (sym none) ∙ here.same }
+    record { same = ap (λ (w : A). as_read s 0 n w) e ∙ ap (λ (q : ℕ). as_read s q n v) (sym none) ∙ here.same }
 
 -- what the code holds is a reading
-pub as_read : {A : Type 0} {s : List ℕ} {p n : ℕ} {v : A} → Reads s p n v (asRead s p n v)
-as_read = record { same = refl }
+pub as_read_lem : {A : Type 0} {s : List ℕ} {p n : ℕ} {v : A} → Reads s p n v (as_read s p n v)
+as_read_lem = record { same = refl }
 
-first-asRead : {A B : Type 0} (s : List ℕ) (p q n n' : ℕ) (v : A) (v' : B) (f : A → Reader B) → asRead s q n' v' ≡ f v (drop n s)
-    → asRead s (first p q) n' v' ≡ and_then (asRead s p n v) f
-unfolding first asRead
-first-asRead s p q n n' v v' f e = go (eqb p 0) refl
+first-as_read : {A B : Type 0} (s : List ℕ) (p q n n' : ℕ) (v : A) (v' : B) (f : A → Reader B) → as_read s q n' v' ≡ f v (drop n s)
+    → as_read s (first p q) n' v' ≡ and_then (as_read s p n v) f
+unfolding first as_read
+first-as_read s p q n n' v v' f e = go (eqb p 0) refl
   where
-    go : (b : Bool) → eqb p 0 ≡ b → asRead s (first p q) n' v' ≡ and_then (asRead s p n v) f
+    go : (b : Bool) → eqb p 0 ≡ b → as_read s (first p q) n' v' ≡ and_then (as_read s p n v) f
     go true t = rw t e
     go false t = rw (t, t)
 
 -- a breach is judged as a reading that takes no byte
 pub judged : {s : List ℕ} {refusal n : ℕ} (breach : ℕ) → refusal ≡ breach → Reads s refusal n tt (judge breach (drop n s))
-unfolding asRead
+unfolding as_read
 judged breach e = record { same = rw e }
 
 -- nothing is read
 pub returned : {A : Type 0} {s : List ℕ} {n : ℕ} {v : A} → Reads s 0 n v (return v (drop n s))
-unfolding asRead
+unfolding as_read
 returned = record { same = refl }
 
 module _ {A B : Type 0} {s : List ℕ} {p n : ℕ} {v : A} {r : Read A} where
@@ -55,7 +55,7 @@ module _ {A B : Type 0} {s : List ℕ} {p n : ℕ} {v : A} {r : Read A} where
   after {q = q} {n' = n'} {v' = v'} f here there e =
       record {
         same =
-            ap (λ (x : ℕ). asRead s x n' v') e ∙ first-asRead s p q n n' v v' f there.same ∙ ap (λ (x : Read A). and_then x f) here.same;
+            ap (λ (x : ℕ). as_read s x n' v') e ∙ first-as_read s p q n n' v v' f there.same ∙ ap (λ (x : Read A). and_then x f) here.same;
       }
 
   -- the value is worked on after the last reading
@@ -67,7 +67,7 @@ module _ {A B : Type 0} {s : List ℕ} {p n : ℕ} {v : A} {r : Read A} where
   stopped {n' = n'} {v' = v'} f here some =
       record {
         same =
-            asRead-refused s p n' v' some ∙ ap (λ (x : Read A). and_then x f) (sym (asRead-refused s p n v some) ∙ here.same);
+            as_read-refused s p n' v' some ∙ ap (λ (x : Read A). and_then x f) (sym (as_read-refused s p n v some) ∙ here.same);
       }
 
   -- a reading that was not refused hands its value on

@@ -8,14 +8,14 @@ use native.Mathlib.Omega.{arith}
 use lib.ListN.{length, get_or, drop, drop_of_length-le, length-drop}
 use lib.Seq.{drop-cons}
 use Rattle.rules.specs.Table.{short}
-use Rattle.reading.specs.Reader.{got, refused, byteOr, byte, word, number_at}
+use Rattle.reading.specs.Reader.{got, refused, byte_or, byte, word, number_at}
 
-pub byte-or-got : (end : ℕ) (s : List ℕ) (at : ℕ) → at < length s → byteOr end (drop at s) ≡ got (get_or s at 0) (drop (at + 1) s)
-unfolding byteOr
+pub byte-or-got : (end : ℕ) (s : List ℕ) (at : ℕ) → at < length s → byte_or end (drop at s) ≡ got (get_or s at 0) (drop (at + 1) s)
+unfolding byte_or
 byte-or-got end s at h = rw (drop-cons s at 0 h, add-one)
 
-pub byte-or-ended : (end : ℕ) (s : List ℕ) (at : ℕ) → length s ≤ at → byteOr end (drop at s) ≡ refused end
-unfolding byteOr
+pub byte-or-ended : (end : ℕ) (s : List ℕ) (at : ℕ) → length s ≤ at → byte_or end (drop at s) ≡ refused end
+unfolding byte_or
 byte-or-ended end s at h = rw (drop_of_length-le s h)
 
 byte-got : (s : List ℕ) (at : ℕ) → at < length s → byte (drop at s) ≡ got (get_or s at 0) (drop (at + 1) s)

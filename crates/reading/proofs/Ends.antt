@@ -11,10 +11,10 @@ use lib.Pow.{pow_mono}
 use borrow.Author.Tests.{eqb-true, eqb-false, leb-false}
 use Rattle.lists.specs.Run.{each}
 use Rattle.lists.specs.Bits.{digit, bit}
-use Rattle.rules.specs.Table.{short, strayFault}
+use Rattle.rules.specs.Table.{short, stray_fault}
 use Rattle.rules.proofs.Kept.{refuse-kept}
-use Rattle.reading.specs.Reader.{Read, refused, got, Reader, and_then, return, judge, byteOr, byte, word, turn, repeat, ◌>>=◌, ◌>>◌}
-use Rattle.reading.specs.Fields.{field_at, mapBits, mapByte, fieldsByMap}
+use Rattle.reading.specs.Reader.{Read, refused, got, Reader, and_then, return, judge, byte_or, byte, word, turn, repeat, ◌>>=◌, ◌>>◌}
+use Rattle.reading.specs.Fields.{field_at, map_bits, map_byte, fields_by_map}
 
 -- what one reading ends in
 abbrev pub EndsIn : {A : Type 0} → (ℕ → Type 0) → (A → ℕ → Type 0) → Read A → Type 0
@@ -59,11 +59,11 @@ module _ {R : ℕ → Type 0} where
   pub ends-weaker : {A : Type 0} {n : ℕ} {P Q : A → ℕ → Type 0} {m : Reader A} → ((a : A) (left : ℕ) → P a left → Q a left) → Ends R n m P → Ends R n m Q
   ends-weaker {P = P} {Q = Q} {m = m} imply here = record { ends = λ bytes e. weaker-ends R P Q imply (m bytes) (here.ends bytes e) }
 
-  pub ends-byte-or : (end n : ℕ) → (n ≡ 0 → R end) → Ends R n (byteOr end) (λ (b left : ℕ). n ≡ suc left)
-  unfolding byteOr
+  pub ends-byte-or : (end n : ℕ) → (n ≡ 0 → R end) → Ends R n (byte_or end) (λ (b left : ℕ). n ≡ suc left)
+  unfolding byte_or
   ends-byte-or end n none = record { ends = go }
     where
-      go : (bytes : List ℕ) → length bytes ≡ n → EndsIn R (λ (b left : ℕ). n ≡ suc left) (byteOr end bytes)
+      go : (bytes : List ℕ) → length bytes ≡ n → EndsIn R (λ (b left : ℕ). n ≡ suc left) (byte_or end bytes)
       go [] e = none (sym e)
       go (b ∷ rest) e = sym e
 
@@ -118,16 +118,16 @@ module _ {R : ℕ → Type 0} where
 
   -- a record whose fields, read from bit 0 upwards, take P from bit to bit; a bit that is clear must take it too. Only bits with a meaning stand.
   pub ends-fields : {A : Type 0} {n : ℕ} (P : ℕ → A → ℕ → Type 0) (maps : ℕ) (field : ℕ → A → Reader A) (absent : A) → (n ≡ 0 → R short)
-      → ((map : ℕ) → (strayFault maps map ≡ 0 → ⊥) → R (strayFault maps map)) → ((left : ℕ) → n ≡ suc left → P 0 absent left)
+      → ((map : ℕ) → (stray_fault maps map ≡ 0 → ⊥) → R (stray_fault maps map)) → ((left : ℕ) → n ≡ suc left → P 0 absent left)
       → ((k : ℕ) (a : A) (left : ℕ) → 2 ^ k < maps → P k a left → Ends R left (field k a) (P (k + 1)))
-      → ((k : ℕ) (a : A) (left : ℕ) → P k a left → P (k + 1) a left) → Ends R n (fieldsByMap maps field absent) (P mapBits)
-  unfolding mapByte
+      → ((k : ℕ) (a : A) (left : ℕ) → P k a left → P (k + 1) a left) → Ends R n (fields_by_map maps field absent) (P map_bits)
+  unfolding map_byte
   ends-fields {n = n} P maps field absent none stray start stands clear =
       ends-then {P = λ map left. (map < maps) × (n ≡ suc left)}
       (ends-then (ends-byte n none)
-      (λ map left e. ends-judge (strayFault maps map) (stray map) (λ kept. ends_return (leb-false maps map (refuse-kept _ (leb maps map) kept), e))))
+      (λ map left e. ends-judge (stray_fault maps map) (stray map) (λ kept. ends_return (leb-false maps map (refuse-kept _ (leb maps map) kept), e))))
       (λ map left p.
-      ends-repeat P (field_at field map) mapBits absent
+      ends-repeat P (field_at field map) map_bits absent
       (λ k a left less q.
       ends-cond (bit map k) (λ e. stands k a left (lt_of_le_of_lt (bit_below map k e) p.0) q) (λ e. ends_return (clear k a left q)))
       (start left p.1))

@@ -5,7 +5,7 @@ use mathlib.Core.Bool.{Bool, true, false, cond}
 use mathlib.Core.List.{List}
 use lib.ListN.{length}
 use Rattle.reading.specs.Reader.{Read, refused, got, Reader, return, judge, repeat, ◌>>=◌, ◌>>◌}
-use Rattle.reading.specs.Fields.{mapBits, fieldsByMap}
+use Rattle.reading.specs.Fields.{map_bits, fields_by_map}
 use Rattle.reading.proofs.Ends.{EndsIn, Ends, ends-then, ends_return, ends-weaker, ends-judge, ends-cond, ends-repeat, ends-fields}
 
 -- anything may be read
@@ -70,7 +70,7 @@ gives-repeat P step n a on p =
 -- a record whose fields, read from bit 0 upwards, take P from bit to bit; a bit that is clear must take it too. Only bits with a meaning stand.
 pub gives-fields : {A : Type 0} (P : ℕ → A → Type 0) (maps : ℕ) (field : ℕ → A → Reader A) (absent : A) → P 0 absent
     → ((k : ℕ) (a : A) → 2 ^ k < maps → P k a → Gives (field k a) (P (k + 1))) → ((k : ℕ) (a : A) → P k a → P (k + 1) a)
-    → Gives (fieldsByMap maps field absent) (P mapBits)
+    → Gives (fields_by_map maps field absent) (P map_bits)
 gives-fields P maps field absent start stands clear =
     record {
       gives =

@@ -7,9 +7,9 @@ use mathlib.Core.Logic.{◌⊎◌, inl, inr}
 use lib.Dec.{eqb}
 use Rattle.lists.specs.Run.{each}
 use Rattle.lists.specs.Bits.{bit}
-use Rattle.rules.specs.Table.{short, strayFault}
-use Rattle.reading.specs.Reader.{Read, refused, got, Reader, and_then, return, judge, byteOr, byte, word, turn, repeat, ◌>>=◌, ◌>>◌}
-use Rattle.reading.specs.Fields.{field_at, mapBits, mapByte, fieldsByMap}
+use Rattle.rules.specs.Table.{short, stray_fault}
+use Rattle.reading.specs.Reader.{Read, refused, got, Reader, and_then, return, judge, byte_or, byte, word, turn, repeat, ◌>>=◌, ◌>>◌}
+use Rattle.reading.specs.Fields.{field_at, map_bits, map_byte, fields_by_map}
 
 -- the same with more bytes behind
 abbrev pub more : {A : Type 0} → List ℕ → Read A → Read A
@@ -47,12 +47,12 @@ local-judge breach = record { stands = λ xs ys. inr (go (eqb breach 0) xs ys) }
 pub local-judged : {end : ℕ} {A B : Type 0} {m : Reader A} (rule : A → ℕ) (f : A → B) → Local end m → Local end (m >>= λ a. judge (rule a) >> return (f a))
 local-judged rule f here = local-then here (λ a. local-then (local-judge (rule a)) (λ u. local-return (f a)))
 
-byte-stands : (end : ℕ) (xs ys : List ℕ) → Stands end ys (byteOr end xs) (byteOr end (xs ++ ys))
-unfolding byteOr
+byte-stands : (end : ℕ) (xs ys : List ℕ) → Stands end ys (byte_or end xs) (byte_or end (xs ++ ys))
+unfolding byte_or
 byte-stands end [] ys = inl refl
 byte-stands end (b ∷ xs) ys = inr refl
 
-pub local-byte-or : (end : ℕ) → Local end (byteOr end)
+pub local-byte-or : (end : ℕ) → Local end (byte_or end)
 local-byte-or end = record { stands = byte-stands end }
 
 pub local-byte : Local short byte
@@ -79,8 +79,8 @@ local-repeat step n a on = record { stands = λ xs ys. run-stands step on ys n 0
 
 -- a record is read locally where each of its fields is
 pub local-fields : {A : Type 0} (maps : ℕ) (field : ℕ → A → Reader A) (absent : A) → ((k : ℕ) (a : A) → Local short (field k a))
-    → Local short (fieldsByMap maps field absent)
-unfolding mapByte
+    → Local short (fields_by_map maps field absent)
+unfolding map_byte
 local-fields maps field absent on =
-    local-then (local-judged (strayFault maps) (λ map. map) local-byte)
-    (λ map. local-repeat (field_at field map) mapBits absent (λ k a. local-cond (bit map k) (on k a) (local-return a)))
+    local-then (local-judged (stray_fault maps) (λ map. map) local-byte)
+    (λ map. local-repeat (field_at field map) map_bits absent (λ k a. local-cond (bit map k) (on k a) (local-return a)))

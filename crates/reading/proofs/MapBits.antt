@@ -10,8 +10,8 @@ use lib.ListN.{drop}
 use Rattle.lists.specs.Bits.{digit}
 use Rattle.lists.specs.Run.{each}
 use Rattle.rules.specs.Breach.{first}
-use Rattle.reading.specs.Reader.{Read, Reader, Reads, refused, got, turn, asRead}
-use Rattle.reading.specs.Fields.{BitLeft, field_at, fields, mapBits}
+use Rattle.reading.specs.Reader.{Read, Reader, Reads, refused, got, turn, as_read}
+use Rattle.reading.specs.Fields.{BitLeft, field_at, fields, map_bits}
 use Rattle.reading.proofs.Repeats.{RepeatLeft, repeat-start, repeat-more}
 
 -- the bits from k on are bit k and those from k + 1 on
@@ -59,10 +59,10 @@ module _ {A : Type 0} (field : ℕ → A → Reader A) (map : ℕ) where
   module _ (absent : A) (at : ℕ) {a b d : A} {s : List ℕ} {p n q n' r n'' pq pqr : ℕ} where
     -- the fields of the first three bits are read
     three-read : Reads s p n a (field_at field map 0 absent (drop at s)) → Reads s q n' b (field_at field map 1 a (drop n s)) → pq ≡ first p q
-        → Reads s r n'' d (field_at field map 2 b (drop n' s)) → pqr ≡ first pq r → RepeatLeft (field_at field map) mapBits absent s at pqr n'' d 3
+        → Reads s r n'' d (field_at field map 2 b (drop n' s)) → pqr ≡ first pq r → RepeatLeft (field_at field map) map_bits absent s at pqr n'' d 3
     unfolding first
     three-read one two e three e' =
-        let turn : (refusal next : ℕ) (value : A) (k : ℕ) → Type 0 = RepeatLeft (field_at field map) mapBits absent s at in
+        let turn : (refusal next : ℕ) (value : A) (k : ℕ) → Type 0 = RepeatLeft (field_at field map) map_bits absent s at in
         let left₁ : turn p n a 1 = repeat-more (repeat-start refl) (omega arith) one refl in
         let left₂ : turn pq n' b 2 = repeat-more left₁ (omega arith) two e in
         repeat-more left₂ (omega arith) three e'
@@ -74,7 +74,7 @@ module _ {A : Type 0} (field : ℕ → A → Reader A) (map : ℕ) where
     three-fields few one two e three e' =
         record {
           same =
-              sym (none_left (mapBits - 3) 3 (asRead s pqr n'' d) (ap ones (div-eq_of_lt few)))
+              sym (none_left (map_bits - 3) 3 (as_read s pqr n'' d) (ap ones (div-eq_of_lt few)))
               ∙ (three-read one two e three e').turns.same;
         }
 
@@ -84,5 +84,5 @@ module _ {A : Type 0} (field : ℕ → A → Reader A) (map : ℕ) where
         → Reads s t m f (field_at field map 3 d (drop n'' s)) → all ≡ first pqr t → Reads s all m f (fields field map absent (drop at s))
     unfolding ones
     four-fields {t} {m} {all} {f} few one two e three e' four e'' =
-        let left₄ : RepeatLeft (field_at field map) mapBits absent s at all m f 4 = repeat-more (three-read one two e three e') (omega arith) four e'' in
-        record { same = sym (none_left (mapBits - 4) 4 (asRead s all m f) (ap ones (div-eq_of_lt few))) ∙ left₄.turns.same }
+        let left₄ : RepeatLeft (field_at field map) map_bits absent s at all m f 4 = repeat-more (three-read one two e three e') (omega arith) four e'' in
+        record { same = sym (none_left (map_bits - 4) 4 (as_read s all m f) (ap ones (div-eq_of_lt few))) ∙ left₄.turns.same }

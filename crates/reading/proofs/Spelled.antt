@@ -4,7 +4,7 @@ use mathlib.Core.Path.{◌≡◌, refl, ap, subst, ◌∙◌}
 use mathlib.Core.Bool.{Bool, true, false, cond}
 use mathlib.Core.List.{List, [], ◌∷◌, ◌++◌, append_assoc}
 use lib.Dec.{eqb}
-use Rattle.reading.specs.Reader.{Read, refused, got, Reader, and_then, return, judge, byteOr, ◌>>=◌, ◌>>◌}
+use Rattle.reading.specs.Reader.{Read, refused, got, Reader, and_then, return, judge, byte_or, ◌>>=◌, ◌>>◌}
 
 abbrev pub SpelledIn : {A : Type 0} → (A → List ℕ) → List ℕ → Read A → Type 0
 SpelledIn spelling bytes (refused number) = Unit {0}
@@ -26,11 +26,11 @@ spells_then {A} {front = front} {first = first} {whole = whole} {m = m} {f = f} 
 pub spells-return : {A : Type 0} {front : List ℕ} {spelling : A → List ℕ} {a : A} → spelling a ≡ front → Spells front (return a) spelling
 spells-return e = record { spells = λ bytes. ap (λ (l : List ℕ). l ++ bytes) e }
 
-pub spells-byte : (end : ℕ) → Spells [] (byteOr end) (λ b. b ∷ [])
-unfolding byteOr
+pub spells-byte : (end : ℕ) → Spells [] (byte_or end) (λ b. b ∷ [])
+unfolding byte_or
 spells-byte end = record { spells = go }
   where
-    go : (bytes : List ℕ) → SpelledIn (λ b. b ∷ []) bytes (byteOr end bytes)
+    go : (bytes : List ℕ) → SpelledIn (λ b. b ∷ []) bytes (byte_or end bytes)
     go [] = tt
     go (b ∷ rest) = refl
 

@@ -9,7 +9,7 @@ use Rattle.rules.specs.Breach.{refuse, outside}
 use Rattle.rules.specs.Table.{short}
 use Rattle.rules.proofs.Kept.{Within, range-kept}
 use Rattle.reading.specs.Reader.{Reader, return, judge, byte, word, repeat, ◌>>=◌, ◌>>◌}
-use Rattle.reading.specs.Fields.{mapBits, fieldsByMap}
+use Rattle.reading.specs.Fields.{map_bits, fields_by_map}
 use Rattle.reading.proofs.Ends.{Ends, ends-then, ends_return, ends-weaker, ends-byte, ends-word, ends-judge, ends-repeat, ends-fields}
 
 -- a refusal by one of the rows 1 to 15; by 1 only where `Short` holds
@@ -64,7 +64,7 @@ module _ {Short : Type 0} where
       → ((k : ℕ) (a : A) → before k a ≤ before (k + 1) a)
       → ((k : ℕ) (a : A) (left : ℕ) → 2 ^ k < maps → (before k a + left < need → Short)
       → Ends (Refusal Short) left (field k a) (λ b rest. before k a + left ≤ before (k + 1) b + rest))
-      → 0 < need → (n < need → Short) → Ends (Refusal Short) n (fieldsByMap maps field absent) (λ a left. n ≤ before mapBits a + left)
+      → 0 < need → (n < need → Short) → Ends (Refusal Short) n (fields_by_map maps field absent) (λ a left. n ≤ before map_bits a + left)
   ends-record {n = n} before need maps field absent start grows on some few =
       ends-fields (λ k a left. n ≤ before k a + left) maps field absent (λ none. too_few (few (omega arith))) (λ map. broken (judges _ _ tt))
       (λ left e. omega arith)

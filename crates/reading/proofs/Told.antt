@@ -7,7 +7,7 @@ use native.Mathlib.Omega.{arith}
 use lib.Dec.{eqb}
 use lib.ListN.{drop}
 use borrow.Author.Tests.{eqb-true, eqb-false}
-use Rattle.reading.specs.Reader.{refused, got, Reads, asRead}
+use Rattle.reading.specs.Reader.{refused, got, Reads, as_read}
 
 pub record RefusedBy (refusal number : ℕ) : Type 0 where
   pub by : refusal ≡ number
@@ -19,7 +19,7 @@ pub record Gave {A : Type 0} (refusal : ℕ) (value a : A) : Type 0 where
 
 module _ {A : Type 0} {s : List ℕ} {p n : ℕ} {v : A} where
   pub told-refused : {number : ℕ} → Reads s p n v (refused number) → RefusedBy p number
-  unfolding asRead
+  unfolding as_read
   told-refused {number} here = go (eqb p 0) refl here.same
     where
       go : (b : Bool) → eqb p 0 ≡ b → cond b (got v (drop n s)) (refused p) ≡ refused number → RefusedBy p number
@@ -27,7 +27,7 @@ module _ {A : Type 0} {s : List ℕ} {p n : ℕ} {v : A} where
       go false t e = record { by = cc; some = eqb-false p 0 t }
 
   pub told-got : {a : A} {rest : List ℕ} → Reads s p n v (got a rest) → Gave p v a
-  unfolding asRead
+  unfolding as_read
   told-got {a} {rest} here = go (eqb p 0) refl here.same
     where
       go : (b : Bool) → eqb p 0 ≡ b → cond b (got v (drop n s)) (refused p) ≡ got a rest → Gave p v a

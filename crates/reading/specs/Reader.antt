@@ -32,14 +32,14 @@ abbrev pub judge : ℕ → Reader (Unit {0})
 judge breach bytes = cond (eqb breach 0) (got tt bytes) (refused breach)
 
 -- one byte; where none is left, a refusal by the row `end`
-unfoldable pub byteOr : ℕ → Reader ℕ
-byteOr end [] = refused end
-byteOr end (b ∷ rest) = got b rest
+unfoldable pub byte_or : ℕ → Reader ℕ
+byte_or end [] = refused end
+byte_or end (b ∷ rest) = got b rest
 
 -- one byte of a study
 unfoldable pub byte : Reader ℕ
-unfolding byteOr
-byte = byteOr short
+unfolding byte_or
+byte = byte_or short
 
 -- the number of four bytes, lowest byte first
 abbrev pub number : ℕ → ℕ → ℕ → ℕ → ℕ
@@ -67,12 +67,12 @@ abbrev pub repeat : {A : Type 0} → (ℕ → A → Reader A) → ℕ → A → 
 repeat step n a bytes = each (turn step) n 0 (got a bytes)
 
 -- what the code holds of a reading: its refusal (0: none), the place of the next byte and the value
-unfoldable pub asRead : {A : Type 0} → List ℕ → ℕ → ℕ → A → Read A
-asRead bytes refusal next value = cond (eqb refusal 0) (got value (drop next bytes)) (refused refusal)
+unfoldable pub as_read : {A : Type 0} → List ℕ → ℕ → ℕ → A → Read A
+as_read bytes refusal next value = cond (eqb refusal 0) (got value (drop next bytes)) (refused refusal)
 
 -- the code's reading is the one that a definition gives
 pub record Reads {A : Type 0} (bytes : List ℕ) (refusal next : ℕ) (value : A) (reading : Read A) : Type 0 where
-  pub same : asRead bytes refusal next value ≡ reading
+  pub same : as_read bytes refusal next value ≡ reading
 
 -- the same of a reader at a place
 abbrev pub ReadsAt : {A : Type 0} → List ℕ → ℕ → Reader A → ℕ → ℕ → A → Type 0

@@ -3,8 +3,8 @@
 ghost use Rattle.std.specs.Prelude.{◌≡◌, ◌+◌, ◌-◌, ◌<◌, ◌≤◌, length};
 ghost use Rattle.std.specs.Int.Count.{ones};
 ghost use Rattle.lists.specs.Bits.{digit};
-ghost use Rattle.reading.specs.Fields.{mapBits, BitLeft, mapByte};
-ghost use Rattle.reading.specs.Reader.{ReadsAt, ReadsWith, byteOr, byte, word, number as Reader·number, number_at};
+ghost use Rattle.reading.specs.Fields.{map_bits, BitLeft, map_byte};
+ghost use Rattle.reading.specs.Reader.{ReadsAt, ReadsWith, byte_or, byte, word, number as reader_number, number_at};
 
 #[derive(Drop)]
 pub struct ByteRead {
@@ -23,7 +23,7 @@ pub struct WordRead {
 // The byte at a place; where the bytes end before it, a refusal by the row `end`.
 pub fn byte_or(end: u8, bytes: &[u8], at: usize) -> ByteRead
     requires { 0 < end }
-    ensures { ReadsAt bytes.now at (byteOr end) result.refusal result.next result.value }
+    ensures { ReadsAt bytes.now at (byte_or end) result.refusal result.next result.value }
 {
     if at < bytes.len() {
         return ByteRead {
@@ -48,7 +48,7 @@ pub fn byte_at(bytes: &[u8], at: usize) -> ByteRead
 
 // The number of four bytes, lowest byte first.
 pub fn number(b0: u8, b1: u8, b2: u8, b3: u8) -> u32
-    ensures { result ≡ Reader·number b0 b1 b2 b3 }
+    ensures { result ≡ reader_number b0 b1 b2 b3 }
 {
     b0 as u32 + 256 * b1 as u32 + 65536 * b2 as u32 + 16777216 * b3 as u32
 }
@@ -91,7 +91,7 @@ pub fn word_at(bytes: &[u8], at: usize) -> WordRead
 
 // The map at a place, which has no stray bit where it is not refused.
 pub fn map_at(bytes: &[u8], at: usize, maps: u8) -> ByteRead
-    ensures { ReadsWith (λ map. map < maps) bytes.now at (mapByte maps) result.refusal result.next result.value }
+    ensures { ReadsWith (λ map. map < maps) bytes.now at (map_byte maps) result.refusal result.next result.value }
 {
     let b = byte_at(bytes, at);
     ByteRead {
@@ -110,7 +110,7 @@ pub fn field_count(map: u8) -> u32
 
 // Bit k of a map, as 0 or 1.
 pub fn map_digit(map: u8, k: u8) -> u8
-    requires { k < mapBits }
+    requires { k < map_bits }
     ensures { result ≡ digit map k }
 {
     (map >> k) % 2

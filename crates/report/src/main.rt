@@ -1,8 +1,8 @@
 // The report program: reads a study from standard input and prints its report.
 ghost use Rattle.std.specs.Prelude.{◌+◌, ◌≡◌, length};
-ghost use Rattle.rules.specs.Limits.{longestStudy};
-ghost use Rattle.entries.specs.Entries.{classPlaces};
-ghost use Rattle.report_text.specs.Report.{reportBytes};
+ghost use Rattle.rules.specs.Limits.{longest_study};
+ghost use Rattle.entries.specs.Entries.{class_places};
+ghost use Rattle.report_text.specs.Report.{report_bytes};
 
 use planning::{CLASS_PLACES, CountAnswer, LONGEST_STUDY, REPORT_BYTES};
 
@@ -10,21 +10,21 @@ use planning::{CLASS_PLACES, CountAnswer, LONGEST_STUDY, REPORT_BYTES};
 const INPUT_BYTES: usize = LONGEST_STUDY + 1;
 
 fn empty_input() -> [u8; INPUT_BYTES]
-    ensures { longestStudy + 1 ≡ length result }
+    ensures { longest_study + 1 ≡ length result }
 {
     [0; INPUT_BYTES]
 }
 
 // Room for any report, so that none is refused for want of it.
 fn empty_text() -> [u8; REPORT_BYTES]
-    ensures { reportBytes ≡ length result }
+    ensures { report_bytes ≡ length result }
 {
     [0; REPORT_BYTES]
 }
 
 // Places for the bounds of all classes, which the report fills; what they hold is in its lines too.
 fn empty_bounds() -> [u64; CLASS_PLACES]
-    ensures { classPlaces ≡ length result }
+    ensures { class_places ≡ length result }
 {
     [0; CLASS_PLACES]
 }

@@ -10,42 +10,42 @@ use Rattle.lists.specs.Rows.{joined}
 use Rattle.lists.specs.Tabulate.{tabulate}
 use Rattle.lists.proofs.Tabulated.{get_d_tabulate, tabulate-alike}
 use Rattle.text.specs.Letters.{letters}
-use Rattle.text.specs.Lines.{itemLine}
-use Rattle.entries.specs.Entries.{classPlaces}
+use Rattle.text.specs.Lines.{item_line}
+use Rattle.entries.specs.Entries.{class_places}
 use Rattle.probability.specs.declared.classes.ClassTotal.{ClassTotal}
-use Rattle.probability.specs.Bounds.{lowerTotal, upperTotal}
+use Rattle.probability.specs.Bounds.{lower_total, upper_total}
 use Rattle.probability.specs.ClassTotal.{TotalOf}
-use Rattle.probability.specs.Totals.{lowerClasses, upperClasses}
-use Rattle.report_lines.specs.Classes.{bearing, classesWith, classesBorne, classLine, classLines}
-use Rattle.report_lines.specs.ListedClasses.{listedLine, listedLines}
+use Rattle.probability.specs.Totals.{lower_classes, upper_classes}
+use Rattle.report_lines.specs.Classes.{bearing, classes_with, classes_borne, class_line, class_lines}
+use Rattle.report_lines.specs.ListedClasses.{listed_line, listed_lines}
 use Rattle.report_lines.proofs.Below.{below-joined}
 
 module _ {probabilities : List ℕ} {n c : ℕ} {entries : List (List ℕ)} {total : ClassTotal} (of : TotalOf probabilities n c entries total) where
-  pub line-of-none : total.paths ≡ 0 → listedLine probabilities n entries c ≡ []
-  unfolding listedLine bearing
+  pub line-of-none : total.paths ≡ 0 → listed_line probabilities n entries c ≡ []
+  unfolding listed_line bearing
   line-of-none none = rw (← of.paths, le-ltb 0 total.paths (omega (arith, none))) refl
 
-  pub line-of-some : (total.paths ≡ 0 → ⊥) → listedLine probabilities n entries c ≡ itemLine (letters "K") c total.lower total.upper
-  unfolding listedLine bearing
+  pub line-of-some : (total.paths ≡ 0 → ⊥) → listed_line probabilities n entries c ≡ item_line (letters "K") c total.lower total.upper
+  unfolding listed_line bearing
   line-of-some some = rw (← of.paths, lt-ltb 0 total.paths (omega (arith, some)), of.lower, of.upper) refl
 
 -- the lines of the tables by class, class by class
 pub listed-lines : (probabilities : List ℕ) (n : ℕ) (entries : List (List ℕ))
-    → listedLines probabilities n entries ≡ joined (tabulate (listedLine probabilities n entries) classPlaces)
-unfolding classLines classLine classesBorne classesWith listedLine
+    → listed_lines probabilities n entries ≡ joined (tabulate (listed_line probabilities n entries) class_places)
+unfolding class_lines class_line classes_borne classes_with listed_line
 listed-lines probabilities n entries =
-    below-joined (λ (c : ℕ). ltb 0 (bearing n entries c)) from-tables classPlaces
+    below-joined (λ (c : ℕ). ltb 0 (bearing n entries c)) from-tables class_places
     ∙ ap joined
-    (tabulate-alike (λ (c : ℕ). cond (ltb 0 (bearing n entries c)) (from-tables c) []) (listedLine probabilities n entries) classPlaces same)
+    (tabulate-alike (λ (c : ℕ). cond (ltb 0 (bearing n entries c)) (from-tables c) []) (listed_line probabilities n entries) class_places same)
   where
     lower : ℕ → ℕ
-    lower c = lowerTotal probabilities n (λ (class : ℕ). eqb class c) entries
+    lower c = lower_total probabilities n (λ (class : ℕ). eqb class c) entries
 
     upper : ℕ → ℕ
-    upper c = upperTotal probabilities n (λ (class : ℕ). eqb class c) entries
+    upper c = upper_total probabilities n (λ (class : ℕ). eqb class c) entries
 
     from-tables : ℕ → List ℕ
-    from-tables c = classLine (lowerClasses probabilities n entries) (upperClasses probabilities n entries) c
+    from-tables c = class_line (lower_classes probabilities n entries) (upper_classes probabilities n entries) c
 
-    same : (c : ℕ) → c < classPlaces → cond (ltb 0 (bearing n entries c)) (from-tables c) [] ≡ listedLine probabilities n entries c
-    same c h = rw (get_d_tabulate lower classPlaces c 0 h, get_d_tabulate upper classPlaces c 0 h) refl
+    same : (c : ℕ) → c < class_places → cond (ltb 0 (bearing n entries c)) (from-tables c) [] ≡ listed_line probabilities n entries c
+    same c h = rw (get_d_tabulate lower class_places c 0 h, get_d_tabulate upper class_places c 0 h) refl

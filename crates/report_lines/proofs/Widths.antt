@@ -3,7 +3,7 @@ use Prim.Native.Nat.{ℕ, ◌*◌, ◌^◌, ◌<◌, ◌≤◌}
 use mathlib.Core.List.{List, [], map}
 use native.Mathlib.Omega.{arith}
 use lib.ListN.{length, get_or, length-map}
-use Rattle.lists.specs.Counting.{sumOver}
+use Rattle.lists.specs.Counting.{sum_over}
 use Rattle.lists.specs.Rows.{joined}
 use Rattle.lists.proofs.Elements.{Every, every_map}
 use Rattle.lists.proofs.Joined.{joined-short}
@@ -11,19 +11,19 @@ use Rattle.text.specs.Letters.{letters}
 use Rattle.text.proofs.Short.{joined_length, field-short, ending-short, bounds-short, item-short, lines-short}
 use Rattle.units.specs.One.{one}
 use Rattle.units.specs.Rounding.{down, up}
-use Rattle.rules.specs.Limits.{mostComponents, mostLoads}
-use Rattle.entries.specs.Entries.{classBorne, classPlaces}
-use Rattle.probability.specs.Bounds.{pathBound}
+use Rattle.rules.specs.Limits.{most_components, most_loads}
+use Rattle.entries.specs.Entries.{class_borne, class_places}
+use Rattle.probability.specs.Bounds.{path_bound}
 use Rattle.probability.specs.Probabilities.{AtMostOne}
 use Rattle.probability.proofs.Most.{path-most}
 use Rattle.answers.specs.declared.figures.Caidi.{Caidi}
 use Rattle.answers.specs.declared.figures.Caidi.TheVariants.{Bounds, NotStated}
 use Rattle.answers.specs.declared.bounds.Enclosure.{Enclosure}
 use Rattle.answers.specs.declared.figures.Figures.{Figures as FigureValues}
-use Rattle.report_lines.specs.Classes.{classLine, classLines}
-use Rattle.report_lines.specs.Figures.{caidiLine, allFigures}
-use Rattle.report_lines.specs.Loads.{loadLine, loadLines}
-use Rattle.report_lines.specs.Paths.{entryLine, pathLine, pathLines}
+use Rattle.report_lines.specs.Classes.{class_line, class_lines}
+use Rattle.report_lines.specs.Figures.{caidi_line, all_figures}
+use Rattle.report_lines.specs.Loads.{load_line, load_lines}
+use Rattle.report_lines.specs.Paths.{entry_line, path_line, path_lines}
 use Rattle.report_lines.proofs.Marked.{marks-long}
 
 -- lines of at most so many bytes, one for each element of a list
@@ -35,9 +35,9 @@ map-short line d width l each =
 
 -- ---- paths
 
-entry-short : (n : ℕ) (entry : List ℕ) (class lower upper : ℕ) → n ≤ mostComponents → class < classPlaces → lower ≤ one → upper ≤ one
-    → length (entryLine n entry class lower upper) ≤ 41
-unfolding entryLine sumOver
+entry-short : (n : ℕ) (entry : List ℕ) (class lower upper : ℕ) → n ≤ most_components → class < class_places → lower ≤ one → upper ≤ one
+    → length (entry_line n entry class lower upper) ≤ 41
+unfolding entry_line sum_over
 entry-short n entry class lower upper few small low high =
     rw (joined_length _)
     (omega (
@@ -47,41 +47,41 @@ entry-short n entry class lower upper few small low high =
       ending-short 10 (omega arith) lower upper (omega (arith, low)) (omega (arith, high)),
     ))
 
-pub path-lines-short : (probabilities : List ℕ) (n : ℕ) (entries : List (List ℕ)) → AtMostOne probabilities → n ≤ mostComponents
-    → Every (λ (entry : List ℕ). classBorne n entry < classPlaces) [] entries → length (pathLines probabilities n entries) ≤ length entries * 41
-unfolding pathLines pathLine
-path-lines-short probabilities n entries probability few small = map-short (pathLine probabilities n) [] 41 entries each
+pub path-lines-short : (probabilities : List ℕ) (n : ℕ) (entries : List (List ℕ)) → AtMostOne probabilities → n ≤ most_components
+    → Every (λ (entry : List ℕ). class_borne n entry < class_places) [] entries → length (path_lines probabilities n entries) ≤ length entries * 41
+unfolding path_lines path_line
+path-lines-short probabilities n entries probability few small = map-short (path_line probabilities n) [] 41 entries each
   where
-    each : Every (λ (entry : List ℕ). length (pathLine probabilities n entry) ≤ 41) [] entries
+    each : Every (λ (entry : List ℕ). length (path_line probabilities n entry) ≤ 41) [] entries
     each k h =
         let entry = get_or entries k [] in
-        entry-short n entry (classBorne n entry) (pathBound down probabilities n entry) (pathBound up probabilities n entry) few (small k h)
+        entry-short n entry (class_borne n entry) (path_bound down probabilities n entry) (path_bound up probabilities n entry) few (small k h)
         (path-most down (omega arith) probabilities probability n n entry)
         (path-most up (omega arith) probabilities probability n n entry)
 
 -- ---- classes and loads
 
-class-short : (lower upper : List ℕ) (c : ℕ) → c < classPlaces → get_or lower c 0 < 10 ^ 13 → get_or upper c 0 < 10 ^ 13 → length (classLine lower upper c) ≤ 34
-unfolding classLine
+class-short : (lower upper : List ℕ) (c : ℕ) → c < class_places → get_or lower c 0 < 10 ^ 13 → get_or upper c 0 < 10 ^ 13 → length (class_line lower upper c) ≤ 34
+unfolding class_line
 class-short lower upper c inside low high =
     let number = field-short 3 (omega arith) c (omega (arith, inside)) in
     item-short 13 (omega arith) 3 (letters "K") c (get_or lower c 0) (get_or upper c 0) number low high
 
-pub class-lines-short : (classes lower upper : List ℕ) → Every (λ (c : ℕ). c < classPlaces) 0 classes
-    → ((c : ℕ) → c < classPlaces → get_or lower c 0 < 10 ^ 13) → ((c : ℕ) → c < classPlaces → get_or upper c 0 < 10 ^ 13)
-    → length (classLines classes lower upper) ≤ length classes * 34
-unfolding classLines
+pub class-lines-short : (classes lower upper : List ℕ) → Every (λ (c : ℕ). c < class_places) 0 classes
+    → ((c : ℕ) → c < class_places → get_or lower c 0 < 10 ^ 13) → ((c : ℕ) → c < class_places → get_or upper c 0 < 10 ^ 13)
+    → length (class_lines classes lower upper) ≤ length classes * 34
+unfolding class_lines
 class-lines-short classes lower upper inside low high =
-    map-short (classLine lower upper) 0 34 classes
+    map-short (class_line lower upper) 0 34 classes
     (λ k h.
     let c = get_or classes k 0 in
     class-short lower upper c (inside k h) (low c (inside k h)) (high c (inside k h)))
 
-pub load-lines-short : (lower upper : List ℕ) (loads : ℕ) → loads ≤ mostLoads → ((j : ℕ) → j < loads → get_or lower j 0 ≤ one)
-    → ((j : ℕ) → j < loads → get_or upper j 0 ≤ one) → length (loadLines lower upper loads) ≤ loads * 26
-unfolding loadLines loadLine
+pub load-lines-short : (lower upper : List ℕ) (loads : ℕ) → loads ≤ most_loads → ((j : ℕ) → j < loads → get_or lower j 0 ≤ one)
+    → ((j : ℕ) → j < loads → get_or upper j 0 ≤ one) → length (load_lines lower upper loads) ≤ loads * 26
+unfolding load_lines load_line
 load-lines-short lower upper loads few low high =
-    lines-short (loadLine lower upper) loads 26 (λ j h.
+    lines-short (load_line lower upper) loads 26 (λ j h.
     let number = field-short 1 (omega arith) j (omega (arith, h, few)) in
     item-short 10 (omega arith) 1 (letters "L") j (get_or lower j 0) (get_or upper j 0) number (omega (arith, low j h)) (omega (arith, high j h)))
 
@@ -94,14 +94,14 @@ abbrev pub CaidiPrintable : Caidi → Type 0
 CaidiPrintable (Bounds b) = Printable b
 CaidiPrintable NotStated = Unit
 
-caidi-short : (caidi : Caidi) → CaidiPrintable caidi → length (caidiLine caidi) ≤ 48
-unfolding caidiLine
+caidi-short : (caidi : Caidi) → CaidiPrintable caidi → length (caidi_line caidi) ≤ 48
+unfolding caidi_line
 caidi-short (Bounds b) h = bounds-short 20 (omega arith) (letters "CAIDI") b.lower b.upper h.0 h.1
 caidi-short NotStated h = omega arith
 
 pub figures-short : (f : FigureValues) → Printable f.saifi → Printable f.saidi → CaidiPrintable f.caidi → Printable f.maifi
-    → length (allFigures f) ≤ 192
-unfolding allFigures sumOver
+    → length (all_figures f) ≤ 192
+unfolding all_figures sum_over
 figures-short f saifi saidi caidi maifi =
     let first = bounds-short 20 (omega arith) (letters "SAIFI") f.saifi.lower f.saifi.upper saifi.0 saifi.1 in
     let second = bounds-short 20 (omega arith) (letters "SAIDI") f.saidi.lower f.saidi.upper saidi.0 saidi.1 in

@@ -2,27 +2,27 @@
 use Rattle.std.specs.Prelude.{ℕ, List, [], ◌∷◌}
 use Rattle.lists.specs.Rows.{joined}
 use Rattle.text.specs.Letters.{letters}
-use Rattle.text.specs.Lines.{numberLine, boundsLine}
+use Rattle.text.specs.Lines.{number_line, bounds_line}
 use Rattle.answers.specs.declared.figures.Caidi.{Caidi}
 use Rattle.answers.specs.declared.figures.Caidi.TheVariants.{Bounds, NotStated}
 use Rattle.answers.specs.declared.figures.Figures.{Figures as FigureValues}
 use Rattle.answers.specs.declared.figures.FiguresAnswer.{FiguresAnswer}
 use Rattle.answers.specs.declared.figures.FiguresAnswer.TheVariants.{Figures, Refused}
 
-unfoldable pub caidiLine : Caidi → List ℕ
-caidiLine (Bounds b) = boundsLine (letters "CAIDI") b.lower b.upper
-caidiLine NotStated = letters "CAIDI none\n"
+unfoldable pub caidi_line : Caidi → List ℕ
+caidi_line (Bounds b) = bounds_line (letters "CAIDI") b.lower b.upper
+caidi_line NotStated = letters "CAIDI none\n"
 
-unfoldable pub allFigures : FigureValues → List ℕ
-allFigures f =
+unfoldable pub all_figures : FigureValues → List ℕ
+all_figures f =
     joined
-    (boundsLine (letters "SAIFI") f.saifi.lower f.saifi.upper
-    ∷ boundsLine (letters "SAIDI") f.saidi.lower f.saidi.upper
-    ∷ caidiLine f.caidi
-    ∷ boundsLine (letters "MAIFI") f.maifi.lower f.maifi.upper
+    (bounds_line (letters "SAIFI") f.saifi.lower f.saifi.upper
+    ∷ bounds_line (letters "SAIDI") f.saidi.lower f.saidi.upper
+    ∷ caidi_line f.caidi
+    ∷ bounds_line (letters "MAIFI") f.maifi.lower f.maifi.upper
     ∷ [])
 
 -- refusal 19 stands in the place of them all
-unfoldable pub figureLines : FiguresAnswer → List ℕ
-figureLines (Figures f) = allFigures f
-figureLines (Refused n) = numberLine (letters "INDICES") n
+unfoldable pub figure_lines : FiguresAnswer → List ℕ
+figure_lines (Figures f) = all_figures f
+figure_lines (Refused n) = number_line (letters "INDICES") n

@@ -2,5 +2,5 @@
 use Rattle.std.specs.Prelude.{ℕ, cond, List, [], ◌∷◌, ltb}
 
 -- class c if it has a path, else none
-unfoldable pub classWith : ℕ → ℕ → List ℕ
-classWith paths c = cond (ltb 0 paths) (c ∷ []) []
+unfoldable pub class_with : ℕ → ℕ → List ℕ
+class_with paths c = cond (ltb 0 paths) (c ∷ []) []

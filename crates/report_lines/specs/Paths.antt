@@ -3,32 +3,32 @@ use Rattle.std.specs.Prelude.{ℕ, cond, List, [], ◌∷◌, map, ltb, get_or}
 use Rattle.lists.specs.Rows.{joined}
 use Rattle.lists.specs.Tabulate.{tabulate}
 use Rattle.text.specs.Letters.{letters}
-use Rattle.text.specs.Lines.{field, boundsEnd}
+use Rattle.text.specs.Lines.{field, bounds_end}
 use Rattle.text.specs.Numbers.{digit}
 use Rattle.units.specs.Rounding.{down, up}
-use Rattle.rules.specs.Limits.{mostStates}
-use Rattle.entries.specs.Entries.{blankMark, classBorne}
-use Rattle.probability.specs.Bounds.{pathBound}
+use Rattle.rules.specs.Limits.{most_states}
+use Rattle.entries.specs.Entries.{blank_mark, class_borne}
+use Rattle.probability.specs.Bounds.{path_bound}
 
 -- the dash of a blank component
 abbrev pub dash : ℕ
 dash = 45
 
 -- what stands for a component: the digit of its state, or a dash
-abbrev pub markByte : ℕ → ℕ
-markByte mark = cond (ltb mark mostStates) (digit mark) dash
+abbrev pub mark_byte : ℕ → ℕ
+mark_byte mark = cond (ltb mark most_states) (digit mark) dash
 
 -- the first n marks of an entry
-unfoldable pub markBytes : ℕ → List ℕ → List ℕ
-markBytes n entry = tabulate (λ (i : ℕ). markByte (get_or entry i blankMark)) n
+unfoldable pub mark_bytes : ℕ → List ℕ → List ℕ
+mark_bytes n entry = tabulate (λ (i : ℕ). mark_byte (get_or entry i blank_mark)) n
 
 -- the line of an entry of n components with this class and these bounds
-unfoldable pub entryLine : ℕ → List ℕ → ℕ → ℕ → ℕ → List ℕ
-entryLine n entry class lower upper = joined (letters "P " ∷ markBytes n entry ∷ field class ∷ boundsEnd lower upper ∷ [])
+unfoldable pub entry_line : ℕ → List ℕ → ℕ → ℕ → ℕ → List ℕ
+entry_line n entry class lower upper = joined (letters "P " ∷ mark_bytes n entry ∷ field class ∷ bounds_end lower upper ∷ [])
 
-unfoldable pub pathLine : List ℕ → ℕ → List ℕ → List ℕ
-pathLine probabilities n entry = entryLine n entry (classBorne n entry) (pathBound down probabilities n entry) (pathBound up probabilities n entry)
+unfoldable pub path_line : List ℕ → ℕ → List ℕ → List ℕ
+path_line probabilities n entry = entry_line n entry (class_borne n entry) (path_bound down probabilities n entry) (path_bound up probabilities n entry)
 
 -- a line for each path, in the list's order
-unfoldable pub pathLines : List ℕ → ℕ → List (List ℕ) → List ℕ
-pathLines probabilities n entries = joined (map (pathLine probabilities n) entries)
+unfoldable pub path_lines : List ℕ → ℕ → List (List ℕ) → List ℕ
+path_lines probabilities n entries = joined (map (path_line probabilities n) entries)

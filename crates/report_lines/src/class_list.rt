@@ -2,11 +2,11 @@
 // than paths.
 ghost use Rattle.std.specs.Prelude.{ℕ, ◌≤◌, ◌<◌, length, get_or};
 ghost use Rattle.text.specs.Writing.{Room, Wrote};
-ghost use Rattle.entries.specs.Entries.{classPlaces, entriesOf};
+ghost use Rattle.entries.specs.Entries.{class_places, entries_of};
 ghost use Rattle.entries.specs.Lists.{PathList};
 ghost use Rattle.totals.specs.Places.{Placed};
-ghost use Rattle.report_lines.specs.Classes.{bearing, classesWith, classesBorne};
-ghost use Rattle.report_lines.specs.Listing.{classWith};
+ghost use Rattle.report_lines.specs.Classes.{bearing, classes_with, classes_borne};
+ghost use Rattle.report_lines.specs.Listing.{class_with};
 
 use entries::{CLASS_PLACES, Class, class_at};
 use totals::clear;
@@ -14,8 +14,8 @@ use totals::clear;
 // Counts the paths of a list that bear each class, at the place of the class.
 fn count_paths(n: usize, list: &[u8], paths: usize, counts: &mut [u64])
     requires path_list { PathList n paths list.now }
-    requires class_places_in_bounds { classPlaces ≤ length counts.old }
-    ensures { Placed classPlaces (bearing n (entriesOf n paths list.now)) counts.old
+    requires class_places_in_bounds { class_places ≤ length counts.old }
+    ensures { Placed class_places (bearing n (entries_of n paths list.now)) counts.old
         counts.new }
 {
     clear(counts);
@@ -29,9 +29,9 @@ fn count_paths(n: usize, list: &[u8], paths: usize, counts: &mut [u64])
 
 // Writes a class at a place, if any path bears it, and answers the place behind it.
 fn list_class(classes: &mut [Class], at: usize, paths: u64, c: usize) -> usize
-    requires c_lt_class_places { c < classPlaces }
-    requires room { Room classes.old at (classWith paths c) }
-    ensures { Wrote classes.old at (classWith paths c) classes.new result }
+    requires c_lt_class_places { c < class_places }
+    requires room { Room classes.old at (class_with paths c) }
+    ensures { Wrote classes.old at (class_with paths c) classes.new result }
 {
     if paths == 0 {
         return at;
@@ -42,9 +42,9 @@ fn list_class(classes: &mut [Class], at: usize, paths: u64, c: usize) -> usize
 
 // Lists the classes that have a count above 0, ascending, and answers how many they are.
 fn list_classes(counts: &[u64], classes: &mut [Class]) -> usize
-    requires class_places_in_bounds { classPlaces ≤ length counts.now }
-    requires room { Room classes.old 0 (classesWith (λ (c : ℕ). get_or counts.now c 0)) }
-    ensures { Wrote classes.old 0 (classesWith (λ (c : ℕ). get_or counts.now c 0))
+    requires class_places_in_bounds { class_places ≤ length counts.now }
+    requires room { Room classes.old 0 (classes_with (λ (c : ℕ). get_or counts.now c 0)) }
+    ensures { Wrote classes.old 0 (classes_with (λ (c : ℕ). get_or counts.now c 0))
         classes.new result }
 {
     let mut listed: usize = 0;
@@ -66,11 +66,11 @@ pub fn occurring(
     classes: &mut [Class],
 ) -> usize
     requires path_list { PathList n paths list.now }
-    requires class_places_in_bounds { classPlaces ≤ length counts.old }
+    requires class_places_in_bounds { class_places ≤ length counts.old }
     requires paths_in_bounds { paths ≤ length classes.old }
-    ensures counts { Placed classPlaces (bearing n (entriesOf n paths list.now)) counts.old
+    ensures counts { Placed class_places (bearing n (entries_of n paths list.now)) counts.old
         counts.new }
-    ensures classes { Wrote classes.old 0 (classesBorne n (entriesOf n paths list.now))
+    ensures classes { Wrote classes.old 0 (classes_borne n (entries_of n paths list.now))
         classes.new result }
 {
     count_paths(n, list, paths, counts);

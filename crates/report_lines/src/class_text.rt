@@ -1,18 +1,18 @@
 // The lines of classes.
 ghost use Rattle.std.specs.Prelude.{◌≤◌, length};
 ghost use Rattle.text.specs.Writing.{Room, Wrote};
-ghost use Rattle.entries.specs.Entries.{classPlaces};
-ghost use Rattle.report_lines.specs.Classes.{classLine, classLines};
+ghost use Rattle.entries.specs.Entries.{class_places};
+ghost use Rattle.report_lines.specs.Classes.{class_line, class_lines};
 
 use entries::Class;
 use text::item_line;
 
 // Writes the line of a class, from tables by class.
 fn class_line(out: &mut [u8], at: usize, class: Class, lower: &[u64], upper: &[u64]) -> usize
-    requires class_places_in_bounds { classPlaces ≤ length lower.now }
-    requires class_places_in_bounds_2 { classPlaces ≤ length upper.now }
-    requires room { Room out.old at (classLine lower.now upper.now class) }
-    ensures { Wrote out.old at (classLine lower.now upper.now class)
+    requires class_places_in_bounds { class_places ≤ length lower.now }
+    requires class_places_in_bounds_2 { class_places ≤ length upper.now }
+    requires room { Room out.old at (class_line lower.now upper.now class) }
+    ensures { Wrote out.old at (class_line lower.now upper.now class)
         out.new result }
 {
     let place = class as usize;
@@ -27,10 +27,10 @@ pub fn class_lines(
     lower: &[u64],
     upper: &[u64],
 ) -> usize
-    requires class_places_in_bounds { classPlaces ≤ length lower.now }
-    requires class_places_in_bounds_2 { classPlaces ≤ length upper.now }
-    requires room { Room out.old at (classLines classes.now lower.now upper.now) }
-    ensures { Wrote out.old at (classLines classes.now lower.now upper.now)
+    requires class_places_in_bounds { class_places ≤ length lower.now }
+    requires class_places_in_bounds_2 { class_places ≤ length upper.now }
+    requires room { Room out.old at (class_lines classes.now lower.now upper.now) }
+    ensures { Wrote out.old at (class_lines classes.now lower.now upper.now)
         out.new result }
 {
     let mut place = at;

@@ -1,14 +1,14 @@
 // The lines of the figures.
 ghost use Rattle.text.specs.Writing.{Room, Wrote};
-ghost use Rattle.report_lines.specs.Figures.{caidiLine, allFigures, figureLines};
+ghost use Rattle.report_lines.specs.Figures.{caidi_line, all_figures, figure_lines};
 
 use answers::{Caidi, Figures, FiguresAnswer};
 use text::{bounds_line, copy, number_line};
 
 // Writes the line of CAIDI.
 fn caidi_line(out: &mut [u8], at: usize, caidi: Caidi) -> usize
-    requires { Room out.old at (caidiLine caidi) }
-    ensures { Wrote out.old at (caidiLine caidi) out.new result }
+    requires { Room out.old at (caidi_line caidi) }
+    ensures { Wrote out.old at (caidi_line caidi) out.new result }
 {
     match caidi {
         Caidi::Bounds(b) => bounds_line(out, at, b"CAIDI", b.lower, b.upper),
@@ -18,8 +18,8 @@ fn caidi_line(out: &mut [u8], at: usize, caidi: Caidi) -> usize
 
 // Writes the lines of all figures.
 fn all_figures(out: &mut [u8], at: usize, f: Figures) -> usize
-    requires { Room out.old at (allFigures f) }
-    ensures { Wrote out.old at (allFigures f) out.new result }
+    requires { Room out.old at (all_figures f) }
+    ensures { Wrote out.old at (all_figures f) out.new result }
 {
     let saifi = f.saifi;
     let saidi = f.saidi;
@@ -33,8 +33,8 @@ fn all_figures(out: &mut [u8], at: usize, f: Figures) -> usize
 
 // Writes the lines of the figures, or the one that stands in their place.
 pub fn figure_lines(out: &mut [u8], at: usize, answer: FiguresAnswer) -> usize
-    requires { Room out.old at (figureLines answer) }
-    ensures { Wrote out.old at (figureLines answer) out.new result }
+    requires { Room out.old at (figure_lines answer) }
+    ensures { Wrote out.old at (figure_lines answer) out.new result }
 {
     match answer {
         FiguresAnswer::Figures(f) => all_figures(out, at, f),

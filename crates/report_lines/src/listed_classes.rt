@@ -1,9 +1,9 @@
 // The lines of classes from the list of the paths alone: a pass over it for each class, and no tables by class.
 ghost use Rattle.std.specs.Prelude.{◌<◌};
 ghost use Rattle.text.specs.Writing.{Room, Wrote};
-ghost use Rattle.entries.specs.Entries.{classPlaces, entriesOf};
+ghost use Rattle.entries.specs.Entries.{class_places, entries_of};
 ghost use Rattle.probability.specs.Bounded.{Boundable};
-ghost use Rattle.report_lines.specs.ListedClasses.{listedLine, listedLines};
+ghost use Rattle.report_lines.specs.ListedClasses.{listed_line, listed_lines};
 
 use entries::{CLASS_PLACES, Class};
 use probability::class_total;
@@ -20,10 +20,10 @@ fn listed_line(
     c: usize,
 ) -> usize
     requires boundable { Boundable probabilities.now n list.now paths }
-    requires c_lt_class_places { c < classPlaces }
-    requires room { Room out.old at (listedLine probabilities.now n (entriesOf n paths list.now) c) }
+    requires c_lt_class_places { c < class_places }
+    requires room { Room out.old at (listed_line probabilities.now n (entries_of n paths list.now) c) }
     ensures { Wrote out.old at
-        (listedLine probabilities.now n (entriesOf n paths list.now) c) out.new result }
+        (listed_line probabilities.now n (entries_of n paths list.now) c) out.new result }
 {
     let total = class_total(probabilities, n, list, paths, c as Class);
     if total.paths == 0 {
@@ -42,9 +42,9 @@ pub fn listed_class_lines(
     paths: usize,
 ) -> usize
     requires boundable { Boundable probabilities.now n list.now paths }
-    requires room { Room out.old at (listedLines probabilities.now n (entriesOf n paths list.now)) }
+    requires room { Room out.old at (listed_lines probabilities.now n (entries_of n paths list.now)) }
     ensures { Wrote out.old at
-        (listedLines probabilities.now n (entriesOf n paths list.now)) out.new result }
+        (listed_lines probabilities.now n (entries_of n paths list.now)) out.new result }
 {
     let mut place = at;
     let mut c: usize = 0;

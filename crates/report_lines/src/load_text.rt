@@ -1,8 +1,8 @@
 // The lines of loads.
 ghost use Rattle.std.specs.Prelude.{◌≤◌, ◌<◌};
-ghost use Rattle.rules.specs.Limits.{mostLoads};
+ghost use Rattle.rules.specs.Limits.{most_loads};
 ghost use Rattle.text.specs.Writing.{Room, Wrote};
-ghost use Rattle.report_lines.specs.Loads.{loadLine, loadLines};
+ghost use Rattle.report_lines.specs.Loads.{load_line, load_lines};
 
 use rules::LOAD_PLACES;
 use text::item_line;
@@ -15,9 +15,9 @@ fn load_line(
     upper: [u64; LOAD_PLACES],
     j: usize,
 ) -> usize
-    requires j_lt_most_loads { j < mostLoads }
-    requires room { Room out.old at (loadLine lower upper j) }
-    ensures { Wrote out.old at (loadLine lower upper j) out.new result }
+    requires j_lt_most_loads { j < most_loads }
+    requires room { Room out.old at (load_line lower upper j) }
+    ensures { Wrote out.old at (load_line lower upper j) out.new result }
 {
     item_line(out, at, b"L", j as u64, lower[j], upper[j])
 }
@@ -30,9 +30,9 @@ pub fn load_lines(
     upper: [u64; LOAD_PLACES],
     loads: u8,
 ) -> usize
-    requires loads_le_most_loads { loads ≤ mostLoads }
-    requires room { Room out.old at (loadLines lower upper loads) }
-    ensures { Wrote out.old at (loadLines lower upper loads) out.new result }
+    requires loads_le_most_loads { loads ≤ most_loads }
+    requires room { Room out.old at (load_lines lower upper loads) }
+    ensures { Wrote out.old at (load_lines lower upper loads) out.new result }
 {
     let number = loads as usize;
     let mut place = at;

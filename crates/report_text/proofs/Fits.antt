@@ -6,7 +6,7 @@ use native.Mathlib.Nat.{min-le_left}
 use native.Mathlib.Omega.{arith}
 use lib.Dec.{eqb}
 use lib.ListN.{length, get_or}
-use Rattle.lists.specs.Counting.{sumOver}
+use Rattle.lists.specs.Counting.{sum_over}
 use Rattle.lists.proofs.Elements.{Every}
 use Rattle.lists.proofs.Tabulated.{get_d_tabulate}
 use Rattle.text.specs.Letters.{letters}
@@ -16,29 +16,29 @@ use Rattle.words.proofs.Worded.{word-short}
 use Rattle.units.specs.One.{one}
 use Rattle.units.specs.Rounding.{down, up}
 use Rattle.rules.specs.Breach.{refuse}
-use Rattle.rules.specs.Limits.{mostJointStates}
+use Rattle.rules.specs.Limits.{most_joint_states}
 use Rattle.answers.specs.Answered.{answered}
 use Rattle.answers.specs.declared.figures.FiguresAnswer.TheVariants.{Figures, Refused}
-use Rattle.entries.specs.Entries.{classBorne, classPlaces, byteValues}
+use Rattle.entries.specs.Entries.{class_borne, class_places, byte_values}
 use Rattle.model.specs.Good.{Good}
-use Rattle.model.specs.Model.{Model, components, pathsOf, probabilityTable}
+use Rattle.model.specs.Model.{Model, components, paths_of, probability_table}
 use Rattle.model.proofs.Listing.{paths-few}
 use Rattle.model.proofs.Paths.{each-entry}
 use Rattle.probability.specs.Bounds.{total}
 use Rattle.probability.proofs.Most.{total-most}
-use Rattle.indices.specs.Figures.{customersSum}
+use Rattle.indices.specs.Figures.{customers_sum}
 use Rattle.indices.specs.Losses.{LossBounds}
 use Rattle.indices.proofs.Ordering.{lower-most}
-use Rattle.evaluation.specs.Bounds.{lowerOf, upperOf, classLowers, classUppers, loadLowers, loadUppers}
-use Rattle.evaluation.specs.Figures.{figuresBy, modelFigures}
+use Rattle.evaluation.specs.Bounds.{lower_of, upper_of, class_lowers, class_uppers, load_lowers, load_uppers}
+use Rattle.evaluation.specs.Figures.{figures_by, model_figures}
 use Rattle.evaluation.proofs.Bounding.{model-table}
 use Rattle.evaluation.proofs.LossOrder.{model-losses, fewer-losses}
-use Rattle.report_lines.specs.Classes.{classesBorne}
-use Rattle.report_lines.specs.Figures.{figureLines}
-use Rattle.report_lines.specs.Paths.{pathLines}
+use Rattle.report_lines.specs.Classes.{classes_borne}
+use Rattle.report_lines.specs.Figures.{figure_lines}
+use Rattle.report_lines.specs.Paths.{path_lines}
 use Rattle.report_lines.proofs.Borne.{borne-class, borne-most}
 use Rattle.report_lines.proofs.Widths.{path-lines-short, class-lines-short, load-lines-short}
-use Rattle.report_text.specs.Report.{reportBytes, refusedBytes, pathsText, classesText, lossesText, modelText, refusedText}
+use Rattle.report_text.specs.Report.{report_bytes, refused_bytes, paths_text, classes_text, losses_text, model_text, refused_text}
 use Rattle.report_text.proofs.Printed.{model-figures-short}
 
 -- a text that is no longer has room in a buffer of that size
@@ -47,66 +47,66 @@ has_room text d short room = record { fits = omega (arith, short, room) }
 
 -- ---- a refused study
 
-pub refused-short : (n : ℕ) → n < byteValues → length (refusedText n) ≤ refusedBytes
-unfolding refusedText sumOver
+pub refused-short : (n : ℕ) → n < byte_values → length (refused_text n) ≤ refused_bytes
+unfolding refused_text sum_over
 refused-short n byte = rw (joined_length _) (omega (arith, field-short 3 (omega arith) n (omega (arith, byte)), word-short n))
 
 -- ---- a model whose classes are bytes
 
-module _ (m : Model) (good : Good m) (classes : (x : List ℕ) → m.class x < classPlaces) where
-  few : length (pathsOf m) ≤ mostJointStates
+module _ (m : Model) (good : Good m) (classes : (x : List ℕ) → m.class x < class_places) where
+  few : length (paths_of m) ≤ most_joint_states
   few = paths-few m good
 
   -- each path bears the class of a joint state
-  borne : Every (λ (entry : List ℕ). classBorne (components m) entry < classPlaces) [] (pathsOf m)
+  borne : Every (λ (entry : List ℕ). class_borne (components m) entry < class_places) [] (paths_of m)
   borne i h = let e = each-entry m good i h in rw e.bears (classes e.joint)
 
-  paths-short : length (pathLines (probabilityTable m) (components m) (pathsOf m)) ≤ mostJointStates * 41
+  paths-short : length (path_lines (probability_table m) (components m) (paths_of m)) ≤ most_joint_states * 41
   paths-short =
-      let short = path-lines-short (probabilityTable m) (components m) (pathsOf m) (model-table m good) good.counts.few borne in
+      let short = path-lines-short (probability_table m) (components m) (paths_of m) (model-table m good) good.counts.few borne in
       omega (arith, short, few)
 
-  lower-class : (c : ℕ) → c < classPlaces → get_or (classLowers m) c 0 < 10 ^ 13
+  lower-class : (c : ℕ) → c < class_places → get_or (class_lowers m) c 0 < 10 ^ 13
   lower-class c h =
-      let most = total-most down (omega arith) (probabilityTable m) (model-table m good) (components m) (λ (class : ℕ). eqb class c) (pathsOf m) in
-      rw (get_d_tabulate (λ (c : ℕ). lowerOf m (λ (class : ℕ). eqb class c)) classPlaces c 0 h) (omega (arith, most, few))
+      let most = total-most down (omega arith) (probability_table m) (model-table m good) (components m) (λ (class : ℕ). eqb class c) (paths_of m) in
+      rw (get_d_tabulate (λ (c : ℕ). lower_of m (λ (class : ℕ). eqb class c)) class_places c 0 h) (omega (arith, most, few))
 
-  upper-class : (c : ℕ) → c < classPlaces → get_or (classUppers m) c 0 < 10 ^ 13
+  upper-class : (c : ℕ) → c < class_places → get_or (class_uppers m) c 0 < 10 ^ 13
   upper-class c h =
-      let most = min-le_left one (total up (probabilityTable m) (components m) (λ (class : ℕ). eqb class c) (pathsOf m)) in
-      rw (get_d_tabulate (λ (c : ℕ). upperOf m (λ (class : ℕ). eqb class c)) classPlaces c 0 h) (omega (arith, most))
+      let most = min-le_left one (total up (probability_table m) (components m) (λ (class : ℕ). eqb class c) (paths_of m)) in
+      rw (get_d_tabulate (λ (c : ℕ). upper_of m (λ (class : ℕ). eqb class c)) class_places c 0 h) (omega (arith, most))
 
-  classes-short : length (classesText m) ≤ classPlaces * 34
-  unfolding classesText
+  classes-short : length (classes_text m) ≤ class_places * 34
+  unfolding classes_text
   classes-short =
       let n = components m in
-      let classes = classesBorne n (pathsOf m) in
-      let short = class-lines-short classes (classLowers m) (classUppers m) (borne-class n (pathsOf m)) lower-class upper-class in
-      omega (arith, short, borne-most n (pathsOf m))
+      let classes = classes_borne n (paths_of m) in
+      let short = class-lines-short classes (class_lowers m) (class_uppers m) (borne-class n (paths_of m)) lower-class upper-class in
+      omega (arith, short, borne-most n (paths_of m))
 
-  losses : LossBounds (loadLowers m) (loadUppers m) (length m.loads)
+  losses : LossBounds (load_lowers m) (load_uppers m) (length m.loads)
   losses = fewer-losses good.loads.few (model-losses m good)
 
-  figures-short : length (figureLines (figuresBy (loadLowers m) (loadUppers m) m.loads)) ≤ 192
-  unfolding figureLines figuresBy refuse answered
-  figures-short = go (eqb (customersSum m.loads) 0)
+  figures-short : length (figure_lines (figures_by (load_lowers m) (load_uppers m) m.loads)) ≤ 192
+  unfolding figure_lines figures_by refuse answered
+  figures-short = go (eqb (customers_sum m.loads) 0)
     where
-      go : (b : Bool) → length (figureLines (answered Refused (refuse 19 b) (Figures (modelFigures m)))) ≤ 192
+      go : (b : Bool) → length (figure_lines (answered Refused (refuse 19 b) (Figures (model_figures m)))) ≤ 192
       go true = omega (arith, number_short 2 (omega arith) (letters "INDICES") 19 (omega arith))
       go false = model-figures-short m.loads good.loads _ _ losses
 
-  losses-short : length (lossesText m) ≤ 400
-  unfolding lossesText sumOver
+  losses-short : length (losses_text m) ≤ 400
+  unfolding losses_text sum_over
   losses-short =
-      let lines = load-lines-short (loadLowers m) (loadUppers m) (length m.loads) good.loads.few (lower-most losses).most losses.uppers.most in
+      let lines = load-lines-short (load_lowers m) (load_uppers m) (length m.loads) good.loads.few (lower-most losses).most losses.uppers.most in
       rw (joined_length _) (omega (arith, lines, good.loads.few, figures-short))
 
-  paths-text-short : length (pathsText m) ≤ mostJointStates * 41 + 16
-  unfolding pathsText sumOver
+  paths-text-short : length (paths_text m) ≤ most_joint_states * 41 + 16
+  unfolding paths_text sum_over
   paths-text-short =
-      let first = number_short 4 (omega arith) (letters "PATHS") (length (pathsOf m)) (omega (arith, few)) in
+      let first = number_short 4 (omega arith) (letters "PATHS") (length (paths_of m)) (omega (arith, few)) in
       rw (joined_length _) (omega (arith, first, paths-short))
 
-  pub model-short : length (modelText m) ≤ reportBytes
-  unfolding modelText sumOver
+  pub model-short : length (model_text m) ≤ report_bytes
+  unfolding model_text sum_over
   model-short = rw (joined_length _) (omega (arith, paths-text-short, classes-short, losses-short))

@@ -5,47 +5,47 @@ use mathlib.Core.List.{List}
 use native.Mathlib.Omega.{arith}
 use lib.ListN.{length}
 use lib.Pow.{pow_mono}
-use Rattle.rules.specs.Limits.{mostLoads}
+use Rattle.rules.specs.Limits.{most_loads}
 use Rattle.study.specs.declared.Study.{Study}
 use Rattle.answers.specs.declared.outcome.Outcome.{Outcome}
 use Rattle.answers.specs.declared.outcome.Outcome.TheVariants.{Done, Refused}
-use Rattle.answers.specs.Told.{outcomeTold}
+use Rattle.answers.specs.Told.{outcome_told}
 use Rattle.soundness.specs.Sound.{Sound}
 use Rattle.soundness.proofs.Ranges.{loads-most}
 use Rattle.opening.specs.Opening.{opened}
 use Rattle.opening.proofs.Taken.Study.{opening-rows}
-use Rattle.entries.specs.Entries.{classPlaces}
+use Rattle.entries.specs.Entries.{class_places}
 use Rattle.fault_tree.specs.Classes.{class_of}
-use Rattle.fault_tree.specs.Truth.{gateTruths}
+use Rattle.fault_tree.specs.Truth.{gate_truths}
 use Rattle.fault_tree.proofs.ClassBits.{class-below}
-use Rattle.meaning.specs.Meaning.{byGates, modelOf}
+use Rattle.meaning.specs.Meaning.{by_gates, model_of}
 use Rattle.meaning.proofs.Tables.{meant-good}
 use Rattle.report_text.specs.Laws.{ReportFits}
-use Rattle.report_text.specs.Report.{reportBytes, modelText, reportText}
+use Rattle.report_text.specs.Report.{report_bytes, model_text, report_text}
 use Rattle.report_text.proofs.Fits.{refused-short, model-short}
 use Rattle.report_text.proofs.Opened.{text-done, text-refused, opened-study}
 
 -- a class has a bit for each load
-class-byte : (t : Study) → Sound t → (x : List ℕ) → class_of t x < classPlaces
+class-byte : (t : Study) → Sound t → (x : List ℕ) → class_of t x < class_places
 unfolding class_of
 class-byte t s x =
-    let below = class-below (gateTruths t.gate x t.gates) t.load t.loads in
-    let most : 2 ^ t.loads ≤ 2 ^ mostLoads = pow_mono (loads-most t s) in
+    let below = class-below (gate_truths t.gate x t.gates) t.load t.loads in
+    let most : 2 ^ t.loads ≤ 2 ^ most_loads = pow_mono (loads-most t s) in
     omega (arith, below, most)
 
-gates-short : (t : Study) → Sound t → length (modelText (modelOf byGates t)) ≤ reportBytes
-unfolding modelOf
-gates-short t s = model-short (modelOf byGates t) (meant-good byGates t s) (class-byte t s)
+gates-short : (t : Study) → Sound t → length (model_text (model_of by_gates t)) ≤ report_bytes
+unfolding model_of
+gates-short t s = model-short (model_of by_gates t) (meant-good by_gates t s) (class-byte t s)
 
 pub report-fits : ReportFits
 report-fits bytes = go (opened bytes).outcome refl
   where
-    go : (o : Outcome) → (opened bytes).outcome ≡ o → length (reportText bytes) ≤ reportBytes
+    go : (o : Outcome) → (opened bytes).outcome ≡ o → length (report_text bytes) ≤ report_bytes
     go Done done =
         let t = (opened bytes).study in
         let s = opened-study bytes refl done in
-        subst (λ (text : List ℕ). length text ≤ reportBytes) (text-done bytes refl done)
+        subst (λ (text : List ℕ). length text ≤ report_bytes) (text-done bytes refl done)
         (gates-short t s)
     go (Refused n) refused =
-        let row = opening-rows bytes n (ap outcomeTold refused) in
-        subst (λ (text : List ℕ). length text ≤ reportBytes) (text-refused bytes refl refused) (omega (arith, refused-short n (omega (arith, row.most))))
+        let row = opening-rows bytes n (ap outcome_told refused) in
+        subst (λ (text : List ℕ). length text ≤ report_bytes) (text-refused bytes refl refused) (omega (arith, refused-short n (omega (arith, row.most))))

@@ -1,80 +1,80 @@
 -- What the call for a report answers, and what it leaves of what it was lent: a buffer for the text, and two slices
 -- for the bounds of the study's classes, which are not looked at where the study does not open.
 use Rattle.std.specs.Prelude.{ℕ, ◌≡◌, List, [], ◌∷◌, length}
-use Rattle.rules.specs.Breach.{firstBreach}
-use Rattle.rules.specs.Table.{roomFault}
+use Rattle.rules.specs.Breach.{first_breach}
+use Rattle.rules.specs.Table.{room_fault}
 use Rattle.answers.specs.Answered.{answered, filled}
 use Rattle.answers.specs.declared.counts.CountAnswer.{CountAnswer}
 use Rattle.answers.specs.declared.counts.CountAnswer.TheVariants.{Count, Refused as NoCount}
 use Rattle.answers.specs.declared.outcome.Outcome.{Outcome}
 use Rattle.answers.specs.declared.outcome.Outcome.TheVariants.{Done, Refused}
-use Rattle.entries.specs.Entries.{classPlaces}
+use Rattle.entries.specs.Entries.{class_places}
 use Rattle.model.specs.Model.{Model}
 use Rattle.opening.specs.Opening.{opened}
-use Rattle.meaning.specs.Meaning.{byGates, modelOf}
-use Rattle.evaluation.specs.Bounds.{classLowers, classUppers}
-use Rattle.evaluation.specs.Rooms.{pairFault, PairPut}
-use Rattle.report_text.specs.Report.{modelText, reportText}
+use Rattle.meaning.specs.Meaning.{by_gates, model_of}
+use Rattle.evaluation.specs.Bounds.{class_lowers, class_uppers}
+use Rattle.evaluation.specs.Rooms.{pair_fault, PairPut}
+use Rattle.report_text.specs.Report.{model_text, report_text}
 
 -- 18 for a text, then 18 for two slices of which each needs so many places
-abbrev pub roomBreaches : List ℕ → ℕ → (text lower upper : List ℕ) → List ℕ
-roomBreaches report places text lower upper =
-    roomFault (length report) (length text) ∷ pairFault places (length lower) (length upper) ∷ []
+abbrev pub room_breaches : List ℕ → ℕ → (text lower upper : List ℕ) → List ℕ
+room_breaches report places text lower upper =
+    room_fault (length report) (length text) ∷ pair_fault places (length lower) (length upper) ∷ []
 
 -- what is answered and left with this text, these bounds and this breach
 pub record ReportPut (report : List ℕ) (breach : ℕ) (lowers uppers : List ℕ)
     (text-was lower-was upper-was text lower upper : List ℕ) (answer : CountAnswer) : Type 0 where
-  pub text-is : text ≡ filled breach report text-was
+  pub text_is : text ≡ filled breach report text-was
   pub bounds : PairPut NoCount breach (Count (length report)) lowers uppers lower-was upper-was lower upper answer
 
 -- ---- a model
 
 -- its text, and a place for each class in both slices
-abbrev pub modelBreach : Model → (text lower upper : List ℕ) → ℕ
-modelBreach m text lower upper = firstBreach (roomBreaches (modelText m) classPlaces text lower upper)
+abbrev pub model_breach : Model → (text lower upper : List ℕ) → ℕ
+model_breach m text lower upper = first_breach (room_breaches (model_text m) class_places text lower upper)
 
 abbrev pub ModelReported : Model → (text-was lower-was upper-was text lower upper : List ℕ) → CountAnswer → Type 0
 ModelReported m text-was lower-was upper-was =
-    ReportPut (modelText m) (modelBreach m text-was lower-was upper-was) (classLowers m) (classUppers m)
+    ReportPut (model_text m) (model_breach m text-was lower-was upper-was) (class_lowers m) (class_uppers m)
     text-was lower-was upper-was
 
 -- ---- bytes, by what opening answers
 
 -- the places that are needed in each slice
 abbrev pub places_by : Outcome → ℕ
-places_by Done = classPlaces
+places_by Done = class_places
 places_by (Refused n) = 0
 
 -- the bounds that go there
-abbrev pub boundsBy : Outcome → List ℕ → List ℕ
-boundsBy Done bounds = bounds
-boundsBy (Refused n) bounds = []
+abbrev pub bounds_by : Outcome → List ℕ → List ℕ
+bounds_by Done bounds = bounds
+bounds_by (Refused n) bounds = []
 
-abbrev pub reportBreaches : List ℕ → (text lower upper : List ℕ) → List ℕ
-reportBreaches bytes = roomBreaches (reportText bytes) (places_by (opened bytes).outcome)
+abbrev pub report_breaches : List ℕ → (text lower upper : List ℕ) → List ℕ
+report_breaches bytes = room_breaches (report_text bytes) (places_by (opened bytes).outcome)
 
-unfoldable pub reportFault : List ℕ → (text lower upper : List ℕ) → ℕ
-reportFault bytes text lower upper = firstBreach (reportBreaches bytes text lower upper)
+unfoldable pub report_fault : List ℕ → (text lower upper : List ℕ) → ℕ
+report_fault bytes text lower upper = first_breach (report_breaches bytes text lower upper)
 
 -- the bounds of the study's classes, where it opens
-abbrev pub reportLowers : List ℕ → List ℕ
-reportLowers bytes = boundsBy (opened bytes).outcome (classLowers (modelOf byGates (opened bytes).study))
+abbrev pub report_lowers : List ℕ → List ℕ
+report_lowers bytes = bounds_by (opened bytes).outcome (class_lowers (model_of by_gates (opened bytes).study))
 
-abbrev pub reportUppers : List ℕ → List ℕ
-reportUppers bytes = boundsBy (opened bytes).outcome (classUppers (modelOf byGates (opened bytes).study))
+abbrev pub report_uppers : List ℕ → List ℕ
+report_uppers bytes = bounds_by (opened bytes).outcome (class_uppers (model_of by_gates (opened bytes).study))
 
 -- the answer: the number of bytes of the text
 unfoldable pub reported : List ℕ → (text lower upper : List ℕ) → CountAnswer
-unfolding answered reportFault
+unfolding answered report_fault
 reported bytes text lower upper =
-    answered NoCount (reportFault bytes text lower upper) (Count (length (reportText bytes)))
+    answered NoCount (report_fault bytes text lower upper) (Count (length (report_text bytes)))
 
 -- what the buffer and the two slices then hold
-abbrev pub bufferReported : List ℕ → (text lower upper : List ℕ) → List ℕ
-bufferReported bytes text lower upper = filled (reportFault bytes text lower upper) (reportText bytes) text
+abbrev pub buffer_reported : List ℕ → (text lower upper : List ℕ) → List ℕ
+buffer_reported bytes text lower upper = filled (report_fault bytes text lower upper) (report_text bytes) text
 
-abbrev pub lowerReported : List ℕ → (text lower upper : List ℕ) → List ℕ
-lowerReported bytes text lower upper = filled (reportFault bytes text lower upper) (reportLowers bytes) lower
+abbrev pub lower_reported : List ℕ → (text lower upper : List ℕ) → List ℕ
+lower_reported bytes text lower upper = filled (report_fault bytes text lower upper) (report_lowers bytes) lower
 
-abbrev pub upperReported : List ℕ → (text lower upper : List ℕ) → List ℕ
-upperReported bytes text lower upper = filled (reportFault bytes text lower upper) (reportUppers bytes) upper
+abbrev pub upper_reported : List ℕ → (text lower upper : List ℕ) → List ℕ
+upper_reported bytes text lower upper = filled (report_fault bytes text lower upper) (report_uppers bytes) upper

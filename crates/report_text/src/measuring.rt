@@ -1,10 +1,10 @@
 // Whether the text of a model has room in a lent buffer, before anything that was lent is written.
 ghost use Rattle.std.specs.Prelude.{◌≤◌, ◌≡◌, length};
 ghost use Rattle.text.specs.Writing.{Wrote};
-ghost use Rattle.rules.specs.Table.{roomFault};
-ghost use Rattle.model.specs.InHand.{modelHeld, InHand};
+ghost use Rattle.rules.specs.Table.{room_fault};
+ghost use Rattle.model.specs.InHand.{model_held, InHand};
 ghost use Rattle.model.specs.Listed.{Listed};
-ghost use Rattle.report_text.specs.Report.{reportBytes, modelText};
+ghost use Rattle.report_text.specs.Report.{report_bytes, model_text};
 
 use crate::buffer::{REPORT_BYTES, empty_report};
 use crate::model_text::{losses_text, paths_text};
@@ -24,9 +24,9 @@ fn listed_text(
     out: &mut [u8],
 ) -> usize
     requires in_hand { InHand model classes.now }
-    requires listed { Listed (modelHeld model classes.now) paths list.now }
-    requires report_bytes_in_bounds { reportBytes ≤ length out.old }
-    ensures { Wrote out.old 0 (modelText (modelHeld model classes.now)) out.new result }
+    requires listed { Listed (model_held model classes.now) paths list.now }
+    requires report_bytes_in_bounds { report_bytes ≤ length out.old }
+    ensures { Wrote out.old 0 (model_text (model_held model classes.now)) out.new result }
 {
     let table = model.probabilities;
     let n = model.components as usize;
@@ -38,8 +38,8 @@ fn listed_text(
 // The bytes of the text.
 fn text_size(model: HeldModel, classes: &[Class], list: &[u8], paths: usize) -> usize
     requires in_hand { InHand model classes.now }
-    requires listed { Listed (modelHeld model classes.now) paths list.now }
-    ensures { result ≡ length (modelText (modelHeld model classes.now)) }
+    requires listed { Listed (model_held model classes.now) paths list.now }
+    ensures { result ≡ length (model_text (model_held model classes.now)) }
 {
     let mut page = empty_report();
     listed_text(model, classes, list, paths, &mut page)
@@ -48,8 +48,8 @@ fn text_size(model: HeldModel, classes: &[Class], list: &[u8], paths: usize) -> 
 // The breach of a buffer with so much room: the text is measured only where it might not fit.
 pub fn text_fault(model: HeldModel, classes: &[Class], list: &[u8], paths: usize, room: usize) -> u8
     requires in_hand { InHand model classes.now }
-    requires listed { Listed (modelHeld model classes.now) paths list.now }
-    ensures { result ≡ roomFault (length (modelText (modelHeld model classes.now))) room }
+    requires listed { Listed (model_held model classes.now) paths list.now }
+    ensures { result ≡ room_fault (length (model_text (model_held model classes.now))) room }
 {
     if room < REPORT_BYTES {
         return room_fault(text_size(model, classes, list, paths), room);

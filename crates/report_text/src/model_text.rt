@@ -2,11 +2,11 @@
 ghost use Rattle.std.specs.Prelude.{◌≤◌, ◌≡◌, length};
 ghost use Rattle.lists.specs.Rows.{put};
 ghost use Rattle.text.specs.Writing.{Room, Wrote};
-ghost use Rattle.entries.specs.Entries.{classPlaces};
-ghost use Rattle.model.specs.InHand.{modelHeld, InHand};
+ghost use Rattle.entries.specs.Entries.{class_places};
+ghost use Rattle.model.specs.InHand.{model_held, InHand};
 ghost use Rattle.model.specs.Listed.{Listed};
-ghost use Rattle.evaluation.specs.Bounds.{classLowers, classUppers};
-ghost use Rattle.report_text.specs.Report.{pathsText, classesText, lossesText, modelText};
+ghost use Rattle.evaluation.specs.Bounds.{class_lowers, class_uppers};
+ghost use Rattle.report_text.specs.Report.{paths_text, classes_text, losses_text, model_text};
 
 use entries::Class;
 use evaluation::{figures_from, loss_bounds, write_classes};
@@ -25,9 +25,9 @@ pub fn paths_text(
     out: &mut [u8],
 ) -> usize
     requires in_hand { InHand model classes.now }
-    requires listed { Listed (modelHeld model classes.now) paths list.now }
-    requires room { Room out.old 0 (pathsText (modelHeld model classes.now)) }
-    ensures { Wrote out.old 0 (pathsText (modelHeld model classes.now)) out.new result }
+    requires listed { Listed (model_held model classes.now) paths list.now }
+    requires room { Room out.old 0 (paths_text (model_held model classes.now)) }
+    ensures { Wrote out.old 0 (paths_text (model_held model classes.now)) out.new result }
 {
     let table = model.probabilities;
     let n = model.components as usize;
@@ -48,13 +48,13 @@ fn classes_text(
     upper: &mut [u64],
 ) -> usize
     requires in_hand { InHand model classes.now }
-    requires listed { Listed (modelHeld model classes.now) paths list.now }
-    requires room { Room out.old at (classesText (modelHeld model classes.now)) }
-    requires class_places_in_bounds { classPlaces ≤ length lower.old }
-    requires class_places_in_bounds_2 { classPlaces ≤ length upper.old }
-    ensures text { Wrote out.old at (classesText (modelHeld model classes.now)) out.new result }
-    ensures lower { lower.new ≡ put lower.old 0 (classLowers (modelHeld model classes.now)) }
-    ensures upper { upper.new ≡ put upper.old 0 (classUppers (modelHeld model classes.now)) }
+    requires listed { Listed (model_held model classes.now) paths list.now }
+    requires room { Room out.old at (classes_text (model_held model classes.now)) }
+    requires class_places_in_bounds { class_places ≤ length lower.old }
+    requires class_places_in_bounds_2 { class_places ≤ length upper.old }
+    ensures text { Wrote out.old at (classes_text (model_held model classes.now)) out.new result }
+    ensures lower { lower.new ≡ put lower.old 0 (class_lowers (model_held model classes.now)) }
+    ensures upper { upper.new ≡ put upper.old 0 (class_uppers (model_held model classes.now)) }
 {
     let mut borne = no_classes();
     let number = occurring(model.components as usize, list, paths, lower, &mut borne);
@@ -65,8 +65,8 @@ fn classes_text(
 // Writes the lines of the loads and of the figures.
 pub fn losses_text(model: HeldModel, classes: &[Class], out: &mut [u8], at: usize) -> usize
     requires in_hand { InHand model classes.now }
-    requires room { Room out.old at (lossesText (modelHeld model classes.now)) }
-    ensures { Wrote out.old at (lossesText (modelHeld model classes.now)) out.new result }
+    requires room { Room out.old at (losses_text (model_held model classes.now)) }
+    ensures { Wrote out.old at (losses_text (model_held model classes.now)) out.new result }
 {
     let losses = loss_bounds(model, classes);
     let answer = figures_from(losses, model);
@@ -87,13 +87,13 @@ pub fn model_text(
     upper: &mut [u64],
 ) -> usize
     requires in_hand { InHand model classes.now }
-    requires listed { Listed (modelHeld model classes.now) paths list.now }
-    requires room { Room out.old 0 (modelText (modelHeld model classes.now)) }
-    requires class_places_in_bounds { classPlaces ≤ length lower.old }
-    requires class_places_in_bounds_2 { classPlaces ≤ length upper.old }
-    ensures text { Wrote out.old 0 (modelText (modelHeld model classes.now)) out.new result }
-    ensures lower { lower.new ≡ put lower.old 0 (classLowers (modelHeld model classes.now)) }
-    ensures upper { upper.new ≡ put upper.old 0 (classUppers (modelHeld model classes.now)) }
+    requires listed { Listed (model_held model classes.now) paths list.now }
+    requires room { Room out.old 0 (model_text (model_held model classes.now)) }
+    requires class_places_in_bounds { class_places ≤ length lower.old }
+    requires class_places_in_bounds_2 { class_places ≤ length upper.old }
+    ensures text { Wrote out.old 0 (model_text (model_held model classes.now)) out.new result }
+    ensures lower { lower.new ≡ put lower.old 0 (class_lowers (model_held model classes.now)) }
+    ensures upper { upper.new ≡ put upper.old 0 (class_uppers (model_held model classes.now)) }
 {
     let first = paths_text(model, classes, list, paths, out);
     let second = classes_text(model, classes, list, paths, out, first, lower, upper);

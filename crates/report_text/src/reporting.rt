@@ -1,9 +1,9 @@
 // The call for the report of a study's bytes.
 ghost use Rattle.std.specs.Prelude.{◌≡◌};
 ghost use Rattle.soundness.specs.Sound.{Sound};
-ghost use Rattle.model.specs.InHand.{modelHeld, InHand};
-ghost use Rattle.meaning.specs.Meaning.{byGates, modelOf};
-ghost use Rattle.report_text.specs.Lent.{ModelReported, reported, bufferReported, lowerReported, upperReported};
+ghost use Rattle.model.specs.InHand.{model_held, InHand};
+ghost use Rattle.meaning.specs.Meaning.{by_gates, model_of};
+ghost use Rattle.report_text.specs.Lent.{ModelReported, reported, buffer_reported, lower_reported, upper_reported};
 
 use crate::measuring::text_fault;
 use crate::model_text::model_text;
@@ -27,7 +27,7 @@ fn model_report(
     upper: &mut [u64],
 ) -> CountAnswer
     requires { InHand model classes.now }
-    ensures { ModelReported (modelHeld model classes.now)
+    ensures { ModelReported (model_held model classes.now)
         text.old lower.old upper.old
         text.new lower.new upper.new result }
 {
@@ -46,7 +46,7 @@ fn model_report(
 // The report of a sound study. Refused by 18.
 fn sound_report(t: Study, text: &mut [u8], lower: &mut [u64], upper: &mut [u64]) -> CountAnswer
     requires { Sound t }
-    ensures { ModelReported (modelOf byGates t)
+    ensures { ModelReported (model_of by_gates t)
         text.old lower.old upper.old
         text.new lower.new upper.new result }
 {
@@ -61,11 +61,11 @@ fn sound_report(t: Study, text: &mut [u8], lower: &mut [u64], upper: &mut [u64])
 pub fn report(bytes: &[u8], text: &mut [u8], lower: &mut [u64], upper: &mut [u64]) -> CountAnswer
     ensures answer { result ≡ reported bytes.now text.old lower.old upper.old }
     ensures text { text.new
-        ≡ bufferReported bytes.now text.old lower.old upper.old }
+        ≡ buffer_reported bytes.now text.old lower.old upper.old }
     ensures lower { lower.new
-        ≡ lowerReported bytes.now text.old lower.old upper.old }
+        ≡ lower_reported bytes.now text.old lower.old upper.old }
     ensures upper { upper.new
-        ≡ upperReported bytes.now text.old lower.old upper.old }
+        ≡ upper_reported bytes.now text.old lower.old upper.old }
 {
     let answer = opening::open(bytes);
     let outcome = answer.outcome;

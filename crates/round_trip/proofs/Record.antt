@@ -11,12 +11,12 @@ use lib.ListN.{length, get_or}
 use lib.Pow.{shr-shr, pow_pos}
 use borrow.Author.Tests.{eqb-true, eqb-false, lt-leb}
 use Rattle.lists.specs.Bits.{digit}
-use Rattle.rules.specs.Breach.{refuse, unlessAbsent}
-use Rattle.rules.specs.Table.{strayFault}
+use Rattle.rules.specs.Breach.{refuse, unless_absent}
+use Rattle.rules.specs.Table.{stray_fault}
 use Rattle.rules.proofs.Kept.{unless-kept}
-use Rattle.study_bytes.specs.Written.{field, given, mapOf, recordBytes}
+use Rattle.study_bytes.specs.Written.{field, given, map_of, record_bytes}
 use Rattle.reading.specs.Reader.{Reader}
-use Rattle.reading.specs.Fields.{field_at, fields, mapBits, mapByte, fieldsByMap}
+use Rattle.reading.specs.Fields.{field_at, fields, map_bits, map_byte, fields_by_map}
 use Rattle.reading.proofs.Back.{Back, back-return, back-then, back-judged, back-byte, back-repeat}
 
 -- ---- the map of some fields
@@ -25,27 +25,27 @@ given-few : (x : List ℕ) → given x < 2
 given-few [] = omega arith
 given-few (b ∷ x) = omega arith
 
-digit-map : (xs : List (List ℕ)) (k : ℕ) → digit (mapOf xs) k ≡ given (get_or xs k [])
-unfolding mapOf
+digit-map : (xs : List (List ℕ)) (k : ℕ) → digit (map_of xs) k ≡ given (get_or xs k [])
+unfolding map_of
 digit-map [] k = ap (λ (n : ℕ). n % 2) (div-eq_of_lt (pow_pos k))
 digit-map (x ∷ xs) zero = rw div-one (omega (arith, given-few x))
 digit-map (x ∷ xs) (suc k) =
-    let map = given x + 2 * mapOf xs in
-    let half : map / 2 ≡ mapOf xs = omega (arith, given-few x) in
+    let map = given x + 2 * map_of xs in
+    let half : map / 2 ≡ map_of xs = omega (arith, given-few x) in
     ap (λ (n : ℕ). map / 2 ^ n % 2) (omega arith)
     ∙ ap (λ (n : ℕ). n % 2) (sym (shr-shr map 1 k))
     ∙ ap (λ (n : ℕ). n / 2 ^ k % 2) half
     ∙ digit-map xs k
 
 -- no bit stands behind the last field
-map_below : (xs : List (List ℕ)) → mapOf xs < 2 ^ length xs
-unfolding mapOf
+map_below : (xs : List (List ℕ)) → map_of xs < 2 ^ length xs
+unfolding map_of
 map_below [] = omega arith
 map_below (x ∷ xs) = rw pow-suc (omega (arith, given-few x, map_below xs))
 
-no_stray : (xs : List (List ℕ)) → strayFault (2 ^ length xs) (mapOf xs) ≡ 0
+no_stray : (xs : List (List ℕ)) → stray_fault (2 ^ length xs) (map_of xs) ≡ 0
 unfolding refuse
-no_stray xs = rw (lt-leb (2 ^ length xs) (mapOf xs) (map_below xs))
+no_stray xs = rw (lt-leb (2 ^ length xs) (map_of xs) (map_below xs))
 
 -- ---- one field
 
@@ -68,17 +68,17 @@ module _ {A : Type 0} (read : ℕ → A → Reader A) (k : ℕ) where
       go false e = record { back = λ map stands. rw stands (differs (eqb-false value absent e)) }
 
 -- a field that is given keeps its rule
-pub given-kept : (absent value breach : ℕ) → unlessAbsent absent value breach ≡ 0 → (value ≡ absent → ⊥) → breach ≡ 0
+pub given-kept : (absent value breach : ℕ) → unless_absent absent value breach ≡ 0 → (value ≡ absent → ⊥) → breach ≡ 0
 given-kept absent value breach e some =
     ⊎_elim (λ (none : value ≡ absent). absurd (some none)) (λ (kept : breach ≡ 0). kept) (unless-kept absent value breach e)
 
 -- ---- the record
 
 -- field k takes the record from `value k` to `value (k + 1)`
-pub back-record : {A : Type 0} (read : ℕ → A → Reader A) (xs : List (List ℕ)) (value : ℕ → A) → length xs ≤ mapBits
+pub back-record : {A : Type 0} (read : ℕ → A → Reader A) (xs : List (List ℕ)) (value : ℕ → A) → length xs ≤ map_bits
     → ((k : ℕ) → FieldBack read k (value k) (get_or xs k []) (value (k + 1)))
-    → Back (fieldsByMap (2 ^ length xs) read (value 0)) (recordBytes xs) (value mapBits)
-unfolding recordBytes mapByte
+    → Back (fields_by_map (2 ^ length xs) read (value 0)) (record_bytes xs) (value map_bits)
+unfolding record_bytes map_byte
 back-record read xs value few on =
-    back-then (λ map. fields read map (value 0)) (back-judged (strayFault (2 ^ length xs)) (λ map. map) (no_stray xs) (back-byte (mapOf xs)))
-    (back-repeat (field_at read (mapOf xs)) value xs mapBits (λ k less. (on k).back (mapOf xs) (digit-map xs k)) few)
+    back-then (λ map. fields read map (value 0)) (back-judged (stray_fault (2 ^ length xs)) (λ map. map) (no_stray xs) (back-byte (map_of xs)))
+    (back-repeat (field_at read (map_of xs)) value xs map_bits (λ k less. (on k).back (map_of xs) (digit-map xs k)) few)

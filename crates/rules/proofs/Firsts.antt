@@ -6,7 +6,7 @@ use native.Mathlib.Nat.{sub-zero, eq-or-lt_of_le, le_refl}
 use native.Mathlib.Omega.{arith}
 use Rattle.lists.specs.Run.{each}
 use Rattle.lists.proofs.Turns.{Turns, turns-start, turns_more, turns-done}
-use Rattle.rules.specs.Breach.{first, first_of, inUse}
+use Rattle.rules.specs.Breach.{first, first_of, in_use}
 use Rattle.rules.proofs.Kept.{first-kept, first-none, first_some, first_next, used-kept, unused-kept, in-use-none}
 
 -- one more rule is judged
@@ -77,14 +77,14 @@ run_none f (suc n) i b e all =
     (record { kept = λ k l h. all.kept k (omega arith) (omega arith) })
 
 -- no breach among them: each is kept
-pub firstOf-kept : (f : ℕ → ℕ) (n : ℕ) → first_of f n 0 ≡ 0 → (k : ℕ) → k < n → f k ≡ 0
+pub first_of-kept : (f : ℕ → ℕ) (n : ℕ) → first_of f n 0 ≡ 0 → (k : ℕ) → k < n → f k ≡ 0
 unfolding first_of
-firstOf-kept f n e k h = (run-kept f n 0 0 e).1.kept k (omega arith) (omega arith)
+first_of-kept f n e k h = (run-kept f n 0 0 e).1.kept k (omega arith) (omega arith)
 
 -- and the other way
-pub firstOf-none : (f : ℕ → ℕ) (n : ℕ) → ((k : ℕ) → k < n → f k ≡ 0) → first_of f n 0 ≡ 0
+pub first_of-none : (f : ℕ → ℕ) (n : ℕ) → ((k : ℕ) → k < n → f k ≡ 0) → first_of f n 0 ≡ 0
 unfolding first_of
-firstOf-none f n all = run_none f n 0 0 refl (record { kept = λ k l h. all k (omega arith) })
+first_of-none f n all = run_none f n 0 0 refl (record { kept = λ k l h. all k (omega arith) })
 
 -- Of so many places the first `count` keep the rule of a place in use, and the others that of one that no record uses.
 pub record PlacesKept (count places : ℕ) (used unused : ℕ → ℕ) : Type 0 where
@@ -93,15 +93,15 @@ pub record PlacesKept (count places : ℕ) (used unused : ℕ → ℕ) : Type 0 
 
 -- no breach among the places, both ways
 module _ (count places : ℕ) (used unused : ℕ → ℕ) where
-  pub places-kept : count ≤ places → first_of (λ (k : ℕ). inUse count k (used k) (unused k)) places 0 ≡ 0 → PlacesKept count places used unused
+  pub places-kept : count ≤ places → first_of (λ (k : ℕ). in_use count k (used k) (unused k)) places 0 ≡ 0 → PlacesKept count places used unused
   places-kept room e =
-      let kept = firstOf-kept _ places e in
+      let kept = first_of-kept _ places e in
       record {
         in_use = λ k less. used-kept count k (used k) (unused k) less (kept k (omega arith));
         behind = λ k from less. unused-kept count k (used k) (unused k) from (kept k less);
       }
 
-  pub places-none : PlacesKept count places used unused → first_of (λ (k : ℕ). inUse count k (used k) (unused k)) places 0 ≡ 0
+  pub places-none : PlacesKept count places used unused → first_of (λ (k : ℕ). in_use count k (used k) (unused k)) places 0 ≡ 0
   places-none kept =
-      firstOf-none _ places
+      first_of-none _ places
       (λ k less. in-use-none count k (used k) (unused k) (λ below. kept.in_use k below) (λ from. kept.behind k from less))

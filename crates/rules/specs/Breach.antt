@@ -11,9 +11,9 @@ unfoldable pub first : ℕ → ℕ → ℕ
 first a b = cond (eqb a 0) b a
 
 -- the first breach of a list, judged from its front
-unfoldable pub firstBreach : List ℕ → ℕ
-firstBreach [] = 0
-firstBreach (b ∷ bs) = first b (firstBreach bs)
+unfoldable pub first_breach : List ℕ → ℕ
+first_breach [] = 0
+first_breach (b ∷ bs) = first b (first_breach bs)
 
 -- the first breach among f i, f (i + 1), .. , n of them
 unfoldable pub first_of : (ℕ → ℕ) → ℕ → ℕ → ℕ
@@ -25,9 +25,9 @@ unfoldable pub outside : ℕ → ℕ → ℕ → Bool
 outside lowest highest n = ltb n lowest || ltb highest n
 
 -- a place below the count keeps the rules of its record, and any other is unused
-abbrev pub inUse : ℕ → ℕ → ℕ → ℕ → ℕ
-inUse count place used unused = cond (ltb place count) used unused
+abbrev pub in_use : ℕ → ℕ → ℕ → ℕ → ℕ
+in_use count place used unused = cond (ltb place count) used unused
 
 -- the breach, unless the field holds the value that it has where a record leaves it out
-unfoldable pub unlessAbsent : ℕ → ℕ → ℕ → ℕ
-unlessAbsent absent value breach = cond (eqb value absent) 0 breach
+unfoldable pub unless_absent : ℕ → ℕ → ℕ → ℕ
+unless_absent absent value breach = cond (eqb value absent) 0 breach

@@ -1,6 +1,6 @@
 // The component places of a study.
 ghost use Rattle.std.specs.Prelude.{◌≡◌};
-ghost use Rattle.soundness.specs.Check.{probabilitiesFault, componentsFault};
+ghost use Rattle.soundness.specs.Check.{probabilities_fault, components_fault};
 
 use rules::{
     COMPONENT_PLACES, first, first_of_four, in_use, lacked_state_fault, states_fault, sum_fault,
@@ -10,7 +10,7 @@ use study::Component;
 
 // The first breach among probabilities of states 1 to 3, by the component's state count.
 pub fn probabilities_fault(states: u8, p1: u32, p2: u32, p3: u32) -> u8
-    ensures { result ≡ probabilitiesFault states p1 p2 p3 }
+    ensures { result ≡ probabilities_fault states p1 p2 p3 }
 {
     first_of_four(
         lacked_state_fault(states, 1, p1),
@@ -22,7 +22,7 @@ pub fn probabilities_fault(states: u8, p1: u32, p2: u32, p3: u32) -> u8
 
 // The first breach among the component places of a study with n components.
 pub fn components_fault(n: u8, component: [Component; COMPONENT_PLACES]) -> u8
-    ensures { result ≡ componentsFault n component }
+    ensures { result ≡ components_fault n component }
 {
     let mut fault: u8 = 0;
     let mut i: usize = 0;

@@ -1,6 +1,6 @@
 // The gate places of a study.
 ghost use Rattle.std.specs.Prelude.{◌≡◌};
-ghost use Rattle.soundness.specs.Check.{inputPlacesFault, voteFault, gateFault, gatePlaceFault, gatesFault};
+ghost use Rattle.soundness.specs.Check.{input_places_fault, vote_fault, gate_fault, gate_place_fault, gates_fault};
 
 use crate::inputs::{gate_inputs_fault, tests_fault};
 use gate_order::judge_inputs;
@@ -12,7 +12,7 @@ use study::Gate;
 
 // The first breach among the places of the inputs of gate i.
 fn input_places_fault(counts: &[u8], i: usize, g: Gate) -> u8
-    ensures { result ≡ inputPlacesFault counts.now i g }
+    ensures { result ≡ input_places_fault counts.now i g }
 {
     let component = g.component;
     let mask = g.mask;
@@ -25,7 +25,7 @@ fn input_places_fault(counts: &[u8], i: usize, g: Gate) -> u8
 
 // The breach of how a gate votes: its inputs out of order, or its threshold.
 fn vote_fault(g: Gate) -> u8
-    ensures { result ≡ voteFault g }
+    ensures { result ≡ vote_fault g }
 {
     let judged = judge_inputs(g);
     first(
@@ -36,7 +36,7 @@ fn vote_fault(g: Gate) -> u8
 
 // The first breach of gate place i that is in use; `counts` has the state count of each component.
 fn gate_fault(counts: &[u8], i: usize, g: Gate) -> u8
-    ensures { result ≡ gateFault counts.now i g }
+    ensures { result ≡ gate_fault counts.now i g }
 {
     first_of_four(
         input_count_fault(MOST_TESTS, g.tests),
@@ -48,7 +48,7 @@ fn gate_fault(counts: &[u8], i: usize, g: Gate) -> u8
 
 // The first breach of gate place i of a study with n gates.
 fn gate_place_fault(counts: &[u8], n: u8, i: usize, g: Gate) -> u8
-    ensures { result ≡ gatePlaceFault counts.now n i g }
+    ensures { result ≡ gate_place_fault counts.now n i g }
 {
     if i < n as usize {
         return gate_fault(counts, i, g);
@@ -61,7 +61,7 @@ fn gate_place_fault(counts: &[u8], n: u8, i: usize, g: Gate) -> u8
 
 // The first breach among the gate places.
 pub fn gates_fault(counts: &[u8], n: u8, gate: [Gate; GATE_PLACES]) -> u8
-    ensures { result ≡ gatesFault counts.now n gate }
+    ensures { result ≡ gates_fault counts.now n gate }
 {
     let mut fault: u8 = 0;
     let mut i: usize = 0;

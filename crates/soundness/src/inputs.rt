@@ -1,6 +1,6 @@
 // The test places and gate input places of one gate.
 ghost use Rattle.std.specs.Prelude.{◌≡◌};
-ghost use Rattle.soundness.specs.Check.{testPlaceFault, testsFault, inputPlaceFault, gateInputsFault};
+ghost use Rattle.soundness.specs.Check.{test_place_fault, tests_fault, input_place_fault, gate_inputs_fault};
 
 use rules::{
     INPUT_PLACES, TEST_PLACES, ahead_fault, first, mask_fault, no_component_fault, unused_fault,
@@ -9,7 +9,7 @@ use study::states_of;
 
 // The breach of test place j of a gate with so many tests; `counts` has the state count of each component.
 fn test_place_fault(counts: &[u8], tests: u8, j: usize, component: u8, mask: u8) -> u8
-    ensures { result ≡ testPlaceFault counts.now tests j component mask }
+    ensures { result ≡ test_place_fault counts.now tests j component mask }
 {
     if j < tests as usize {
         return first(
@@ -27,7 +27,7 @@ pub fn tests_fault(
     component: [u8; TEST_PLACES],
     mask: [u8; TEST_PLACES],
 ) -> u8
-    ensures { result ≡ testsFault counts.now tests component mask }
+    ensures { result ≡ tests_fault counts.now tests component mask }
 {
     let mut j: usize = 0;
     while j < TEST_PLACES {
@@ -42,7 +42,7 @@ pub fn tests_fault(
 
 // The breach of gate input place j of gate i with so many gate inputs.
 fn input_place_fault(i: usize, gates: u8, j: usize, input: u8) -> u8
-    ensures { result ≡ inputPlaceFault i gates j input }
+    ensures { result ≡ input_place_fault i gates j input }
 {
     if j < gates as usize {
         return ahead_fault(i, input);
@@ -52,7 +52,7 @@ fn input_place_fault(i: usize, gates: u8, j: usize, input: u8) -> u8
 
 // The first breach among the gate input places of gate i with so many gate inputs.
 pub fn gate_inputs_fault(i: usize, gates: u8, input: [u8; INPUT_PLACES]) -> u8
-    ensures { result ≡ gateInputsFault i gates input }
+    ensures { result ≡ gate_inputs_fault i gates input }
 {
     let mut j: usize = 0;
     while j < INPUT_PLACES {

@@ -6,7 +6,7 @@ mod inputs;
 mod loads;
 
 ghost use Rattle.std.specs.Prelude.{◌≡◌};
-ghost use Rattle.soundness.specs.Check.{frontFault, sound};
+ghost use Rattle.soundness.specs.Check.{front_fault, sound};
 
 use components::components_fault;
 pub use components::probabilities_fault;
@@ -20,7 +20,7 @@ use study::{Study, joint_states, state_counts};
 
 // The first breach among the counts and the components.
 fn front_fault(t: Study) -> u8
-    ensures { result ≡ frontFault t }
+    ensures { result ≡ front_fault t }
 {
     let component = t.component;
     first_of_four(

@@ -1,6 +1,6 @@
 // The load places of a study.
 ghost use Rattle.std.specs.Prelude.{◌≡◌};
-ghost use Rattle.soundness.specs.Check.{loadsFault};
+ghost use Rattle.soundness.specs.Check.{loads_fault};
 
 use rules::{
     LOAD_PLACES, MOST_CUSTOMERS, MOST_MINUTES, first, first_of_three, in_use, loss_gate_fault,
@@ -10,7 +10,7 @@ use study::Load;
 
 // The first breach among the load places of a study with so many gates and n loads.
 pub fn loads_fault(gates: u8, n: u8, load: [Load; LOAD_PLACES]) -> u8
-    ensures { result ≡ loadsFault gates n load }
+    ensures { result ≡ loads_fault gates n load }
 {
     let mut fault: u8 = 0;
     let mut j: usize = 0;

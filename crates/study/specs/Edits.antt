@@ -4,17 +4,17 @@ use Rattle.study.specs.declared.Component.{Component}
 use Rattle.study.specs.declared.Load.{Load}
 use Rattle.study.specs.declared.Study.{Study}
 
-abbrev pub withProbabilities : ℕ → ℕ → ℕ → Component → Component
-withProbabilities p1 p2 p3 c = record { states = c.states; p1 = p1; p2 = p2; p3 = p3 }
+abbrev pub with_probabilities : ℕ → ℕ → ℕ → Component → Component
+with_probabilities p1 p2 p3 c = record { states = c.states; p1 = p1; p2 = p2; p3 = p3 }
 
-abbrev pub withCustomers : ℕ → Load → Load
-withCustomers n l = record { gate = l.gate; customers = n; minutes = l.minutes }
+abbrev pub with_customers : ℕ → Load → Load
+with_customers n l = record { gate = l.gate; customers = n; minutes = l.minutes }
 
-abbrev pub withMinutes : ℕ → Load → Load
-withMinutes n l = record { gate = l.gate; customers = l.customers; minutes = n }
+abbrev pub with_minutes : ℕ → Load → Load
+with_minutes n l = record { gate = l.gate; customers = l.customers; minutes = n }
 
-abbrev pub withComponent : ℕ → Component → Study → Study
-withComponent i c t =
+abbrev pub with_component : ℕ → Component → Study → Study
+with_component i c t =
     record {
       components = t.components;
       gates = t.gates;
@@ -24,8 +24,8 @@ withComponent i c t =
       load = t.load;
     }
 
-abbrev pub withLoad : ℕ → Load → Study → Study
-withLoad j l t =
+abbrev pub with_load : ℕ → Load → Study → Study
+with_load j l t =
     record {
       components = t.components;
       gates = t.gates;

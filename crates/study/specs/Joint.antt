@@ -8,5 +8,5 @@ abbrev pub states : List Component → List ℕ
 states component = map (λ (c : Component). c.states) component
 
 -- the state counts of a study's components
-abbrev pub stateCounts : Study → List ℕ
-stateCounts t = take t.components (states t.component)
+abbrev pub state_counts : Study → List ℕ
+state_counts t = take t.components (states t.component)

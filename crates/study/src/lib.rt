@@ -1,12 +1,12 @@
 // The study: its components, gates and loads, as an opened study holds them. Structs, their zero and absent values, and state counts.
 ghost use Rattle.std.specs.Prelude.{ℕ, ◌≤◌, ◌<◌, ◌≡◌, length, get_or};
-ghost use Rattle.rules.specs.Limits.{mostComponents, mostStates};
+ghost use Rattle.rules.specs.Limits.{most_components, most_states};
 ghost use Rattle.lists.specs.Product.{product};
-ghost use Rattle.study.specs.Zero.{noComponents, zeroGate, noGates, noLoads, zeroStudy};
-ghost use Rattle.study.specs.Edits.{withProbabilities, withCustomers, withMinutes, withComponent, withLoad};
+ghost use Rattle.study.specs.Zero.{no_components, zero_gate, no_gates, no_loads, zero_study};
+ghost use Rattle.study.specs.Edits.{with_probabilities, with_customers, with_minutes, with_component, with_load};
 ghost use Rattle.study.specs.Joint.{states};
-ghost use Rattle.study.specs.Places.{componentAt, loadAt};
-ghost use Rattle.study.specs.Absent.{absentComponent, absentGate, absentLoad};
+ghost use Rattle.study.specs.Places.{component_at, load_at};
+ghost use Rattle.study.specs.Absent.{absent_component, absent_gate, absent_load};
 
 use rules::{COMPONENT_PLACES, GATE_PLACES, INPUT_PLACES, LOAD_PLACES, TEST_PLACES};
 
@@ -53,7 +53,7 @@ pub struct Study {
 // Places that no record uses, and fields that a record does not give.
 
 pub fn no_components() -> [Component; COMPONENT_PLACES]
-    ensures { result ≡ noComponents }
+    ensures { result ≡ no_components }
 {
     let unused = Component {
         states: 0,
@@ -65,7 +65,7 @@ pub fn no_components() -> [Component; COMPONENT_PLACES]
 }
 
 pub fn zero_gate() -> Gate
-    ensures { result ≡ zeroGate }
+    ensures { result ≡ zero_gate }
 {
     let tests = [0u8; TEST_PLACES];
     let inputs = [0u8; INPUT_PLACES];
@@ -80,14 +80,14 @@ pub fn zero_gate() -> Gate
 }
 
 pub fn no_gates() -> [Gate; GATE_PLACES]
-    ensures { result ≡ noGates }
+    ensures { result ≡ no_gates }
 {
     let unused = zero_gate();
     [unused; GATE_PLACES]
 }
 
 pub fn no_loads() -> [Load; LOAD_PLACES]
-    ensures { result ≡ noLoads }
+    ensures { result ≡ no_loads }
 {
     let unused = Load {
         gate: 0,
@@ -98,7 +98,7 @@ pub fn no_loads() -> [Load; LOAD_PLACES]
 }
 
 pub fn zero_study() -> Study
-    ensures { result ≡ zeroStudy }
+    ensures { result ≡ zero_study }
 {
     let component = no_components();
     let gate = no_gates();
@@ -114,7 +114,7 @@ pub fn zero_study() -> Study
 }
 
 pub fn absent_component() -> Component
-    ensures { result ≡ absentComponent }
+    ensures { result ≡ absent_component }
 {
     Component {
         states: 2,
@@ -125,7 +125,7 @@ pub fn absent_component() -> Component
 }
 
 pub fn absent_gate() -> Gate
-    ensures { result ≡ absentGate }
+    ensures { result ≡ absent_gate }
 {
     let mut g = zero_gate();
     g.threshold = 1;
@@ -133,7 +133,7 @@ pub fn absent_gate() -> Gate
 }
 
 pub fn absent_load() -> Load
-    ensures { result ≡ absentLoad }
+    ensures { result ≡ absent_load }
 {
     Load {
         gate: rules::NEVER,
@@ -168,8 +168,8 @@ pub fn states_of(counts: &[u8], component: u8) -> u8
 
 // The number of joint states of components with these state counts, each at most 4.
 pub fn joint_states(counts: &[u8]) -> u32
-    requires few { length counts.now ≤ mostComponents }
-    requires small { (k : ℕ) → k < length counts.now → get_or counts.now k 0 ≤ mostStates }
+    requires few { length counts.now ≤ most_components }
+    requires small { (k : ℕ) → k < length counts.now → get_or counts.now k 0 ≤ most_states }
     ensures { result ≡ product counts.now }
 {
     let mut joint: u32 = 1;
@@ -184,7 +184,7 @@ pub fn joint_states(counts: &[u8]) -> u32
 // A record with one field anew.
 
 pub fn with_probabilities(p1: u32, p2: u32, p3: u32, c: Component) -> Component
-    ensures { result ≡ withProbabilities p1 p2 p3 c }
+    ensures { result ≡ with_probabilities p1 p2 p3 c }
 {
     Component {
         states: c.states,
@@ -195,7 +195,7 @@ pub fn with_probabilities(p1: u32, p2: u32, p3: u32, c: Component) -> Component
 }
 
 pub fn with_customers(n: u32, l: Load) -> Load
-    ensures { result ≡ withCustomers n l }
+    ensures { result ≡ with_customers n l }
 {
     Load {
         gate: l.gate,
@@ -205,7 +205,7 @@ pub fn with_customers(n: u32, l: Load) -> Load
 }
 
 pub fn with_minutes(n: u32, l: Load) -> Load
-    ensures { result ≡ withMinutes n l }
+    ensures { result ≡ with_minutes n l }
 {
     Load {
         gate: l.gate,
@@ -217,7 +217,7 @@ pub fn with_minutes(n: u32, l: Load) -> Load
 // The record at a place of a study, and one of zeros past the last place.
 
 pub fn component_at(t: Study, i: usize) -> Component
-    ensures { result ≡ componentAt t i }
+    ensures { result ≡ component_at t i }
 {
     if i < COMPONENT_PLACES {
         let c = t.component[i];
@@ -232,7 +232,7 @@ pub fn component_at(t: Study, i: usize) -> Component
 }
 
 pub fn load_at(t: Study, j: usize) -> Load
-    ensures { result ≡ loadAt t j }
+    ensures { result ≡ load_at t j }
 {
     if j < LOAD_PLACES {
         let l = t.load[j];
@@ -248,7 +248,7 @@ pub fn load_at(t: Study, j: usize) -> Load
 // A study with one record anew, and as it was where there is no such place.
 
 pub fn with_component(i: usize, c: Component, t: Study) -> Study
-    ensures { result ≡ withComponent i c t }
+    ensures { result ≡ with_component i c t }
 {
     if COMPONENT_PLACES <= i {
         return t;
@@ -259,7 +259,7 @@ pub fn with_component(i: usize, c: Component, t: Study) -> Study
 }
 
 pub fn with_load(j: usize, l: Load, t: Study) -> Study
-    ensures { result ≡ withLoad j l t }
+    ensures { result ≡ with_load j l t }
 {
     if LOAD_PLACES <= j {
         return t;

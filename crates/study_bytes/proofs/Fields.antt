@@ -11,7 +11,7 @@ use borrow.Author.Tests.{eq-eqb, eqb-true, not-true, not-false}
 use Rattle.lists.specs.Counting.{truth}
 use Rattle.lists.specs.Rows.{joined}
 use Rattle.lists.specs.Tabulate.{tabulate}
-use Rattle.study_bytes.specs.Written.{byte_of, fourBytesOf, field, given}
+use Rattle.study_bytes.specs.Written.{byte_of, four_bytes_of, field, given}
 
 -- the bit of a field stands where the field is given
 pub record Bit (bytes : List ℕ) (is-given : Bool) : Type 0 where
@@ -36,7 +36,7 @@ module _ (absent value : ℕ) {is-given : Bool} (judged : is-given ≡ not (eqb 
   pub byte-bit : Bit (field absent value (byte_of value)) is-given
   byte-bit = field-bit value []
 
-  pub number_bit : Bit (field absent value (fourBytesOf value)) is-given
+  pub number_bit : Bit (field absent value (four_bytes_of value)) is-given
   number_bit = field-bit _ _
 
 -- ---- a count, and what it counts

@@ -11,13 +11,13 @@ use denote.Shadow.{shadow}
 use denote.Struct.Field.{Field, u8-field, array_field}
 use Rattle.lists.proofs.Elements.{Every}
 use Rattle.lists.proofs.Maps.{mapped}
-use Rattle.rules.specs.Limits.{mostComponents, mostGates, mostLoads, mostTests, mostGateInputs}
+use Rattle.rules.specs.Limits.{most_components, most_gates, most_loads, most_tests, most_gate_inputs}
 use Rattle.study.specs.declared.Component.{Component}
 use Rattle.study.specs.declared.Gate.{Gate}
 use Rattle.study.specs.declared.Load.{Load}
 use Rattle.study.specs.declared.Study.{Study}
-use Rattle.study.specs.Zero.{zeroComponent, zeroLoad}
-use Rattle.study.specs.Places.{noGate}
+use Rattle.study.specs.Zero.{zero_component, zero_load}
+use Rattle.study.specs.Places.{no_gate}
 use Rattle.study.specs.contracts.Component.{the_field as component-field}
 use Rattle.study.specs.contracts.Gate.{the_field as gate-field}
 use Rattle.study.specs.contracts.Load.{the_field as load_field}
@@ -52,9 +52,9 @@ gate-fits : (g : Gate) (vs : List Val) → Owned gate-field g vs → GateFits g
 gate-fits g vs owned =
     let rows = owned.1.1.1.1 in
     record {
-      component = array_long u8-field mostTests g.component _ rows.0;
-      mask = array_long u8-field mostTests g.mask _ rows.1.0;
-      input = array_long u8-field mostGateInputs g.input _ rows.1.1.1.0;
+      component = array_long u8-field most_tests g.component _ rows.0;
+      mask = array_long u8-field most_tests g.mask _ rows.1.0;
+      input = array_long u8-field most_gate_inputs g.input _ rows.1.1.1.0;
     }
 
 load_fits : (l : Load) (vs : List Val) → Owned load_field l vs → LoadFits l
@@ -66,10 +66,10 @@ pub study-fits : (t : Study) (vs : List Val) → Owned study-field t vs → Stud
 study-fits t vs owned =
     let places = owned.1.1.1.1.1 in
     record {
-      components = array_long component-field mostComponents t.component _ places.0;
-      gates = array_long gate-field mostGates t.gate _ places.1.0;
-      loads = array_long load_field mostLoads t.load _ places.1.1.0;
-      component = array_owned component-field ComponentFits zeroComponent component-fits mostComponents t.component _ places.0;
-      gate = array_owned gate-field GateFits noGate gate-fits mostGates t.gate _ places.1.0;
-      load = array_owned load_field LoadFits zeroLoad load_fits mostLoads t.load _ places.1.1.0;
+      components = array_long component-field most_components t.component _ places.0;
+      gates = array_long gate-field most_gates t.gate _ places.1.0;
+      loads = array_long load_field most_loads t.load _ places.1.1.0;
+      component = array_owned component-field ComponentFits zero_component component-fits most_components t.component _ places.0;
+      gate = array_owned gate-field GateFits no_gate gate-fits most_gates t.gate _ places.1.0;
+      load = array_owned load_field LoadFits zero_load load_fits most_loads t.load _ places.1.1.0;
     }

@@ -12,7 +12,7 @@ use Rattle.lists.specs.Tabulate.{tabulate}
 use Rattle.lists.proofs.Joined.{joined-long}
 use Rattle.lists.proofs.Tabulated.{length-tabulate, get_d_tabulate, tabulated}
 use Rattle.reading.specs.Reader.{number}
-use Rattle.study_image.specs.Image.{bytes_of, byteIn, number_in, bytesIn}
+use Rattle.study_image.specs.Image.{bytes_of, byte_in, number_in, bytes_in}
 use Rattle.study_image.specs.Fits.{NumberFits}
 
 -- the fields stand there from a place on, and something behind them
@@ -48,13 +48,13 @@ module _ {image : List ℕ} {at : ℕ} where
     front = s.there ∙ append_assoc x (joined fields) s.rest
 
     -- a byte of the first field, the whole field, and its number
-    pub stands-byte : (k : ℕ) → k < length x → byteIn image (at + k) ≡ get_or x k 0
+    pub stands-byte : (k : ℕ) → k < length x → byte_in image (at + k) ≡ get_or x k 0
     stands-byte k h = sym (get_or-drop at image k 0) ∙ ap (λ (l : List ℕ). get_or l k 0) front ∙ get_or-append x (joined fields ++ s.rest) 0 k h
 
-    pub stands-first : 0 < length x → byteIn image at ≡ get_or x 0 0
-    stands-first h = ap (byteIn image) (sym (add-zero at)) ∙ stands-byte 0 h
+    pub stands-first : 0 < length x → byte_in image at ≡ get_or x 0 0
+    stands-first h = ap (byte_in image) (sym (add-zero at)) ∙ stands-byte 0 h
 
-    pub stands-bytes : (n : ℕ) → length x ≡ n → bytesIn image at n ≡ x
+    pub stands-bytes : (n : ℕ) → length x ≡ n → bytes_in image at n ≡ x
     stands-bytes n long = ap (take n) front ∙ take_at x (joined fields ++ s.rest) n long
 
 -- the number of its four bytes
@@ -90,6 +90,6 @@ module _ {image : List ℕ} {at : ℕ} (row : ℕ → List ℕ) (width n : ℕ) 
       rw next at (stands-behind s k (k * width) (first_rows k h))
 
   -- the records that rows hold
-  pub records-back : {A : Type 0} (recordIn : ℕ → A) (l : List A) (a : A) → length l ≡ n
-      → ((k : ℕ) → k < n → Stands image (at + k * width) (row k ∷ drop (suc k) (tabulate row n)) → recordIn k ≡ get_or l k a) → tabulate recordIn n ≡ l
-  records-back recordIn l a long back = sym (tabulated recordIn n l a long (λ k h. sym (back k h (stands-row k h))))
+  pub records-back : {A : Type 0} (record_in : ℕ → A) (l : List A) (a : A) → length l ≡ n
+      → ((k : ℕ) → k < n → Stands image (at + k * width) (row k ∷ drop (suc k) (tabulate row n)) → record_in k ≡ get_or l k a) → tabulate record_in n ≡ l
+  records-back record_in l a long back = sym (tabulated record_in n l a long (λ k h. sym (back k h (stands-row k h))))

@@ -8,15 +8,15 @@ use Rattle.lists.specs.Rows.{joined}
 use Rattle.lists.specs.Tabulate.{tabulate}
 use Rattle.lists.proofs.Joined.{joined-long}
 use Rattle.lists.proofs.Tabulated.{length-tabulate, get_d_tabulate}
-use Rattle.rules.specs.Limits.{mostComponents, mostGates, mostLoads}
+use Rattle.rules.specs.Limits.{most_components, most_gates, most_loads}
 use Rattle.study.specs.declared.Gate.{Gate}
 use Rattle.study.specs.declared.Study.{Study}
-use Rattle.study_image.specs.Places.{componentBytes, gateBytes, loadBytes, imageBytes}
-use Rattle.study_image.specs.Image.{componentRows, gateRow, gateRows, loadRows, image_of}
+use Rattle.study_image.specs.Places.{component_bytes, gate_bytes, load_bytes, image_bytes}
+use Rattle.study_image.specs.Image.{component_rows, gate_row, gate_rows, load_rows, image_of}
 use Rattle.study_image.specs.Fits.{GateFits, StudyFits}
 
-pub gate-long : (g : Gate) → GateFits g → length (gateRow g) ≡ gateBytes
-unfolding gateRow joined
+pub gate-long : (g : Gate) → GateFits g → length (gate_row g) ≡ gate_bytes
+unfolding gate_row joined
 gate-long g fits = simp length-append (omega (arith, fits.component, fits.mask, fits.input))
 
 -- n rows of one width
@@ -29,15 +29,15 @@ rows_long row width n wide = joined-long width (tabulate row n) each ∙ ap (λ 
         rw (get_d_tabulate row n k [] less) (wide k less)
 
 module _ (t : Study) (fits : StudyFits t) where
-  pub components-long : length (componentRows t.component) ≡ mostComponents * componentBytes
-  components-long = rows_long _ componentBytes mostComponents (λ k h. refl)
+  pub components-long : length (component_rows t.component) ≡ most_components * component_bytes
+  components-long = rows_long _ component_bytes most_components (λ k h. refl)
 
-  pub gates-long : length (gateRows t.gate) ≡ mostGates * gateBytes
-  gates-long = rows_long _ gateBytes mostGates (λ k h. gate-long _ (fits.gate k h))
+  pub gates-long : length (gate_rows t.gate) ≡ most_gates * gate_bytes
+  gates-long = rows_long _ gate_bytes most_gates (λ k h. gate-long _ (fits.gate k h))
 
-  loads-long : length (loadRows t.load) ≡ mostLoads * loadBytes
-  loads-long = rows_long _ loadBytes mostLoads (λ k h. refl)
+  loads-long : length (load_rows t.load) ≡ most_loads * load_bytes
+  loads-long = rows_long _ load_bytes most_loads (λ k h. refl)
 
-  pub image-long : length (image_of t) ≡ imageBytes
+  pub image-long : length (image_of t) ≡ image_bytes
   unfolding image_of joined
   image-long = simp length-append (omega (arith, components-long, gates-long, loads-long))

@@ -1,11 +1,11 @@
 -- What fits the bytes of an image. Every value of the structs does; a number or a list in a definition need not.
 use Rattle.std.specs.Prelude.{ℕ, ◌<◌, ◌^◌, ◌≡◌, length}
-use Rattle.rules.specs.Limits.{mostComponents, mostGates, mostLoads, mostTests, mostGateInputs}
+use Rattle.rules.specs.Limits.{most_components, most_gates, most_loads, most_tests, most_gate_inputs}
 use Rattle.study.specs.declared.Component.{Component}
 use Rattle.study.specs.declared.Gate.{Gate}
 use Rattle.study.specs.declared.Load.{Load}
 use Rattle.study.specs.declared.Study.{Study}
-use Rattle.study.specs.Places.{componentAt, gateAt, loadAt}
+use Rattle.study.specs.Places.{component_at, gate_at, load_at}
 
 -- a number fits four bytes
 abbrev pub NumberFits : ℕ → Type 0
@@ -17,18 +17,18 @@ pub record ComponentFits (c : Component) : Type 0 where
   pub p3 : NumberFits c.p3
 
 pub record GateFits (g : Gate) : Type 0 where
-  pub component : length g.component ≡ mostTests
-  pub mask : length g.mask ≡ mostTests
-  pub input : length g.input ≡ mostGateInputs
+  pub component : length g.component ≡ most_tests
+  pub mask : length g.mask ≡ most_tests
+  pub input : length g.input ≡ most_gate_inputs
 
 pub record LoadFits (l : Load) : Type 0 where
   pub customers : NumberFits l.customers
   pub minutes : NumberFits l.minutes
 
 pub record StudyFits (t : Study) : Type 0 where
-  pub components : length t.component ≡ mostComponents
-  pub gates : length t.gate ≡ mostGates
-  pub loads : length t.load ≡ mostLoads
-  pub component : (k : ℕ) → k < mostComponents → ComponentFits (componentAt t k)
-  pub gate : (k : ℕ) → k < mostGates → GateFits (gateAt t k)
-  pub load : (k : ℕ) → k < mostLoads → LoadFits (loadAt t k)
+  pub components : length t.component ≡ most_components
+  pub gates : length t.gate ≡ most_gates
+  pub loads : length t.load ≡ most_loads
+  pub component : (k : ℕ) → k < most_components → ComponentFits (component_at t k)
+  pub gate : (k : ℕ) → k < most_gates → GateFits (gate_at t k)
+  pub load : (k : ℕ) → k < most_loads → LoadFits (load_at t k)

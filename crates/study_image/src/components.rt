@@ -1,10 +1,10 @@
 // The component places of an image.
 ghost use Rattle.std.specs.Prelude.{◌<◌, ◌≤◌, ◌≡◌, length};
 ghost use Rattle.lists.specs.Tabulate.{tabulate};
-ghost use Rattle.rules.specs.Limits.{mostComponents};
+ghost use Rattle.rules.specs.Limits.{most_components};
 ghost use Rattle.text.specs.Writing.{Room, Wrote};
-ghost use Rattle.study_image.specs.Places.{imageBytes};
-ghost use Rattle.study_image.specs.Image.{componentRow, componentRows, componentIn};
+ghost use Rattle.study_image.specs.Places.{image_bytes};
+ghost use Rattle.study_image.specs.Image.{component_row, component_rows, component_in};
 
 use crate::fields::read_number;
 use crate::places::{COMPONENT_BYTES, COMPONENTS_AT, P1_AT, P2_AT, P3_AT};
@@ -13,7 +13,7 @@ use study::{Component, no_components};
 
 // The bytes of a component.
 fn component_row(c: Component) -> [u8; COMPONENT_BYTES]
-    ensures { result ≡ componentRow c }
+    ensures { result ≡ component_row c }
 {
     [
         c.states,
@@ -38,8 +38,8 @@ pub fn write_components(
     image: &mut [u8],
     at: usize,
 ) -> usize
-    requires { Room image.old at (componentRows component) }
-    ensures { Wrote image.old at (componentRows component) image.new result }
+    requires { Room image.old at (component_rows component) }
+    ensures { Wrote image.old at (component_rows component) image.new result }
 {
     let mut next = at;
     let mut i: usize = 0;
@@ -53,9 +53,9 @@ pub fn write_components(
 
 // The component of a place.
 fn read_component(image: &[u8], i: usize) -> Component
-    requires place { i < mostComponents }
-    requires whole { imageBytes ≤ length image.now }
-    ensures { result ≡ componentIn image.now i }
+    requires place { i < most_components }
+    requires whole { image_bytes ≤ length image.now }
+    ensures { result ≡ component_in image.now i }
 {
     let at = COMPONENTS_AT + i * COMPONENT_BYTES;
     Component {
@@ -68,8 +68,8 @@ fn read_component(image: &[u8], i: usize) -> Component
 
 // The components of all places.
 pub fn read_components(image: &[u8]) -> [Component; COMPONENT_PLACES]
-    requires { imageBytes ≤ length image.now }
-    ensures { result ≡ tabulate (componentIn image.now) mostComponents }
+    requires { image_bytes ≤ length image.now }
+    ensures { result ≡ tabulate (component_in image.now) most_components }
 {
     let mut component = no_components();
     let mut i: usize = 0;

@@ -1,10 +1,10 @@
 // The gate places of an image.
 ghost use Rattle.std.specs.Prelude.{◌<◌, ◌≤◌, ◌≡◌, length};
 ghost use Rattle.lists.specs.Tabulate.{tabulate};
-ghost use Rattle.rules.specs.Limits.{mostGates};
+ghost use Rattle.rules.specs.Limits.{most_gates};
 ghost use Rattle.text.specs.Writing.{Room, Wrote};
-ghost use Rattle.study_image.specs.Places.{imageBytes};
-ghost use Rattle.study_image.specs.Image.{gateRow, gateRows, gateIn};
+ghost use Rattle.study_image.specs.Places.{image_bytes};
+ghost use Rattle.study_image.specs.Image.{gate_row, gate_rows, gate_in};
 
 use crate::fields::{read_inputs, read_tests};
 use crate::places::{
@@ -17,8 +17,8 @@ use text::copy;
 
 // Writes a gate.
 fn write_gate(g: Gate, image: &mut [u8], at: usize) -> usize
-    requires { Room image.old at (gateRow g) }
-    ensures { Wrote image.old at (gateRow g) image.new result }
+    requires { Room image.old at (gate_row g) }
+    ensures { Wrote image.old at (gate_row g) image.new result }
 {
     let component = g.component;
     let mask = g.mask;
@@ -34,8 +34,8 @@ fn write_gate(g: Gate, image: &mut [u8], at: usize) -> usize
 
 // Writes the gates of all places.
 pub fn write_gates(gate: [Gate; GATE_PLACES], image: &mut [u8], at: usize) -> usize
-    requires { Room image.old at (gateRows gate) }
-    ensures { Wrote image.old at (gateRows gate) image.new result }
+    requires { Room image.old at (gate_rows gate) }
+    ensures { Wrote image.old at (gate_rows gate) image.new result }
 {
     let mut next = at;
     let mut i: usize = 0;
@@ -49,9 +49,9 @@ pub fn write_gates(gate: [Gate; GATE_PLACES], image: &mut [u8], at: usize) -> us
 
 // The gate of a place.
 fn read_gate(image: &[u8], i: usize) -> Gate
-    requires place { i < mostGates }
-    requires whole { imageBytes ≤ length image.now }
-    ensures { result ≡ gateIn image.now i }
+    requires place { i < most_gates }
+    requires whole { image_bytes ≤ length image.now }
+    ensures { result ≡ gate_in image.now i }
 {
     let at = GATES_AT + i * GATE_BYTES;
     let component = read_tests(image, at + TEST_COMPONENTS_AT);
@@ -69,8 +69,8 @@ fn read_gate(image: &[u8], i: usize) -> Gate
 
 // The gates of all places.
 pub fn read_gates(image: &[u8]) -> [Gate; GATE_PLACES]
-    requires { imageBytes ≤ length image.now }
-    ensures { result ≡ tabulate (gateIn image.now) mostGates }
+    requires { image_bytes ≤ length image.now }
+    ensures { result ≡ tabulate (gate_in image.now) most_gates }
 {
     let mut gate = no_gates();
     let mut i: usize = 0;

@@ -8,8 +8,8 @@ mod places;
 
 ghost use Rattle.std.specs.Prelude.{◌≤◌, ◌≡◌, length};
 ghost use Rattle.lists.specs.Rows.{put};
-ghost use Rattle.study_image.specs.Places.{imageBytes};
-ghost use Rattle.study_image.specs.Image.{image_of, studyIn};
+ghost use Rattle.study_image.specs.Places.{image_bytes};
+ghost use Rattle.study_image.specs.Image.{image_of, study_in};
 ghost use Rattle.study_image.specs.Fits.{StudyFits};
 
 use components::{read_components, write_components};
@@ -21,7 +21,7 @@ use study::{Study, zero_study};
 
 // Writes the image of a study at the front of a slice that has the room. Each study fits, so that its image holds it (`image-back`).
 pub fn write_image(t: Study, image: &mut [u8])
-    requires { imageBytes ≤ length image.old }
+    requires { image_bytes ≤ length image.old }
     ensures written { image.new ≡ put image.old 0 (image_of t) }
     ensures fits { StudyFits t }
 {
@@ -37,7 +37,7 @@ pub fn write_image(t: Study, image: &mut [u8])
 
 // The study that an image holds; a slice too short for one holds a study of zeros.
 pub fn read_image(image: &[u8]) -> Study
-    ensures { result ≡ studyIn image.now }
+    ensures { result ≡ study_in image.now }
 {
     if image.len() < IMAGE_BYTES {
         return zero_study();

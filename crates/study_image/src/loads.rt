@@ -1,10 +1,10 @@
 // The load places of an image.
 ghost use Rattle.std.specs.Prelude.{◌<◌, ◌≤◌, ◌≡◌, length};
 ghost use Rattle.lists.specs.Tabulate.{tabulate};
-ghost use Rattle.rules.specs.Limits.{mostLoads};
+ghost use Rattle.rules.specs.Limits.{most_loads};
 ghost use Rattle.text.specs.Writing.{Room, Wrote};
-ghost use Rattle.study_image.specs.Places.{imageBytes};
-ghost use Rattle.study_image.specs.Image.{loadRow, loadRows, loadIn};
+ghost use Rattle.study_image.specs.Places.{image_bytes};
+ghost use Rattle.study_image.specs.Image.{load_row, load_rows, load_in};
 
 use crate::fields::read_number;
 use crate::places::{CUSTOMERS_AT, LOAD_BYTES, LOADS_AT, MINUTES_AT};
@@ -13,7 +13,7 @@ use study::{Load, no_loads};
 
 // The bytes of a load.
 fn load_row(l: Load) -> [u8; LOAD_BYTES]
-    ensures { result ≡ loadRow l }
+    ensures { result ≡ load_row l }
 {
     [
         l.gate,
@@ -30,8 +30,8 @@ fn load_row(l: Load) -> [u8; LOAD_BYTES]
 
 // Writes the loads of all places.
 pub fn write_loads(load: [Load; LOAD_PLACES], image: &mut [u8], at: usize) -> usize
-    requires { Room image.old at (loadRows load) }
-    ensures { Wrote image.old at (loadRows load) image.new result }
+    requires { Room image.old at (load_rows load) }
+    ensures { Wrote image.old at (load_rows load) image.new result }
 {
     let mut next = at;
     let mut j: usize = 0;
@@ -45,9 +45,9 @@ pub fn write_loads(load: [Load; LOAD_PLACES], image: &mut [u8], at: usize) -> us
 
 // The load of a place.
 fn read_load(image: &[u8], j: usize) -> Load
-    requires place { j < mostLoads }
-    requires whole { imageBytes ≤ length image.now }
-    ensures { result ≡ loadIn image.now j }
+    requires place { j < most_loads }
+    requires whole { image_bytes ≤ length image.now }
+    ensures { result ≡ load_in image.now j }
 {
     let at = LOADS_AT + j * LOAD_BYTES;
     Load {
@@ -59,8 +59,8 @@ fn read_load(image: &[u8], j: usize) -> Load
 
 // The loads of all places.
 pub fn read_loads(image: &[u8]) -> [Load; LOAD_PLACES]
-    requires { imageBytes ≤ length image.now }
-    ensures { result ≡ tabulate (loadIn image.now) mostLoads }
+    requires { image_bytes ≤ length image.now }
+    ensures { result ≡ tabulate (load_in image.now) most_loads }
 {
     let mut load = no_loads();
     let mut j: usize = 0;

@@ -5,33 +5,33 @@ use mathlib.Core.List.{List}
 use native.Mathlib.Omega.{arith}
 use lib.ListN.{length}
 use Rattle.lists.specs.Rows.{joined}
-use Rattle.rules.specs.Table.{roomFault}
+use Rattle.rules.specs.Table.{room_fault}
 use Rattle.rules.proofs.Rows.{room-none}
 use Rattle.answers.specs.Answered.{answered, filled}
 use Rattle.answers.specs.declared.counts.Listing.{Listing}
 use Rattle.answers.specs.declared.counts.Listing.TheVariants.{Listed, Refused}
 use Rattle.answers.specs.declared.counts.PathCount.{PathCount}
 use Rattle.answers.proofs.Answered.{answered-done, filled-done}
-use Rattle.entries.specs.Entries.{listBytes}
+use Rattle.entries.specs.Entries.{list_bytes}
 use Rattle.model.specs.Listed.{Listed as Holds}
 use Rattle.model.specs.Good.{Good}
-use Rattle.model.specs.Model.{Model, pathsOf}
+use Rattle.model.specs.Model.{Model, paths_of}
 use Rattle.paths.specs.Paths.{paths}
 use Rattle.model.proofs.Listing.{list-most, listed}
 
-module _ (m : Model) (good : Good m) (d : List ℕ) {answer : Listing} (room : listBytes ≤ length d)
-    (is-answer : answer ≡ answered Refused (roomFault (length (joined (pathsOf m))) (length d)) (Listed (record { paths = length (pathsOf m) }))) where
-  fits : roomFault (length (joined (pathsOf m))) (length d) ≡ 0
-  fits = room-none (length (joined (pathsOf m))) (length d) (omega (arith, list-most m good, room))
+module _ (m : Model) (good : Good m) (d : List ℕ) {answer : Listing} (room : list_bytes ≤ length d)
+    (is-answer : answer ≡ answered Refused (room_fault (length (joined (paths_of m))) (length d)) (Listed (record { paths = length (paths_of m) }))) where
+  fits : room_fault (length (joined (paths_of m))) (length d) ≡ 0
+  fits = room-none (length (joined (paths_of m))) (length d) (omega (arith, list-most m good, room))
 
-  all : answer ≡ Listed (record { paths = length (pathsOf m) })
-  all = is-answer ∙ answered-done Refused (roomFault (length (joined (pathsOf m))) (length d)) (Listed (record { paths = length (pathsOf m) })) fits
+  all : answer ≡ Listed (record { paths = length (paths_of m) })
+  all = is-answer ∙ answered-done Refused (room_fault (length (joined (paths_of m))) (length d)) (Listed (record { paths = length (paths_of m) })) fits
 
-  pub list_held : {list : List ℕ} {count : PathCount} → list ≡ filled (roomFault (length (joined (pathsOf m))) (length d)) (joined (pathsOf m)) d → answer ≡ Listed count
+  pub list_held : {list : List ℕ} {count : PathCount} → list ≡ filled (room_fault (length (joined (paths_of m))) (length d)) (joined (paths_of m)) d → answer ≡ Listed count
       → Holds m count.paths list
   list_held {list} {count} is-list e =
-      let number : count.paths ≡ length (pathsOf m) = cc (all) in
-      listed m good d list number room (is-list ∙ filled-done (roomFault (length (joined (pathsOf m))) (length d)) (joined (pathsOf m)) d fits)
+      let number : count.paths ≡ length (paths_of m) = cc (all) in
+      listed m good d list number room (is-list ∙ filled-done (room_fault (length (joined (paths_of m))) (length d)) (joined (paths_of m)) d fits)
 
   -- it is not refused
   pub list-taken : {n : ℕ} → answer ≡ Refused n → ⊥

@@ -1,9 +1,9 @@
 // The totals of a model's paths.
 ghost use Rattle.units.specs.One.{one};
 ghost use Rattle.units.specs.Rounding.{down, up};
-ghost use Rattle.model.specs.InHand.{modelHeld, InHand};
-ghost use Rattle.totals.specs.Places.{sumsMost, places_of, Totals, Adds};
-ghost use Rattle.study_model.specs.Totals.{pathsBring};
+ghost use Rattle.model.specs.InHand.{model_held, InHand};
+ghost use Rattle.totals.specs.Places.{sums_most, places_of, Totals, Adds};
+ghost use Rattle.study_model.specs.Totals.{paths_bring};
 
 use crate::block::{class_block, counts_in_use};
 use entries::Class;
@@ -20,11 +20,11 @@ pub fn add_paths(
     upper: &mut [u64],
 )
     requires in_hand { InHand model classes.now }
-    requires totals { Totals sumsMost (places_of loadwise) lower.old }
+    requires totals { Totals sums_most (places_of loadwise) lower.old }
     requires totals_2 { Totals one (places_of loadwise) upper.old }
-    ensures lower { Adds sumsMost (places_of loadwise) (pathsBring loadwise down (modelHeld model classes.now))
+    ensures lower { Adds sums_most (places_of loadwise) (paths_bring loadwise down (model_held model classes.now))
         lower.old lower.new }
-    ensures upper { Adds one (places_of loadwise) (pathsBring loadwise up (modelHeld model classes.now))
+    ensures upper { Adds one (places_of loadwise) (paths_bring loadwise up (model_held model classes.now))
         upper.old upper.new }
 {
     let all = model.counts;

@@ -2,9 +2,9 @@
 ghost use Rattle.std.specs.Prelude.{ℕ, ◌+◌, ◌<◌, ◌≤◌, ◌≡◌, length, get_or};
 ghost use Rattle.lists.specs.Rows.{put};
 ghost use Rattle.units.specs.One.{one};
-ghost use Rattle.rules.specs.Limits.{mostComponents, mostStates};
-ghost use Rattle.study.specs.Zero.{zeroComponent};
-ghost use Rattle.study_model.specs.Model.{stateProbabilities, placeProbabilities};
+ghost use Rattle.rules.specs.Limits.{most_components, most_states};
+ghost use Rattle.study.specs.Zero.{zero_component};
+ghost use Rattle.study_model.specs.Model.{state_probabilities, place_probabilities};
 
 use model::PROBABILITY_PLACES;
 use rules::{COMPONENT_PLACES, STATE_PLACES};
@@ -17,9 +17,9 @@ fn with_states(
     at: usize,
     c: Component,
 ) -> [u32; PROBABILITY_PLACES]
-    requires most_states_in_bounds { at + mostStates ≤ length table }
+    requires most_states_in_bounds { at + most_states ≤ length table }
     requires p3_bound { c.p1 + c.p2 + c.p3 ≤ one }
-    ensures { result ≡ put table at (stateProbabilities c) }
+    ensures { result ≡ put table at (state_probabilities c) }
 {
     let mut more = table;
     let mut place = at;
@@ -35,11 +35,11 @@ fn with_states(
 
 // The probabilities of all component places.
 pub fn probability_table(component: [Component; COMPONENT_PLACES]) -> [u32; PROBABILITY_PLACES]
-    requires { (i : ℕ) → i < mostComponents
-        → (get_or component i zeroComponent).p1
-        + (get_or component i zeroComponent).p2
-        + (get_or component i zeroComponent).p3 ≤ one }
-    ensures { result ≡ placeProbabilities component }
+    requires { (i : ℕ) → i < most_components
+        → (get_or component i zero_component).p1
+        + (get_or component i zero_component).p2
+        + (get_or component i zero_component).p3 ≤ one }
+    ensures { result ≡ place_probabilities component }
 {
     let mut table = [0u32; PROBABILITY_PLACES];
     let mut i: usize = 0;

@@ -8,31 +8,31 @@ use Rattle.rules.proofs.Rows.{far-kept}
 use Rattle.answers.specs.declared.chances.Chances.{Chances}
 use Rattle.answers.specs.declared.chances.SurvivalAnswer.{SurvivalAnswer}
 use Rattle.answers.specs.declared.chances.SurvivalAnswer.TheVariants.{Chances as Given, Refused}
-use Rattle.answers.specs.Told.{chanceValues, survivalTold}
+use Rattle.answers.specs.Told.{chance_values, survival_told}
 use Rattle.answers.proofs.Answered.{answered-done, answered-tells, no-breach}
 use Rattle.exponential.proofs.Worked.{worked-survives}
-use Rattle.survival.specs.Chances.{exponentOf, survivalFault, chancesOf, survivalGiven}
+use Rattle.survival.specs.Chances.{exponent_of, survival_fault, chances_of, survival_given}
 use Rattle.survival.specs.Promise.{FourBounds, SurvivalPromises}
 
-four-bounds : (exponent : ℕ) → exponent ≤ farthest → FourBounds exponent (chancesOf exponent)
+four-bounds : (exponent : ℕ) → exponent ≤ farthest → FourBounds exponent (chances_of exponent)
 four-bounds exponent h =
     let survives = worked-survives exponent (omega (arith, h)) in
     record {
       survival = survives;
-      failure-lower = omega (arith, survives.most);
-      failure-upper = omega (arith, survives.ordered, survives.most);
+      failure_lower = omega (arith, survives.most);
+      failure_upper = omega (arith, survives.ordered, survives.most);
     }
 
 -- the chances that an answer holds
-abbrev chancesIn : SurvivalAnswer → Chances
-chancesIn (Given c) = c
-chancesIn (Refused n) = chancesOf 0
+abbrev chances_in : SurvivalAnswer → Chances
+chances_in (Given c) = c
+chances_in (Refused n) = chances_of 0
 
 pub survival-promises : SurvivalPromises
-unfolding survivalGiven survivalFault
+unfolding survival_given survival_fault
 survival-promises fit hours c answer =
-    let exponent = exponentOf fit hours in
-    let told = answered-tells Refused (survivalFault fit hours) (Given (chancesOf exponent)) survivalTold _ (λ n. refl) refl in
-    let none = no-breach _ _ (chanceValues c) told (ap survivalTold answer) in
+    let exponent = exponent_of fit hours in
+    let told = answered-tells Refused (survival_fault fit hours) (Given (chances_of exponent)) survival_told _ (λ n. refl) refl in
+    let none = no-breach _ _ (chance_values c) told (ap survival_told answer) in
     let same = sym (answered-done Refused _ _ none) ∙ answer in
-    subst (FourBounds exponent) (ap chancesIn same) (four-bounds exponent (far-kept exponent (sym (list-last _) ∙ none)))
+    subst (FourBounds exponent) (ap chances_in same) (four-bounds exponent (far-kept exponent (sym (list-last _) ∙ none)))

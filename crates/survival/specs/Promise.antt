@@ -5,21 +5,21 @@ use Rattle.answers.specs.declared.chances.Chances.{Chances}
 use Rattle.answers.specs.declared.chances.SurvivalAnswer.{SurvivalAnswer}
 use Rattle.answers.specs.declared.chances.SurvivalAnswer.TheVariants.{Chances as Given}
 use Rattle.exponential.specs.Survives.{Survives}
-use Rattle.survival.specs.Chances.{exponentOf, survivalGiven}
+use Rattle.survival.specs.Chances.{exponent_of, survival_given}
 
 -- Four bounds at an exponent: two that promise what document 02 asks of the chance of surviving, and for the chance
 -- of failure one less each, swapped.
 pub record FourBounds (exponent : ℕ) (c : Chances) : Type 0 where
   pub survival : Survives exponent c.survival.lower c.survival.upper
-  pub failure-lower : c.failure.lower + c.survival.upper ≡ one
-  pub failure-upper : c.failure.upper + c.survival.lower ≡ one
+  pub failure_lower : c.failure.lower + c.survival.upper ≡ one
+  pub failure_upper : c.failure.upper + c.survival.lower ≡ one
 
 -- Chances that are answered are such.
 abbrev pub SurvivalPromises : Type 0
 SurvivalPromises =
-    (fit hours : ℕ) (c : Chances) → survivalGiven fit hours ≡ Given c → FourBounds (exponentOf fit hours) c
+    (fit hours : ℕ) (c : Chances) → survival_given fit hours ≡ Given c → FourBounds (exponent_of fit hours) c
 
 -- what the call answers: the pair that is worked out, and wherever it is no refusal, four such bounds
 pub record Answers (fit hours : ℕ) (answer : SurvivalAnswer) : Type 0 where
-  pub given : answer ≡ survivalGiven fit hours
-  pub promise : (c : Chances) → answer ≡ Given c → FourBounds (exponentOf fit hours) c
+  pub given : answer ≡ survival_given fit hours
+  pub promise : (c : Chances) → answer ≡ Given c → FourBounds (exponent_of fit hours) c

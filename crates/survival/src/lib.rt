@@ -1,7 +1,7 @@
 // The chances of surviving and of failure, from a failure rate and hours.
 ghost use Rattle.std.specs.Prelude.{◌≡◌};
 ghost use Rattle.exponential.specs.Worked.{Units};
-ghost use Rattle.survival.specs.Chances.{exponentOf, chancesBy};
+ghost use Rattle.survival.specs.Chances.{exponent_of, chances_by};
 ghost use Rattle.survival.specs.Promise.{Answers};
 
 use answers::{Chances, Enclosure, SurvivalAnswer};
@@ -11,7 +11,7 @@ use units::ONE;
 
 // FIT times hours: the product of two numbers of four bytes needs eight.
 fn exponent(fit: u32, hours: u32) -> u64
-    ensures { result ≡ exponentOf fit hours }
+    ensures { result ≡ exponent_of fit hours }
 {
     fit as u64 * hours as u64
 }
@@ -19,7 +19,7 @@ fn exponent(fit: u32, hours: u32) -> u64
 // The chance of surviving within these bounds, and that of failure: one less each, swapped.
 fn chances(surviving: Bounds) -> Chances
     requires { Units surviving }
-    ensures { result ≡ chancesBy surviving }
+    ensures { result ≡ chances_by surviving }
 {
     let one = ONE as u64;
     Chances {

@@ -9,30 +9,30 @@ use lib.Dec.{ltb}
 use lib.ListN.{length, length-append}
 use borrow.Author.Tests.{lt-ltb, le-ltb, ltb-true, ltb-false}
 use Rattle.lists.specs.Rows.{joined}
-use Rattle.text.specs.Numbers.{digit, spelt, decimalWithin, decimal}
+use Rattle.text.specs.Numbers.{digit, spelt, decimal_within, decimal}
 
 tenth-less : (n more : ℕ) → 10 ≤ n → n ≤ suc more → n / 10 ≤ more
 tenth-less n more h k = omega arith
 
-enough : (f g n : ℕ) → n ≤ f → n ≤ g → decimalWithin f n ≡ decimalWithin g n
-unfolding decimalWithin
+enough : (f g n : ℕ) → n ≤ f → n ≤ g → decimal_within f n ≡ decimal_within g n
+unfolding decimal_within
 enough zero zero n h k = refl
 enough zero (suc g) n h k = rw (lt-ltb n 10 (omega arith)) refl
 enough (suc f) zero n h k = rw (lt-ltb n 10 (omega arith)) refl
 enough (suc f) (suc g) n h k = go (λ more. enough f g (n / 10) (tenth-less n f more h) (tenth-less n g more k)) (ltb n 10) refl
   where
-    go : (10 ≤ n → decimalWithin f (n / 10) ≡ decimalWithin g (n / 10)) → (b : Bool) → ltb n 10 ≡ b
-        → spelt (ltb n 10) (decimalWithin f) n ≡ spelt (ltb n 10) (decimalWithin g) n
+    go : (10 ≤ n → decimal_within f (n / 10) ≡ decimal_within g (n / 10)) → (b : Bool) → ltb n 10 ≡ b
+        → spelt (ltb n 10) (decimal_within f) n ≡ spelt (ltb n 10) (decimal_within g) n
     go front true e = rw e refl
     go front false e = rw e (ap (λ (digits : List ℕ). digits ++ (digit (n % 10) ∷ [])) (front (ltb-false n 10 e)))
 
 pub decimal-one : (n : ℕ) → n < 10 → digit n ∷ [] ≡ decimal n
-unfolding decimal decimalWithin
+unfolding decimal decimal_within
 decimal-one zero h = refl
 decimal-one (suc m) h = rw (lt-ltb (suc m) 10 h) refl
 
 pub decimal-more : (n : ℕ) → 10 ≤ n → decimal n ≡ decimal (n / 10) ++ (digit (n % 10) ∷ [])
-unfolding decimal decimalWithin
+unfolding decimal decimal_within
 decimal-more zero h = absurd (omega arith)
 decimal-more (suc m) h =
     let front = enough m (suc m / 10) (suc m / 10) (tenth-less (suc m) m h (omega arith)) (omega arith) in

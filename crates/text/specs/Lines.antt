@@ -9,17 +9,17 @@ unfoldable pub field : ℕ → List ℕ
 field n = joined (letters " " ∷ decimal n ∷ [])
 
 -- a word and a number
-unfoldable pub numberLine : List ℕ → ℕ → List ℕ
-numberLine word n = joined (word ∷ field n ∷ letters "\n" ∷ [])
+unfoldable pub number_line : List ℕ → ℕ → List ℕ
+number_line word n = joined (word ∷ field n ∷ letters "\n" ∷ [])
 
 -- a lower and an upper bound, which end a line
-unfoldable pub boundsEnd : ℕ → ℕ → List ℕ
-boundsEnd lower upper = joined (field lower ∷ field upper ∷ letters "\n" ∷ [])
+unfoldable pub bounds_end : ℕ → ℕ → List ℕ
+bounds_end lower upper = joined (field lower ∷ field upper ∷ letters "\n" ∷ [])
 
 -- a word and two bounds
-unfoldable pub boundsLine : List ℕ → ℕ → ℕ → List ℕ
-boundsLine word lower upper = joined (word ∷ boundsEnd lower upper ∷ [])
+unfoldable pub bounds_line : List ℕ → ℕ → ℕ → List ℕ
+bounds_line word lower upper = joined (word ∷ bounds_end lower upper ∷ [])
 
 -- a word, the number of an item, and its two bounds
-unfoldable pub itemLine : List ℕ → ℕ → ℕ → ℕ → List ℕ
-itemLine word n lower upper = joined (word ∷ field n ∷ boundsEnd lower upper ∷ [])
+unfoldable pub item_line : List ℕ → ℕ → ℕ → ℕ → List ℕ
+item_line word n lower upper = joined (word ∷ field n ∷ bounds_end lower upper ∷ [])

@@ -11,11 +11,11 @@ spelt true front n = digit n ∷ []
 spelt false front n = front (n / 10) ++ (digit (n % 10) ∷ [])
 
 -- the digits of a number of at most so many further digits
-unfoldable pub decimalWithin : ℕ → ℕ → List ℕ
-decimalWithin zero n = digit n ∷ []
-decimalWithin (suc more) n = spelt (ltb n 10) (decimalWithin more) n
+unfoldable pub decimal_within : ℕ → ℕ → List ℕ
+decimal_within zero n = digit n ∷ []
+decimal_within (suc more) n = spelt (ltb n 10) (decimal_within more) n
 
 -- a number in decimal, without leading zeros
 unfoldable pub decimal : ℕ → List ℕ
-unfolding decimalWithin
-decimal n = decimalWithin n n
+unfolding decimal_within
+decimal n = decimal_within n n

@@ -2,22 +2,22 @@
 use Rattle.std.specs.Prelude.{ℕ, ◌+◌, ◌*◌, ◌<◌, ◌≤◌, min, ◌≡◌, Bool, true, false, List, eqb, length, get_or}
 use Rattle.lists.specs.Bits.{bit}
 use Rattle.units.specs.One.{one}
-use Rattle.rules.specs.Limits.{mostLoads, mostJointStates}
-use Rattle.entries.specs.Entries.{classPlaces}
+use Rattle.rules.specs.Limits.{most_loads, most_joint_states}
+use Rattle.entries.specs.Entries.{class_places}
 
 -- how many places there are, by class or by load
 abbrev pub places_of : Bool → ℕ
-places_of false = classPlaces
-places_of true = mostLoads
+places_of false = class_places
+places_of true = most_loads
 
 -- whether a path of a class counts at a place: at that of its class, or at that of each load whose bit its class has
-abbrev pub countsAt : Bool → ℕ → ℕ → Bool
-countsAt false place class = eqb class place
-countsAt true place class = bit class place
+abbrev pub counts_at : Bool → ℕ → ℕ → Bool
+counts_at false place class = eqb class place
+counts_at true place class = bit class place
 
 -- what the sums of lower bounds are at most, and so no limit to them: one for each of 4,096 paths
-abbrev pub sumsMost : ℕ
-sumsMost = mostJointStates * one
+abbrev pub sums_most : ℕ
+sums_most = most_joint_states * one
 
 -- the places hold totals, none above so much
 pub record Totals (most places : ℕ) (totals : List ℕ) : Type 0 where

@@ -3,9 +3,9 @@ ghost use Rattle.std.specs.Prelude.{ℕ, ◌≤◌, ◌<◌, ◌≡◌, eqb};
 ghost use Rattle.lists.specs.Bits.{bit};
 ghost use Rattle.lists.specs.Counting.{counted};
 ghost use Rattle.units.specs.One.{one};
-ghost use Rattle.rules.specs.Limits.{mostLoads};
-ghost use Rattle.entries.specs.Entries.{classPlaces};
-ghost use Rattle.totals.specs.Places.{sumsMost, places_of, countsAt, Totals, Adds};
+ghost use Rattle.rules.specs.Limits.{most_loads};
+ghost use Rattle.entries.specs.Entries.{class_places};
+ghost use Rattle.totals.specs.Places.{sums_most, places_of, counts_at, Totals, Adds};
 
 use entries::Class;
 use probability::sum_at_most;
@@ -13,7 +13,7 @@ use rules::LOAD_PLACES;
 
 // A bound where bit j of a class stands, else 0.
 fn counted_bit(class: Class, j: usize, bound: u64) -> u64
-    requires { j < mostLoads }
+    requires { j < most_loads }
     ensures { result ≡ counted (bit class j) bound }
 {
     if (class >> j) & 1 == 1 {
@@ -24,10 +24,10 @@ fn counted_bit(class: Class, j: usize, bound: u64) -> u64
 
 // Adds a bound at the place of its class.
 fn add_at_class(most: u64, class: Class, bound: u64, totals: &mut [u64])
-    requires most_le_sums_most { most ≤ sumsMost }
+    requires most_le_sums_most { most ≤ sums_most }
     requires bound_le_one { bound ≤ one }
-    requires totals { Totals most classPlaces totals.old }
-    ensures { Adds most classPlaces (λ (c : ℕ). counted (eqb class c) bound) totals.old totals.new }
+    requires totals { Totals most class_places totals.old }
+    ensures { Adds most class_places (λ (c : ℕ). counted (eqb class c) bound) totals.old totals.new }
 {
     let place = class as usize;
     totals[place] = sum_at_most(most, totals[place], bound);
@@ -35,10 +35,10 @@ fn add_at_class(most: u64, class: Class, bound: u64, totals: &mut [u64])
 
 // Adds a bound at the place of each load whose bit a class has.
 fn add_at_loads(most: u64, class: Class, bound: u64, totals: &mut [u64])
-    requires most_le_sums_most { most ≤ sumsMost }
+    requires most_le_sums_most { most ≤ sums_most }
     requires bound_le_one { bound ≤ one }
-    requires totals { Totals most mostLoads totals.old }
-    ensures { Adds most mostLoads (λ (j : ℕ). counted (bit class j) bound) totals.old totals.new }
+    requires totals { Totals most most_loads totals.old }
+    ensures { Adds most most_loads (λ (j : ℕ). counted (bit class j) bound) totals.old totals.new }
 {
     let mut j: usize = 0;
     while j < LOAD_PLACES {
@@ -49,10 +49,10 @@ fn add_at_loads(most: u64, class: Class, bound: u64, totals: &mut [u64])
 
 // Adds the bound of a path of this class to totals by class or by load, at most so much.
 pub fn add_bound(loadwise: bool, most: u64, class: Class, bound: u64, totals: &mut [u64])
-    requires most_le_sums_most { most ≤ sumsMost }
+    requires most_le_sums_most { most ≤ sums_most }
     requires bound_le_one { bound ≤ one }
     requires totals { Totals most (places_of loadwise) totals.old }
-    ensures { Adds most (places_of loadwise) (λ (p : ℕ). counted (countsAt loadwise p class) bound) totals.old totals.new }
+    ensures { Adds most (places_of loadwise) (λ (p : ℕ). counted (counts_at loadwise p class) bound) totals.old totals.new }
 {
     if loadwise {
         add_at_loads(most, class, bound, totals);

@@ -1,8 +1,8 @@
 // The walk along the paths of a block that adds their bounds up.
 ghost use Rattle.units.specs.One.{one};
 ghost use Rattle.units.specs.Rounding.{down, up};
-ghost use Rattle.totals.specs.Places.{sumsMost, places_of, Totals, Adds};
-ghost use Rattle.totals.specs.Walk.{Reached, brings, bringsAll};
+ghost use Rattle.totals.specs.Places.{sums_most, places_of, Totals, Adds};
+ghost use Rattle.totals.specs.Walk.{Reached, brings, brings_all};
 
 use crate::adding::add_bound;
 use entries::Class;
@@ -27,9 +27,9 @@ fn add_paths(
     upper: &mut [u64],
 )
     requires reached { Reached counts.now block.now probabilities.now i low high }
-    requires totals { Totals sumsMost (places_of loadwise) lower.old }
+    requires totals { Totals sums_most (places_of loadwise) lower.old }
     requires totals_2 { Totals one (places_of loadwise) upper.old }
-    ensures adds { Adds sumsMost (places_of loadwise) (brings loadwise down probabilities.now i counts.now block.now low) lower.old lower.new }
+    ensures adds { Adds sums_most (places_of loadwise) (brings loadwise down probabilities.now i counts.now block.now low) lower.old lower.new }
     ensures adds_2 { Adds one (places_of loadwise) (brings loadwise up probabilities.now i counts.now block.now high) upper.old upper.new }
 {
     if counts.len() == 0 {
@@ -68,10 +68,10 @@ pub fn add_totals(
     upper: &mut [u64],
 )
     requires reached { Reached counts.now block.now probabilities.now 0 one one }
-    requires totals { Totals sumsMost (places_of loadwise) lower.old }
+    requires totals { Totals sums_most (places_of loadwise) lower.old }
     requires totals_2 { Totals one (places_of loadwise) upper.old }
-    ensures adds { Adds sumsMost (places_of loadwise) (bringsAll loadwise down probabilities.now counts.now block.now) lower.old lower.new }
-    ensures adds_2 { Adds one (places_of loadwise) (bringsAll loadwise up probabilities.now counts.now block.now) upper.old upper.new }
+    ensures adds { Adds sums_most (places_of loadwise) (brings_all loadwise down probabilities.now counts.now block.now) lower.old lower.new }
+    ensures adds_2 { Adds one (places_of loadwise) (brings_all loadwise up probabilities.now counts.now block.now) upper.old upper.new }
 {
     let whole = ONE as u64;
     add_paths(

@@ -6,16 +6,16 @@ use native.Mathlib.Omega.{arith}
 use lib.Dec.{lit<}
 use Rattle.units.specs.Laws.{ScaleRounds}
 use Rattle.units.specs.One.{one}
-use Rattle.units.specs.Rounding.{down, up, scale, quotientDown, quotientUp}
+use Rattle.units.specs.Rounding.{down, up, scale, quotient_down, quotient_up}
 use Rattle.units.proofs.Quotients.{quotient-below, quotient-near-below, quotient-above, quotient-near-above}
 
 module _ (a p : ℕ) where
-  pub scale-down : scale down a p ≡ quotientDown (a * p) one
-  unfolding scale quotientDown
+  pub scale-down : scale down a p ≡ quotient_down (a * p) one
+  unfolding scale quotient_down
   scale-down = rw (add-zero (a * p))
 
-  pub scale-up : scale up a p ≡ quotientUp (a * p) one
-  unfolding scale quotientUp
+  pub scale-up : scale up a p ≡ quotient_up (a * p) one
+  unfolding scale quotient_up
   scale-up = refl
 
   pub down-below : scale down a p * one ≤ a * p
@@ -43,4 +43,4 @@ module _ (p : ℕ) where
   up-exact = omega (arith, up_above one p, up-near one p)
 
 pub scale-rounds : ScaleRounds
-scale-rounds = record { downwards = scale-down; upwards = scale-up; exact-downwards = down-exact; exact-upwards = up-exact }
+scale-rounds = record { downwards = scale-down; upwards = scale-up; exact_downwards = down-exact; exact_upwards = up-exact }

@@ -13,18 +13,18 @@ use Rattle.units.proofs.Rounding.{down-below, down-near, up_above, up-near}
 
 -- certainty
 pub within-one : Within one one 0 1 1
-within-one = record { below = omega arith; above = omega arith; near-below = omega arith; near-above = omega arith }
+within-one = record { below = omega arith; above = omega arith; near_below = omega arith; near_above = omega arith }
 
 -- nothing
 pub within_none : (w : ℕ) → Within 0 0 0 0 w
-within_none w = record { below = omega arith; above = omega arith; near-below = omega arith; near-above = omega arith }
+within_none w = record { below = omega arith; above = omega arith; near_below = omega arith; near_above = omega arith }
 
 -- certainty times a probability is that probability, without rounding
 pub within_first : {x w : ℕ} → Within one one 0 x w → (p : ℕ) → Within p p 0 (x * p) (w * one)
 within_first within p =
     let least = mul-le-mul_right p within.below in
     let most = mul-le-mul_right p within.above in
-    record { below = omega (arith, least); above = omega (arith, most); near-below = omega (arith, most); near-above = omega (arith, least) }
+    record { below = omega (arith, least); above = omega (arith, most); near_below = omega (arith, most); near_above = omega (arith, least) }
 
 module _ {lower upper far x w : ℕ} (within : Within lower upper far x w) where
   pub within-sum : {lower' upper' far' x' : ℕ} → Within lower' upper' far' x' w → Within (lower + lower') (upper + upper') (far + far') (x + x') w
@@ -32,8 +32,8 @@ module _ {lower upper far x w : ℕ} (within : Within lower upper far x w) where
       record {
         below = omega (arith, within.below, other.below);
         above = omega (arith, within.above, other.above);
-        near-below = omega (arith, within.near-below, other.near-below);
-        near-above = omega (arith, within.near-above, other.near-above);
+        near_below = omega (arith, within.near_below, other.near_below);
+        near_above = omega (arith, within.near_above, other.near_above);
       }
 
   -- the same probability, over a larger whole
@@ -42,8 +42,8 @@ module _ {lower upper far x w : ℕ} (within : Within lower upper far x w) where
       record {
         below = omega (arith, mul-le-mul_right k within.below);
         above = omega (arith, mul-le-mul_right k within.above);
-        near-below = omega (arith, mul-le-mul_right k within.near-below);
-        near-above = omega (arith, mul-le-mul_right k within.near-above);
+        near_below = omega (arith, mul-le-mul_right k within.near_below);
+        near_above = omega (arith, mul-le-mul_right k within.near_above);
       }
 
   -- times a further probability: each bound is rounded, by less than a unit
@@ -52,8 +52,8 @@ module _ {lower upper far x w : ℕ} (within : Within lower upper far x w) where
       record {
         below = omega (arith, mul-le-mul_right w (down-below lower p), mul-le-mul_right p within.below);
         above = omega (arith, mul-le-mul_right w (up_above upper p), mul-le-mul_right p within.above);
-        near-below = omega (arith, mul-le-mul_right w (le_of_lt (down-near lower p)), mul-le-mul_right p within.near-below, mul-le-mul_left (far * w) h);
-        near-above = omega (arith, mul-le-mul_right w (le_of_lt (up-near upper p)), mul-le-mul_right p within.near-above, mul-le-mul_left (far * w) h);
+        near_below = omega (arith, mul-le-mul_right w (le_of_lt (down-near lower p)), mul-le-mul_right p within.near_below, mul-le-mul_left (far * w) h);
+        near_above = omega (arith, mul-le-mul_right w (le_of_lt (up-near upper p)), mul-le-mul_right p within.near_above, mul-le-mul_left (far * w) h);
       }
 
   -- a probability is at most one
@@ -67,7 +67,7 @@ module _ {lower upper far x w : ℕ} (within : Within lower upper far x w) where
           (record {
             below = within.below;
             above = mul-le-mul_left one h;
-            near-below = within.near-below;
-            near-above = omega (arith, mul-le-mul_right w least, within.near-above);
+            near_below = within.near_below;
+            near_above = omega (arith, mul-le-mul_right w least, within.near_above);
           })
       go false e = rw (min-eq_right (le_of_lt (leb-false one upper e))) within

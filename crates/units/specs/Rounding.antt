@@ -2,11 +2,11 @@
 use Rattle.std.specs.Prelude.{ℕ, ◌+◌, ◌-◌, ◌*◌, ◌/◌}
 use Rattle.units.specs.One.{one}
 
-unfoldable pub quotientDown : ℕ → ℕ → ℕ
-quotientDown a b = a / b
+unfoldable pub quotient_down : ℕ → ℕ → ℕ
+quotient_down a b = a / b
 
-unfoldable pub quotientUp : ℕ → ℕ → ℕ
-quotientUp a b = (a + (b - 1)) / b
+unfoldable pub quotient_up : ℕ → ℕ → ℕ
+quotient_up a b = (a + (b - 1)) / b
 
 -- The two ways to round a quotient over one, by what is added before the division, so that one definition serves both.
 abbrev pub down : ℕ
@@ -15,7 +15,7 @@ down = 0
 abbrev pub up : ℕ
 up = one - 1
 
--- a number of units times a probability, over one: `quotientDown (a * p) one` with down, `quotientUp (a * p) one`
+-- a number of units times a probability, over one: `quotient_down (a * p) one` with down, `quotient_up (a * p) one`
 -- with up (`ScaleRounds`)
 unfoldable pub scale : ℕ → ℕ → ℕ → ℕ
 scale rounding a p = (a * p + rounding) / one

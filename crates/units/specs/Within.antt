@@ -6,5 +6,5 @@ use Rattle.units.specs.One.{one}
 pub record Within (lower upper far x w : ℕ) : Type 0 where
   pub below : lower * w ≤ one * x
   pub above : one * x ≤ upper * w
-  pub near-below : one * x ≤ (lower + far) * w
-  pub near-above : upper * w ≤ one * x + far * w
+  pub near_below : one * x ≤ (lower + far) * w
+  pub near_above : upper * w ≤ one * x + far * w

@@ -1,7 +1,7 @@
 // Fixed-point probability: whole billionths, how many of them make certainty, and products and quotients that are rounded down or up.
 ghost use Rattle.std.specs.Prelude.{◌<◌, ◌≤◌, ◌≡◌};
 ghost use Rattle.units.specs.One.{one};
-ghost use Rattle.units.specs.Rounding.{up, scale as Rounding·scale, quotientDown, quotientUp};
+ghost use Rattle.units.specs.Rounding.{up, scale as rounding_scale, quotient_down, quotient_up};
 
 // Certainty in units of a billionth.
 pub const ONE: u32 = 1000000000;
@@ -16,7 +16,7 @@ pub fn scale(rounding: u64, a: u64, p: u64) -> u64
     requires rounding { rounding ≤ up }
     requires units { a ≤ one }
     requires probability { p ≤ one }
-    ensures scaled { result ≡ Rounding·scale rounding a p }
+    ensures scaled { result ≡ rounding_scale rounding a p }
     ensures most { result ≤ one }
 {
     (a * p + rounding) / ONE as u64
@@ -25,7 +25,7 @@ pub fn scale(rounding: u64, a: u64, p: u64) -> u64
 // A quotient, rounded down.
 pub fn quotient_down(a: u64, b: u64) -> u64
     requires { 0 < b }
-    ensures { result ≡ quotientDown a b }
+    ensures { result ≡ quotient_down a b }
 {
     a / b
 }
@@ -35,7 +35,7 @@ pub fn quotient_up(a: u64, b: u64) -> u64
     requires dividend { a ≤ 16000000000000000000 }
     requires some { 0 < b }
     requires divisor { b ≤ 1000000000000000 }
-    ensures { result ≡ quotientUp a b }
+    ensures { result ≡ quotient_up a b }
 {
     (a + (b - 1)) / b
 }

@@ -23,9 +23,9 @@ abbrev type_of : Local → Ty
 type_of (local τ h) = τ
 
 -- the locals as the walk finds them: a type and a place each
-abbrev pub envOf : (ls : List Local) → Places ls → List (Ty × ℕ)
-envOf [] bs = []
-envOf (l ∷ ls) bs = (type_of l, bs.0) ∷ envOf ls bs.1
+abbrev pub env_of : (ls : List Local) → Places ls → List (Ty × ℕ)
+env_of [] bs = []
+env_of (l ∷ ls) bs = (type_of l, bs.0) ∷ env_of ls bs.1
 
 module _ {M : Type 1} {𝓤 : Ura M} where
   -- memory for a local, and the right to free it
@@ -45,12 +45,12 @@ module _ {M : Type 1} {𝓤 : Ura M} {𝓛 : Logic 𝓤} where
   open 𝓛 use {H}
 
   pub make-all : (ls : List Local) {Γ : List (Item 𝓤)} {Kt : Env 𝓤 H → Goal 𝓤 H}
-      → ((bs : Places ls) → Sq 𝓛 (raw (⋆ 𝓛 (rooms (envOf ls bs))) ∷ raw (⋆ 𝓛 (ends (envOf ls bs))) ∷ Γ) (Kt (envOf ls bs)))
+      → ((bs : Places ls) → Sq 𝓛 (raw (⋆ 𝓛 (rooms (env_of ls bs))) ∷ raw (⋆ 𝓛 (ends (env_of ls bs))) ∷ Γ) (Kt (env_of ls bs)))
       → Sq 𝓛 Γ (allocs ls Kt)
   make-all [] k = alloc0 ! $ use0 𝓛 (raw (⋆ 𝓛 [])) (id⊢ 𝓤 (emp 𝓤)) $ use0 𝓛 (raw (⋆ 𝓛 [])) (id⊢ 𝓤 (emp 𝓤)) $ k tt
   make-all (local τ h ∷ ls) k = alloc1 ! (λ b. make-all ls (λ bs.
       -- [the rooms of the others; their ends; this one's room; its end]
-      move ! (3 ∷ 1 ∷ []) $ first-in (end (τ, b)) (ends (envOf ls bs)) $ move ! (2 ∷ 1 ∷ []) $ first-in (room (τ, b)) (rooms (envOf ls bs)) $ k (b, bs)))
+      move ! (3 ∷ 1 ∷ []) $ first-in (end (τ, b)) (ends (env_of ls bs)) $ move ! (2 ∷ 1 ∷ []) $ first-in (room (τ, b)) (rooms (env_of ls bs)) $ k (b, bs)))
 
   pub free_all : (E : Env 𝓤 H) {Γ : List (Item 𝓤)} {G : Goal 𝓤 H}
       → Step (Go {0}) 𝓛 Γ G (raw (⋆ 𝓛 (rooms E)) ∷ raw (⋆ 𝓛 (ends E)) ∷ Γ) (frees E G)

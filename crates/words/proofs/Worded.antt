@@ -5,7 +5,7 @@ use mathlib.Core.List.{List, [], ◌∷◌, ◌++◌}
 use native.Mathlib.Omega.{arith}
 use lib.ListN.{length, get_or, get_or-eq_default}
 use Rattle.text.specs.Writing.{Room}
-use Rattle.words.specs.Words.{refusalWords, lastRefusal, refusalWord, word_bytes}
+use Rattle.words.specs.Words.{refusal_words, last_refusal, refusal_word, word_bytes}
 
 -- ---- words in a row
 
@@ -16,9 +16,9 @@ past_the_end (row ∷ rows) zero = refl
 past_the_end (row ∷ rows) (suc n) = past_the_end rows n
 
 -- where the table's words from number 1 on stand in a row, with an empty one behind them, the word of number k + 1 stands at place k
-pub word_at : (words : List (List ℕ)) → [] ∷ words ≡ refusalWords ++ ([] ∷ []) → (k : ℕ) → get_or words k [] ≡ refusalWord (suc k)
-unfolding refusalWord
-word_at words all k = ap (λ (rows : List (List ℕ)). get_or rows (suc k) []) all ∙ past_the_end refusalWords (suc k)
+pub word_at : (words : List (List ℕ)) → [] ∷ words ≡ refusal_words ++ ([] ∷ []) → (k : ℕ) → get_or words k [] ≡ refusal_word (suc k)
+unfolding refusal_word
+word_at words all k = ap (λ (rows : List (List ℕ)). get_or rows (suc k) []) all ∙ past_the_end refusal_words (suc k)
 
 -- ---- numbers without a word
 
@@ -31,13 +31,13 @@ beyond : (n k : ℕ) → NoneOf n k → 1 ≤ n → k < n
 beyond n zero none some = some
 beyond n (suc k) none some = omega (arith, beyond n k none.0 some, none.1)
 
-wordless : (n : ℕ) → lastRefusal < n → refusalWord n ≡ []
-unfolding refusalWord refusalWords
-wordless n h = get_or-eq_default refusalWords [] h
+wordless : (n : ℕ) → last_refusal < n → refusal_word n ≡ []
+unfolding refusal_word refusal_words
+wordless n h = get_or-eq_default refusal_words [] h
 
 -- a number that is none of the table's has the word of any number behind the table
-pub no_word : (n k : ℕ) → lastRefusal ≤ k → NoneOf n k → refusalWord (suc k) ≡ refusalWord n
-unfolding refusalWord refusalWords
+pub no_word : (n k : ℕ) → last_refusal ≤ k → NoneOf n k → refusal_word (suc k) ≡ refusal_word n
+unfolding refusal_word refusal_words
 no_word zero k last none = wordless (suc k) (omega (arith, last))
 no_word (suc n) k last none = wordless (suc k) (omega (arith, last)) ∙ sym (wordless (suc n) (omega (arith, last, beyond (suc n) k none (omega arith))))
 
@@ -54,10 +54,10 @@ one_of [] n = omega arith
 one_of (row ∷ rows) zero = omega arith
 one_of (row ∷ rows) (suc n) = omega (arith, one_of rows n)
 
-pub word-short : (n : ℕ) → length (refusalWord n) ≤ word_bytes
-unfolding refusalWord refusalWords longest
-word-short n = omega (arith, one_of refusalWords n)
+pub word-short : (n : ℕ) → length (refusal_word n) ≤ word_bytes
+unfolding refusal_word refusal_words longest
+word-short n = omega (arith, one_of refusal_words n)
 
 -- a buffer with room for any word has room for this one
-pub any_word : (d : List ℕ) (n : ℕ) → word_bytes ≡ length d → Room d 0 (refusalWord n)
+pub any_word : (d : List ℕ) (n : ℕ) → word_bytes ≡ length d → Room d 0 (refusal_word n)
 any_word d n long = record { fits = omega (arith, word-short n) }

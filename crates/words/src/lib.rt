@@ -3,7 +3,7 @@ ghost use Rattle.std.specs.Prelude.{◌≡◌};
 ghost use Rattle.lists.specs.Cleared.{Cleared};
 ghost use Rattle.text.specs.Writing.{Room, Wrote};
 ghost use Rattle.lent_text.specs.Lent.{reported, written};
-ghost use Rattle.words.specs.Words.{word_bytes, refusalWord};
+ghost use Rattle.words.specs.Words.{word_bytes, refusal_word};
 
 use answers::CountAnswer;
 use lent_text::hand_over;
@@ -14,8 +14,8 @@ const WORD_BYTES: usize = 12;
 
 // Writes the word of a refusal; nothing for a number that the table lacks.
 pub fn write_word(out: &mut [u8], at: usize, refusal: u8) -> usize
-    requires { Room out.old at (refusalWord refusal) }
-    ensures { Wrote out.old at (refusalWord refusal) out.new result }
+    requires { Room out.old at (refusal_word refusal) }
+    ensures { Wrote out.old at (refusal_word refusal) out.new result }
 {
     let word: &[u8] = match refusal {
         1 => b"short",
@@ -56,8 +56,8 @@ fn empty_word() -> [u8; WORD_BYTES]
 // Writes the word of a refusal at the front of a lent buffer, and answers how many bytes it has: 0 for a number that
 // the table lacks. Refused by 18.
 pub fn refusal_word(number: u8, text: &mut [u8]) -> CountAnswer
-    ensures answer { result ≡ reported (refusalWord number) text.old }
-    ensures buffer { text.new ≡ written (refusalWord number) text.old }
+    ensures answer { result ≡ reported (refusal_word number) text.old }
+    ensures buffer { text.new ≡ written (refusal_word number) text.old }
 {
     let mut word = empty_word();
     let size = write_word(&mut word, 0, number);

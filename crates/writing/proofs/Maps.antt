@@ -5,14 +5,14 @@ use mathlib.Core.Bool.{Bool, false}
 use mathlib.Core.List.{List, [], ◌∷◌}
 use native.Mathlib.Omega.{arith}
 use Rattle.lists.specs.Counting.{truth}
-use Rattle.study_bytes.specs.Written.{mapOf}
+use Rattle.study_bytes.specs.Written.{map_of}
 use Rattle.study_bytes.proofs.Fields.{Bit}
 
 module _ {x y z : List ℕ} {a b c : Bool} (first : Bit x a) (second : Bit y b) (third : Bit z c) where
-  pub map-of-three : truth a + 2 * (truth b + 2 * (truth c + 2 * truth false)) ≡ mapOf (x ∷ y ∷ z ∷ [])
-  unfolding mapOf
+  pub map-of-three : truth a + 2 * (truth b + 2 * (truth c + 2 * truth false)) ≡ map_of (x ∷ y ∷ z ∷ [])
+  unfolding map_of
   map-of-three = rw (first.stands, second.stands, third.stands) refl
 
-  pub map-of-four : {w : List ℕ} {d : Bool} → Bit w d → truth a + 2 * (truth b + 2 * (truth c + 2 * truth d)) ≡ mapOf (x ∷ y ∷ z ∷ w ∷ [])
-  unfolding mapOf
+  pub map-of-four : {w : List ℕ} {d : Bool} → Bit w d → truth a + 2 * (truth b + 2 * (truth c + 2 * truth d)) ≡ map_of (x ∷ y ∷ z ∷ w ∷ [])
+  unfolding map_of
   map-of-four fourth = omega (arith, first.stands, second.stands, third.stands, fourth.stands)

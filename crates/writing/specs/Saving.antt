@@ -1,27 +1,27 @@
 -- What the call that writes a study out answers and writes.
 use Rattle.std.specs.Prelude.{ℕ, List, [], ◌∷◌, length}
-use Rattle.rules.specs.Breach.{firstBreach}
-use Rattle.rules.specs.Table.{unsoundFault, roomFault}
+use Rattle.rules.specs.Breach.{first_breach}
+use Rattle.rules.specs.Table.{unsound_fault, room_fault}
 use Rattle.study.specs.declared.Study.{Study}
 use Rattle.answers.specs.Answered.{answered, filled}
 use Rattle.answers.specs.declared.counts.CountAnswer.{CountAnswer}
 use Rattle.answers.specs.declared.counts.CountAnswer.TheVariants.{Count, Refused}
 use Rattle.soundness.specs.Check.{sound}
-use Rattle.study_bytes.specs.Written.{studyBytes}
+use Rattle.study_bytes.specs.Written.{study_bytes}
 
 -- 16, then 18 where the study's bytes need more than the room that is lent
-abbrev pub writeBreaches : Study → ℕ → List ℕ
-writeBreaches t room = unsoundFault (sound t) ∷ roomFault (length (studyBytes t)) room ∷ []
+abbrev pub write_breaches : Study → ℕ → List ℕ
+write_breaches t room = unsound_fault (sound t) ∷ room_fault (length (study_bytes t)) room ∷ []
 
-unfoldable pub writeFault : Study → ℕ → ℕ
-writeFault t room = firstBreach (writeBreaches t room)
+unfoldable pub write_fault : Study → ℕ → ℕ
+write_fault t room = first_breach (write_breaches t room)
 
 -- the number of bytes
-unfoldable pub studyWritten : Study → List ℕ → CountAnswer
+unfoldable pub study_written : Study → List ℕ → CountAnswer
 unfolding answered
-studyWritten t buffer = answered Refused (writeFault t (length buffer)) (Count (length (studyBytes t)))
+study_written t buffer = answered Refused (write_fault t (length buffer)) (Count (length (study_bytes t)))
 
 -- the bytes
-unfoldable pub bufferWritten : Study → List ℕ → List ℕ
+unfoldable pub buffer_written : Study → List ℕ → List ℕ
 unfolding filled
-bufferWritten t buffer = filled (writeFault t (length buffer)) (studyBytes t) buffer
+buffer_written t buffer = filled (write_fault t (length buffer)) (study_bytes t) buffer

@@ -2,14 +2,14 @@
 ghost use Rattle.std.specs.Prelude.{◌≡◌};
 ghost use Rattle.text.specs.Writing.{Room, Wrote};
 ghost use Rattle.soundness.specs.Sound.{Sound};
-ghost use Rattle.study_bytes.specs.Written.{mapOf, componentFields, componentBytes, componentsBytes};
+ghost use Rattle.study_bytes.specs.Written.{map_of, component_fields, component_bytes, components_bytes};
 
 use crate::fields::{byte_field, is_given, map_of, number_field, write_byte};
 use study::{Component, Study, absent_component};
 
 // The map of a component's record.
 fn component_map(c: Component) -> u8
-    ensures { result ≡ mapOf (componentFields c) }
+    ensures { result ≡ map_of (component_fields c) }
 {
     let absent = absent_component();
     map_of(
@@ -22,8 +22,8 @@ fn component_map(c: Component) -> u8
 
 // Writes the record of a component.
 fn write_component(out: &mut [u8], at: usize, c: Component) -> usize
-    requires { Room out.old at (componentBytes c) }
-    ensures { Wrote out.old at (componentBytes c) out.new result }
+    requires { Room out.old at (component_bytes c) }
+    ensures { Wrote out.old at (component_bytes c) out.new result }
 {
     let absent = absent_component();
     let states = write_byte(out, at, component_map(c));
@@ -36,8 +36,8 @@ fn write_component(out: &mut [u8], at: usize, c: Component) -> usize
 // Writes the records of a sound study's components.
 pub fn write_components(out: &mut [u8], at: usize, t: Study) -> usize
     requires sound { Sound t }
-    requires room { Room out.old at (componentsBytes t) }
-    ensures { Wrote out.old at (componentsBytes t) out.new result }
+    requires room { Room out.old at (components_bytes t) }
+    ensures { Wrote out.old at (components_bytes t) out.new result }
 {
     let n = t.components as usize;
     let mut place = at;

@@ -2,7 +2,7 @@
 ghost use Rattle.std.specs.Prelude.{◌+◌, ◌*◌, ◌≡◌, not, eqb};
 ghost use Rattle.lists.specs.Counting.{truth};
 ghost use Rattle.text.specs.Writing.{Room, Wrote};
-ghost use Rattle.study_bytes.specs.Written.{byte_of, fourBytesOf, field};
+ghost use Rattle.study_bytes.specs.Written.{byte_of, four_bytes_of, field};
 
 use text::copy;
 
@@ -31,8 +31,8 @@ pub fn write_byte(out: &mut [u8], at: usize, n: u8) -> usize
 
 // Writes the four bytes of a number, the lowest first.
 fn write_number(out: &mut [u8], at: usize, n: u32) -> usize
-    requires { Room out.old at (fourBytesOf n) }
-    ensures { Wrote out.old at (fourBytesOf n) out.new result }
+    requires { Room out.old at (four_bytes_of n) }
+    ensures { Wrote out.old at (four_bytes_of n) out.new result }
 {
     let bytes = [
         (n % 256) as u8,
@@ -56,8 +56,8 @@ pub fn byte_field(out: &mut [u8], at: usize, absent: u8, n: u8) -> usize
 
 // Writes a field of four bytes.
 pub fn number_field(out: &mut [u8], at: usize, absent: u32, n: u32) -> usize
-    requires { Room out.old at (field absent n (fourBytesOf n)) }
-    ensures { Wrote out.old at (field absent n (fourBytesOf n)) out.new result }
+    requires { Room out.old at (field absent n (four_bytes_of n)) }
+    ensures { Wrote out.old at (field absent n (four_bytes_of n)) out.new result }
 {
     if is_given(absent, n) {
         return write_number(out, at, n);

@@ -1,9 +1,9 @@
 // The gate records of a study.
 ghost use Rattle.std.specs.Prelude.{◌≤◌, ◌≡◌};
-ghost use Rattle.rules.specs.Limits.{mostTests, mostGateInputs};
+ghost use Rattle.rules.specs.Limits.{most_tests, most_gate_inputs};
 ghost use Rattle.text.specs.Writing.{Room, Wrote};
 ghost use Rattle.soundness.specs.Sound.{Sound};
-ghost use Rattle.study_bytes.specs.Written.{mapOf, gateFields, gateBytes, gatesBytes};
+ghost use Rattle.study_bytes.specs.Written.{map_of, gate_fields, gate_bytes, gates_bytes};
 
 use crate::fields::{byte_field, is_given, map_of, write_byte};
 use crate::inputs::{write_inputs, write_tests};
@@ -11,7 +11,7 @@ use study::{Gate, Study, absent_gate};
 
 // The map of a gate's record.
 fn gate_map(g: Gate) -> u8
-    ensures { result ≡ mapOf (gateFields g) }
+    ensures { result ≡ map_of (gate_fields g) }
 {
     let absent = absent_gate();
     map_of(
@@ -24,10 +24,10 @@ fn gate_map(g: Gate) -> u8
 
 // Writes the record of a gate.
 fn write_gate(out: &mut [u8], at: usize, g: Gate) -> usize
-    requires tests_le_most_tests { g.tests ≤ mostTests }
-    requires gates_le_most_gate_inputs { g.gates ≤ mostGateInputs }
-    requires room { Room out.old at (gateBytes g) }
-    ensures { Wrote out.old at (gateBytes g) out.new result }
+    requires tests_le_most_tests { g.tests ≤ most_tests }
+    requires gates_le_most_gate_inputs { g.gates ≤ most_gate_inputs }
+    requires room { Room out.old at (gate_bytes g) }
+    ensures { Wrote out.old at (gate_bytes g) out.new result }
 {
     let absent = absent_gate();
     let threshold = write_byte(out, at, gate_map(g));
@@ -41,8 +41,8 @@ fn write_gate(out: &mut [u8], at: usize, g: Gate) -> usize
 // Writes the records of a sound study's gates.
 pub fn write_gates(out: &mut [u8], at: usize, t: Study) -> usize
     requires sound { Sound t }
-    requires room { Room out.old at (gatesBytes t) }
-    ensures { Wrote out.old at (gatesBytes t) out.new result }
+    requires room { Room out.old at (gates_bytes t) }
+    ensures { Wrote out.old at (gates_bytes t) out.new result }
 {
     let n = t.gates as usize;
     let mut place = at;

@@ -2,18 +2,18 @@
 ghost use Rattle.std.specs.Prelude.{◌<◌, ◌≤◌};
 ghost use Rattle.lists.specs.Rows.{joined};
 ghost use Rattle.lists.specs.Tabulate.{tabulate};
-ghost use Rattle.rules.specs.Limits.{mostTests, mostGateInputs};
+ghost use Rattle.rules.specs.Limits.{most_tests, most_gate_inputs};
 ghost use Rattle.text.specs.Writing.{Room, Wrote};
-ghost use Rattle.study_bytes.specs.Written.{testBytes, inputBytes};
+ghost use Rattle.study_bytes.specs.Written.{test_bytes, input_bytes};
 
 use study::Gate;
 use text::copy;
 
 // Writes test j of a gate.
 fn write_test(out: &mut [u8], at: usize, g: Gate, j: usize) -> usize
-    requires j_lt_most_tests { j < mostTests }
-    requires room { Room out.old at (testBytes g j) }
-    ensures { Wrote out.old at (testBytes g j) out.new result }
+    requires j_lt_most_tests { j < most_tests }
+    requires room { Room out.old at (test_bytes g j) }
+    ensures { Wrote out.old at (test_bytes g j) out.new result }
 {
     let test = [g.component[j], g.mask[j]];
     copy(out, at, &test)
@@ -21,9 +21,9 @@ fn write_test(out: &mut [u8], at: usize, g: Gate, j: usize) -> usize
 
 // Writes the tests of a gate.
 pub fn write_tests(out: &mut [u8], at: usize, g: Gate) -> usize
-    requires tests_le_most_tests { g.tests ≤ mostTests }
-    requires room { Room out.old at (joined (tabulate (testBytes g) g.tests)) }
-    ensures { Wrote out.old at (joined (tabulate (testBytes g) g.tests)) out.new result }
+    requires tests_le_most_tests { g.tests ≤ most_tests }
+    requires room { Room out.old at (joined (tabulate (test_bytes g) g.tests)) }
+    ensures { Wrote out.old at (joined (tabulate (test_bytes g) g.tests)) out.new result }
 {
     let n = g.tests as usize;
     let mut place = at;
@@ -37,9 +37,9 @@ pub fn write_tests(out: &mut [u8], at: usize, g: Gate) -> usize
 
 // Writes the gate inputs of a gate.
 pub fn write_inputs(out: &mut [u8], at: usize, g: Gate) -> usize
-    requires gates_le_most_gate_inputs { g.gates ≤ mostGateInputs }
-    requires room { Room out.old at (joined (tabulate (inputBytes g) g.gates)) }
-    ensures { Wrote out.old at (joined (tabulate (inputBytes g) g.gates)) out.new result }
+    requires gates_le_most_gate_inputs { g.gates ≤ most_gate_inputs }
+    requires room { Room out.old at (joined (tabulate (input_bytes g) g.gates)) }
+    ensures { Wrote out.old at (joined (tabulate (input_bytes g) g.gates)) out.new result }
 {
     let input = g.input;
     copy(out, at, &input[..g.gates as usize])

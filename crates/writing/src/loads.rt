@@ -2,14 +2,14 @@
 ghost use Rattle.std.specs.Prelude.{◌≡◌};
 ghost use Rattle.text.specs.Writing.{Room, Wrote};
 ghost use Rattle.soundness.specs.Sound.{Sound};
-ghost use Rattle.study_bytes.specs.Written.{mapOf, loadFields, loadBytes, loadsBytes};
+ghost use Rattle.study_bytes.specs.Written.{map_of, load_fields, load_bytes, loads_bytes};
 
 use crate::fields::{byte_field, is_given, map_of, number_field, write_byte};
 use study::{Load, Study, absent_load};
 
 // The map of a load's record.
 fn load_map(l: Load) -> u8
-    ensures { result ≡ mapOf (loadFields l) }
+    ensures { result ≡ map_of (load_fields l) }
 {
     let absent = absent_load();
     map_of(
@@ -22,8 +22,8 @@ fn load_map(l: Load) -> u8
 
 // Writes the record of a load.
 fn write_load(out: &mut [u8], at: usize, l: Load) -> usize
-    requires { Room out.old at (loadBytes l) }
-    ensures { Wrote out.old at (loadBytes l) out.new result }
+    requires { Room out.old at (load_bytes l) }
+    ensures { Wrote out.old at (load_bytes l) out.new result }
 {
     let absent = absent_load();
     let gate = write_byte(out, at, load_map(l));
@@ -35,8 +35,8 @@ fn write_load(out: &mut [u8], at: usize, l: Load) -> usize
 // Writes the records of a sound study's loads.
 pub fn write_loads(out: &mut [u8], at: usize, t: Study) -> usize
     requires sound { Sound t }
-    requires room { Room out.old at (loadsBytes t) }
-    ensures { Wrote out.old at (loadsBytes t) out.new result }
+    requires room { Room out.old at (loads_bytes t) }
+    ensures { Wrote out.old at (loads_bytes t) out.new result }
 {
     let n = t.loads as usize;
     let mut place = at;

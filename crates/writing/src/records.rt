@@ -2,7 +2,7 @@
 // it has the room.
 ghost use Rattle.text.specs.Writing.{Room, Wrote};
 ghost use Rattle.soundness.specs.Sound.{Sound};
-ghost use Rattle.study_bytes.specs.Written.{studyBytes};
+ghost use Rattle.study_bytes.specs.Written.{study_bytes};
 
 use crate::components::write_components;
 use crate::gates::write_gates;
@@ -13,8 +13,8 @@ use text::copy;
 // Writes a sound study at the front of a page.
 pub fn write_study(out: &mut [u8], t: Study) -> usize
     requires sound { Sound t }
-    requires room { Room out.old 0 (studyBytes t) }
-    ensures { Wrote out.old 0 (studyBytes t) out.new result }
+    requires room { Room out.old 0 (study_bytes t) }
+    ensures { Wrote out.old 0 (study_bytes t) out.new result }
 {
     let counts = [t.components, t.gates, t.loads];
     let first = copy(out, 0, &counts);

@@ -1,5 +1,5 @@
 -- `component_record::read_component` meets its contract: the map, its fields, then the sum is judged.
-use Rattle.study.specs.Absent.{absentComponent}
+use Rattle.study.specs.Absent.{absent_component}
 use Rattle.reading.proofs.After.{after, stopped, going, judged-last}
 use Rattle.reading.proofs.Calls.{asks_nothing}
 use Rattle.component_record.specs.Component.{component}
@@ -10,7 +10,7 @@ returns : tie.Need-returns
 unfolding component
 returns c =
     let refused = c.before.if1.true in
-    stopped _ (stopped {n' = 0} {v' = absentComponent} _ c.before.before.before.map_at.ensures.reads refused) refused
+    stopped _ (stopped {n' = 0} {v' = absent_component} _ c.before.before.before.map_at.ensures.reads refused) refused
 
 read-fields-requires : tie.Need-read-fields-requires
 read-fields-requires c κs = c.before.before.map_at.ensures.kept c.if1.false

@@ -5,12 +5,12 @@ use mathlib.Core.Path.{◌≡◌, ap, subst}
 use native.Mathlib.Omega.{arith}
 use lib.ListN.{drop}
 use Rattle.lists.specs.Bits.{digit}
-use Rattle.reading.specs.Fields.{whereLeft, fields}
+use Rattle.reading.specs.Fields.{where_left, fields}
 use Rattle.reading.specs.Reader.{Read, Reads}
 use Rattle.reading.proofs.Calls.{asks_nothing}
 use Rattle.reading.proofs.MapBits.{first-left, second-left, third-bit, fourth-left, four-fields}
 use Rattle.study.specs.declared.Component.{Component}
-use Rattle.component_record.specs.Component.{probability, componentField}
+use Rattle.component_record.specs.Component.{probability, component_field}
 use Rattle.component_record.proofs.read_fields.Statement.{statement}
 use Rattle.component_record.proofs.read_fields.Tie as tie
 
@@ -39,7 +39,7 @@ last-left c =
     (start one.before).requires c.fields-behind3.ensures
 
 returns : tie.Need-returns
-unfolding componentField
+unfolding component_field
 returns c =
     let last = c.before.before.before.before in
     let left = last.before in
@@ -50,11 +50,11 @@ returns c =
     let absent = states.before.absent-component in
     let entry = start counted in
     let last_of : ℕ → Read Component =
-    λ n. whereLeft n (probability 3) two.read-field3.result.component (drop two.read-field3.result.next entry.args.bytes.now) in
+    λ n. where_left n (probability 3) two.read-field3.result.component (drop two.read-field3.result.next entry.args.bytes.now) in
     let fields-of : Component → Read Component =
-    λ a. fields componentField entry.args.map a (drop entry.args.at entry.args.bytes.now) in
+    λ a. fields component_field entry.args.map a (drop entry.args.at entry.args.bytes.now) in
     subst (Reads _ _ _ _) (ap fields-of absent.ensures)
-    (four-fields componentField entry.args.map absent.result entry.args.at entry.pre
+    (four-fields component_field entry.args.map absent.result entry.args.at entry.pre
     states.read-field.ensures one.read-field2.ensures c.before.before.first.ensures two.read-field3.ensures c.before.first2.ensures
     (subst (Reads _ _ _ _) (ap last_of (last-left left)) last.read-last.ensures) c.first3.ensures)
 

@@ -6,7 +6,7 @@ use mathlib.Core.List.{List}
 use native.Mathlib.Omega.{arith}
 use native.Mathlib.Nat.{mod-lt}
 use lib.ListN.{get_or, drop}
-use Rattle.exponential.specs.Worked.{grain, powers, factors, times, timesEach, survivalOf}
+use Rattle.exponential.specs.Worked.{grain, powers, factors, times, times_each, survival_of}
 use Rattle.exponential.proofs.Along.{Going, turn, all_done}
 use Rattle.exponential.proofs.Enclosed.{raised-most}
 use Rattle.exponential.proofs.Table.{factor-less}
@@ -29,7 +29,7 @@ line-requires c κs = mod-lt _ (omega arith)
 loop-holds : tie.Need-loop-init invariant-loop decreases-loop
 loop-holds c =
     let line = c.line.ensures in
-    record { within = omega arith; gives = ap (timesEach (c.before.before.args.exponent / grain) factors) line.0; units = line.1 }
+    record { within = omega arith; gives = ap (times_each (c.before.before.args.exponent / grain) factors) line.0; units = line.1 }
 
 -- ---- a turn
 
@@ -58,7 +58,7 @@ loop-again c =
     let begun = c.before.before.loop in
     let less = c.before.loop-test.true in
     let next = c.times.ensures.0 ∙ ap (λ (f : ℕ). times (begun.bits % 2) f begun.b) (read c.before) in
-    let rest = ap (timesEach (begun.bits / 2) (drop (begun.place + 1) factors)) next in
+    let rest = ap (times_each (begun.bits / 2) (drop (begun.place + 1) factors)) next in
     record {
       within = omega (arith, less);
       gives = rest ∙ sym (turn begun.bits begun.b begun.place less) ∙ begun.invariant.gives;
@@ -71,7 +71,7 @@ raise-requires : tie.Need-raise-requires invariant-loop decreases-loop
 raise-requires c κs = search rules
 
 returns : tie.Need-returns invariant-loop decreases-loop
-unfolding survivalOf
+unfolding survival_of
 returns c =
     let end = c.before.before.loop in
     let all : end.place ≡ powers = omega (arith, end.invariant.within, c.before.loop-test.false) in

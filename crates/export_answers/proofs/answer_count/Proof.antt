@@ -2,15 +2,15 @@
 use mathlib.Core.Path.{sym, ap, ◌∙◌}
 use lib.IntN.{ℤ}
 use Rattle.answers.specs.declared.counts.CountAnswer.{CountAnswer}
-use Rattle.answers.specs.Told.{countTold}
-use Rattle.export_answers.specs.Answers.{answeredBy, count}
+use Rattle.answers.specs.Told.{count_told}
+use Rattle.export_answers.specs.Answers.{answered_by, count}
 use Rattle.export_answers.proofs.Signed.{handed}
 use borrow.Author.Rules.{rules}
 use Rattle.export_answers.proofs.answer_count.Statement.{statement}
 use Rattle.export_answers.proofs.answer_count.Tie as tie
 
 abbrev due : CountAnswer → ℤ
-due answer = answeredBy count (countTold answer)
+due answer = answered_by count (count_told answer)
 
 returns : tie.Need-returns
 returns c = handed _ c.counted.type-inv ∙ c.counted.ensures ∙ sym (ap due c.before.before.answer.given.1)

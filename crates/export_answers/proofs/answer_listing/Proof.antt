@@ -2,15 +2,15 @@
 use mathlib.Core.Path.{sym, ap, ◌∙◌}
 use lib.IntN.{ℤ}
 use Rattle.answers.specs.declared.counts.Listing.{Listing}
-use Rattle.answers.specs.Told.{listingTold}
-use Rattle.export_answers.specs.Answers.{answeredBy, count}
+use Rattle.answers.specs.Told.{listing_told}
+use Rattle.export_answers.specs.Answers.{answered_by, count}
 use Rattle.export_answers.proofs.Signed.{handed}
 use borrow.Author.Rules.{rules}
 use Rattle.export_answers.proofs.answer_listing.Statement.{statement}
 use Rattle.export_answers.proofs.answer_listing.Tie as tie
 
 abbrev due : Listing → ℤ
-due answer = answeredBy count (listingTold answer)
+due answer = answered_by count (listing_told answer)
 
 returns : tie.Need-returns
 returns c = handed _ c.counted.type-inv ∙ c.counted.ensures ∙ sym (ap due c.before.before.listing.given.1)

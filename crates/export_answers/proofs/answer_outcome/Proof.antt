@@ -2,15 +2,15 @@
 use mathlib.Core.Path.{sym, ap, ◌∙◌}
 use lib.IntN.{ℤ}
 use Rattle.answers.specs.declared.outcome.Outcome.{Outcome}
-use Rattle.answers.specs.Told.{outcomeTold}
-use Rattle.export_answers.specs.Answers.{answeredBy, done}
+use Rattle.answers.specs.Told.{outcome_told}
+use Rattle.export_answers.specs.Answers.{answered_by, done}
 use Rattle.export_answers.proofs.Signed.{handed}
 use borrow.Author.Rules.{rules}
 use Rattle.export_answers.proofs.answer_outcome.Statement.{statement}
 use Rattle.export_answers.proofs.answer_outcome.Tie as tie
 
 abbrev due : Outcome → ℤ
-due answer = answeredBy done (outcomeTold answer)
+due answer = answered_by done (outcome_told answer)
 
 returns : tie.Need-returns
 returns c = sym (ap due c.enum_told.given.1)

@@ -11,8 +11,8 @@ returns c =
     let bounded = rw asked.before.before.before.read-image.ensures at asked.classes-meant.ensures in
     record {
       answered = handed _ c.answer-outcome.type-inv ∙ rw bounded.0 at c.answer-outcome.ensures;
-      lower-left = bounded.1.0;
-      upper-left = bounded.1.1;
+      lower_left = bounded.1.0;
+      upper_left = bounded.1.1;
     }
 
 pub class-bounds-spec : {M : Type 1} → statement M

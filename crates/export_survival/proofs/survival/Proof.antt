@@ -10,13 +10,13 @@ returns c =
     let surviving = c.before.before.before in
     let matched = surviving.before.before.before.before in
     rw (sym matched.before.before.survival.ensures.given ∙ matched.chances.given.1)
-    (record { answered = refl; survival-left = surviving.hand-pair.ensures; failure-left = c.hand-pair2.ensures })
+    (record { answered = refl; survival_left = surviving.hand-pair.ensures; failure_left = c.hand-pair2.ensures })
 
 returns-2 : tie.Need-returns-2
 returns-2 c =
     let matched = c.before.before in
     rw (sym matched.before.before.survival.ensures.given ∙ matched.number.given.1)
-    (record { answered = handed _ c.refused.type-inv ∙ c.refused.ensures; survival-left = refl; failure-left = refl })
+    (record { answered = handed _ c.refused.type-inv ∙ c.refused.ensures; survival_left = refl; failure_left = refl })
 
 pub survival-spec : {M : Type 1} → statement M
 survival-spec =

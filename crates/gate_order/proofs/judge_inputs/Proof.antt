@@ -3,16 +3,16 @@ use Prim.Native.Nat.{ℕ, ◌+◌}
 use mathlib.Core.Path.{ap, ap₂, ◌∙◌}
 use borrow.Author.Rules.{rules}
 use Rattle.rules.specs.Breach.{first}
-use Rattle.rules.specs.Table.{unsoundFault}
+use Rattle.rules.specs.Table.{unsound_fault}
 use Rattle.rules.proofs.Kept.{first-kept}
 use Rattle.rules.proofs.Rows.{sound-kept}
-use Rattle.gate_order.specs.Inputs.{inputCount}
-use Rattle.gate_order.specs.Breach.{orderFault}
+use Rattle.gate_order.specs.Inputs.{input_count}
+use Rattle.gate_order.specs.Breach.{order_fault}
 use Rattle.gate_order.proofs.judge_inputs.Statement.{statement}
 use Rattle.gate_order.proofs.judge_inputs.Tie as tie
 
 returns : tie.Need-returns
-unfolding orderFault inputCount
+unfolding order_fault input_count
 returns c =
     let judged = c.before.before in
     let gate-order = judged.before in
@@ -20,8 +20,8 @@ returns c =
     let gates = test-order.before.count-gate-inputs.ensures in
     let tests = test-order.before.before.count-tests.ensures in (
       judged.first.ensures
-          ∙ ap₂ first (test-order.unsound-fault.ensures ∙ ap unsoundFault tests.order)
-          (gate-order.unsound-fault2.ensures ∙ ap unsoundFault gates.order),
+          ∙ ap₂ first (test-order.unsound-fault.ensures ∙ ap unsound_fault tests.order)
+          (gate-order.unsound-fault2.ensures ∙ ap unsound_fault gates.order),
       λ kept.
           let both = first-kept _ _ kept in
           ap₂ (λ (m n : ℕ). m + n) (tests.many (sound-kept _ both.left)) (gates.many (sound-kept _ both.right)),

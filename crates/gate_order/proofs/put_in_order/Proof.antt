@@ -2,8 +2,8 @@
 use Prim.Native.Nat.{ℕ, ◌+◌}
 use mathlib.Core.Path.{ap₂}
 use borrow.Author.Rules.{rules}
-use Rattle.gate_order.specs.Inputs.{inputCount}
-use Rattle.gate_order.specs.Order.{inOrder}
+use Rattle.gate_order.specs.Inputs.{input_count}
+use Rattle.gate_order.specs.Order.{in_order}
 use Rattle.gate_order.proofs.put_in_order.Statement.{statement}
 use Rattle.gate_order.proofs.put_in_order.Tie as tie
 
@@ -27,7 +27,7 @@ order-gate-inputs-requires c κs =
     (start lent.before.before.before).requires.1.1
 
 returns : tie.Need-returns
-unfolding inOrder inputCount
+unfolding in_order input_count
 returns c threshold =
     let inputs = c.before.before in
     let tests = tested inputs in

@@ -2,7 +2,7 @@
 use native.Mathlib.Omega.{arith}
 use borrow.Author.Rules.{rules}
 use Rattle.study.specs.declared.Gate.{Gate}
-use Rattle.gate_order.specs.Rows.{distinctGate}
+use Rattle.gate_order.specs.Rows.{distinct_gate}
 use Rattle.gate_order.proofs.without_repeats.Statement.{statement}
 use Rattle.gate_order.proofs.without_repeats.Tie as tie
 
@@ -14,7 +14,7 @@ abbrev tested : tie.After-keep-distinct-gate-inputs → tie.After-keep-distinct-
 tested c = c.before.before.before.before
 
 returns : tie.Need-returns
-unfolding distinctGate
+unfolding distinct_gate
 returns c =
     let tests = (tested c.before).keep-distinct-tests.ensures.1 in
     let inputs = c.before.keep-distinct-gate-inputs.ensures.1 in (
@@ -24,10 +24,10 @@ returns c =
           record {
             threshold = (given (tested c.before)).threshold;
             tests = (tests order.tests).many i;
-            component = (tests order.tests).in-numbers i;
-            mask = (tests order.tests).in-masks i;
-            gates = inputs.1 order.gate-inputs i;
-            input = inputs.0 order.gate-inputs i;
+            component = (tests order.tests).in_numbers i;
+            mask = (tests order.tests).in_masks i;
+            gates = inputs.1 order.gate_inputs i;
+            input = inputs.0 order.gate_inputs i;
           },
     )
 

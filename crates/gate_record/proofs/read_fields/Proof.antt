@@ -5,14 +5,14 @@ use mathlib.Core.Path.{◌≡◌, ap, subst}
 use lib.ListN.{drop}
 use borrow.Author.Rules.{rules}
 use Rattle.lists.specs.Bits.{digit}
-use Rattle.reading.specs.Fields.{whereLeft, fields}
+use Rattle.reading.specs.Fields.{where_left, fields}
 use Rattle.reading.specs.Reader.{Read, Reads}
 use Rattle.reading.proofs.Calls.{asks_nothing}
 use Rattle.reading.proofs.MapBits.{first-left, second-left, third-left, three-fields}
 use Rattle.study.specs.declared.Gate.{Gate}
-use Rattle.gate_record.specs.Gate.{withThreshold, inputs, gateField}
-use Rattle.gate_order.specs.Lent.{gateOf}
-use Rattle.gate_record.specs.Places.{withTestRow}
+use Rattle.gate_record.specs.Gate.{with_threshold, inputs, gate_field}
+use Rattle.gate_order.specs.Lent.{gate_of}
+use Rattle.gate_record.specs.Places.{with_test_row}
 use Rattle.gate_record.proofs.read_fields.Statement.{statement}
 use Rattle.gate_record.proofs.read_fields.Tie as tie
 
@@ -56,7 +56,7 @@ last-left c =
     c.before.fields-behind2.ensures
 
 returns : tie.Need-returns
-unfolding gateField
+unfolding gate_field
 returns c =
     let called = inputs_read c in
     let tests = tests-read (counted called.before) in
@@ -64,17 +64,17 @@ returns c =
     let entry = start threshold in
     let absent = threshold.before.absent-gate in
     let over : Gate → Gate =
-    λ a. gateOf a.threshold a.tests entry.args.component.now entry.args.mask.now a.gates entry.args.input.now in
+    λ a. gate_of a.threshold a.tests entry.args.component.now entry.args.mask.now a.gates entry.args.input.now in
     let nothing = over absent.result in
-    let g = withThreshold threshold.read-threshold.result.value nothing in
+    let g = with_threshold threshold.read-threshold.result.value nothing in
     let rows = tests.read-tests.last.1.1.1.1.1 in
-    let h = withTestRow tests.read-tests.result.value rows.0 rows.1.0 g in
+    let h = with_test_row tests.read-tests.result.value rows.0 rows.1.0 g in
     let last : ℕ → Read Gate =
-    λ left. whereLeft left (inputs entry.args.number) h (drop tests.read-tests.result.next entry.args.bytes.now) in
+    λ left. where_left left (inputs entry.args.number) h (drop tests.read-tests.result.next entry.args.bytes.now) in
     let read-fields : Gate → Read Gate =
-    λ a. fields (gateField entry.args.counts.now entry.args.number) entry.args.map (over a) (drop entry.args.at entry.args.bytes.now) in
+    λ a. fields (gate_field entry.args.counts.now entry.args.number) entry.args.map (over a) (drop entry.args.at entry.args.bytes.now) in
     subst (Reads _ _ _ _) (ap read-fields absent.ensures)
-    (three-fields (gateField entry.args.counts.now entry.args.number) entry.args.map nothing entry.args.at entry.pre.0
+    (three-fields (gate_field entry.args.counts.now entry.args.number) entry.args.map nothing entry.args.at entry.pre.0
     (threshold.read-threshold.ensures nothing) (tests.read-tests.ensures g) c.before.first.ensures
     (subst (Reads _ _ _ _) (ap last (last-left called.before)) (called.read-inputs.ensures h)) c.first2.ensures)
 

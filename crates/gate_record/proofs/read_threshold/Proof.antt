@@ -4,7 +4,7 @@ use borrow.Author.Tests.{ne_eqb}
 use borrow.Author.Rules.{rules}
 use Rattle.reading.proofs.After.{returned, finished}
 use Rattle.reading.proofs.Calls.{asks_nothing}
-use Rattle.gate_record.specs.Gate.{withThreshold, threshold}
+use Rattle.gate_record.specs.Gate.{with_threshold, threshold}
 use Rattle.gate_record.proofs.read_threshold.Statement.{statement}
 use Rattle.gate_record.proofs.read_threshold.Tie as tie
 
@@ -15,7 +15,7 @@ returns-2 : tie.Need-returns-2
 unfolding threshold
 returns-2 c g =
     rw (sym c.before.before.map-digit.ensures ∙ c.before.if1.false)
-    (finished (λ n. withThreshold n g) c.byte_at.ensures refl)
+    (finished (λ n. with_threshold n g) c.byte_at.ensures refl)
 
 pub read-threshold-spec : {M : Type 1} → statement M
 read-threshold-spec = tie.close (tie.spec (λ c κs. search rules) returns asks_nothing returns-2)

@@ -5,7 +5,7 @@ use borrow.Author.Tests.{eq-eqb, ne_eqb}
 use Rattle.lists.specs.Bits.{digit}
 use Rattle.reading.proofs.After.{returned}
 use Rattle.reading.proofs.Calls.{asks_nothing}
-use Rattle.load_record.specs.Load.{loadField}
+use Rattle.load_record.specs.Load.{load_field}
 use Rattle.load_record.proofs.read_field.Statement.{statement}
 use Rattle.load_record.proofs.read_field.Tie as tie
 
@@ -20,11 +20,11 @@ stands : (c : tie.Else1) → let a = c.before.before.before.args in digit a.map 
 stands c = sym c.before.map-digit.ensures ∙ c.if1.false
 
 returns-2 : tie.Need-returns-2
-unfolding loadField
+unfolding load_field
 returns-2 c = rw (stands c.before.before, eq-eqb _ _ c.before.if2.true) c.read-loss-gate.ensures
 
 returns-3 : tie.Need-returns-3
-unfolding loadField
+unfolding load_field
 returns-3 c =
     let customers = c.before in
     let entry = customers.before.before.before.before in

@@ -5,12 +5,12 @@ use mathlib.Core.Path.{◌≡◌, ap, subst}
 use native.Mathlib.Omega.{arith}
 use lib.ListN.{drop}
 use Rattle.lists.specs.Bits.{digit}
-use Rattle.reading.specs.Fields.{whereLeft, fields}
+use Rattle.reading.specs.Fields.{where_left, fields}
 use Rattle.reading.specs.Reader.{Read, Reads}
 use Rattle.reading.proofs.Calls.{asks_nothing}
 use Rattle.reading.proofs.MapBits.{first-left, second-left, third-left, three-fields}
 use Rattle.study.specs.declared.Load.{Load}
-use Rattle.load_record.specs.Load.{minutes, loadField}
+use Rattle.load_record.specs.Load.{minutes, load_field}
 use Rattle.load_record.proofs.read_fields.Statement.{statement}
 use Rattle.load_record.proofs.read_fields.Tie as tie
 
@@ -38,7 +38,7 @@ last-left c =
     third-left _ _ _ (start (customers-read counted)).requires (rw counted.field-count.ensures at one.fields-behind.ensures) c.fields-behind2.ensures
 
 returns : tie.Need-returns
-unfolding loadField
+unfolding load_field
 returns c =
     let last = c.before.before.before in
     let customers = customers-read last.before.before.before in
@@ -46,11 +46,11 @@ returns c =
     let absent = gate.before.absent-load in
     let entry = start customers in
     let last_of : ℕ → Read Load =
-    λ left. whereLeft left minutes customers.read-field2.result.load (drop customers.read-field2.result.next entry.args.bytes.now) in
+    λ left. where_left left minutes customers.read-field2.result.load (drop customers.read-field2.result.next entry.args.bytes.now) in
     let fields-of : Load → Read Load =
-    λ l. fields (loadField entry.args.gates) entry.args.map l (drop entry.args.at entry.args.bytes.now) in
+    λ l. fields (load_field entry.args.gates) entry.args.map l (drop entry.args.at entry.args.bytes.now) in
     subst (Reads _ _ _ _) (ap fields-of absent.ensures)
-    (three-fields (loadField entry.args.gates) entry.args.map absent.result entry.args.at entry.pre
+    (three-fields (load_field entry.args.gates) entry.args.map absent.result entry.args.at entry.pre
     gate.read-field.ensures customers.read-field2.ensures c.before.first.ensures
     (subst (Reads _ _ _ _) (ap last_of (last-left last.before)) last.read-last.ensures) c.first2.ensures)
 

@@ -6,20 +6,20 @@ use borrow.Author.Rules.{rules}
 use Rattle.meaning.proofs.judged_classes.Statement.{statement}
 use Rattle.meaning.proofs.judged_classes.Tie as tie
 
-is-sound : (c : tie.Else1) → Sound c.before.before.before.before.before.args.study
-is-sound c = sound-behind _ c.before.before.is-sound.ensures c.before.unsound-fault.ensures c.if1.false
+is_sound : (c : tie.Else1) → Sound c.before.before.before.before.before.args.study
+is_sound c = sound-behind _ c.before.before.is_sound.ensures c.before.unsound-fault.ensures c.if1.false
 
 returns : tie.Need-returns
 returns c =
     let taken = c.if1.true in
     record {
-      is = unsound-first _ c.before.before.is-sound.ensures c.before.unsound-fault.ensures _ taken;
-      is-sound = λ none. absurd (taken none);
+      is = unsound-first _ c.before.before.is_sound.ensures c.before.unsound-fault.ensures _ taken;
+      is_sound = λ none. absurd (taken none);
       tabled = λ none. absurd (taken none);
     }
 
 put-classes-requires : tie.Need-put-classes-requires
-put-classes-requires c κs = (is-sound c.before, c.before.before.before.before.before.before.requires)
+put-classes-requires c κs = (is_sound c.before, c.before.before.before.before.before.before.requires)
 
 returns-2 : tie.Need-returns-2
 returns-2 c =
@@ -29,8 +29,8 @@ returns-2 c =
     record {
       is =
           put.is
-          ∙ sym (next-first _ kept.before.before.is-sound.ensures kept.before.unsound-fault.ensures kept.if1.false _);
-      is-sound = λ none. is-sound kept;
+          ∙ sym (next-first _ kept.before.before.is_sound.ensures kept.before.unsound-fault.ensures kept.if1.false _);
+      is_sound = λ none. is_sound kept;
       tabled = put.tabled;
     }
 

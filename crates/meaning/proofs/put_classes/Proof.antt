@@ -1,14 +1,14 @@
 -- `meaning::put_classes` meets its contract: gates have no breach of their own.
 use mathlib.Core.Path.{refl}
 use Rattle.fault_tree.specs.Classes.{classes}
-use Rattle.model.specs.Model.{classesOf}
-use Rattle.meaning.specs.Meaning.{modelOf}
+use Rattle.model.specs.Model.{classes_of}
+use Rattle.meaning.specs.Meaning.{model_of}
 use borrow.Author.Rules.{rules}
 use Rattle.meaning.proofs.put_classes.Statement.{statement}
 use Rattle.meaning.proofs.put_classes.Tie as tie
 
 returns : tie.Need-returns
-unfolding modelOf classesOf classes
+unfolding model_of classes_of classes
 returns c =
     let call = c.before.before in
     rw call.before.before.enum_told.given.1 (record { is = refl; tabled = λ none. record { holds = call.put-classes.ensures } })

@@ -10,19 +10,19 @@ use lib.Seq.{get_or-set_same, get_or-set_other}
 use borrow.Author.Count.{below_more}
 use borrow.Author.Tests.{eqb-true, eqb-false}
 use Rattle.lists.proofs.Filled.{Filled, filled_none, filled_more}
-use Rattle.rules.specs.Breach.{unlessAbsent}
-use Rattle.rules.specs.Limits.{gateMaps, mostTests, mostGateInputs}
-use Rattle.rules.specs.Table.{inputsFault, noComponentFault, maskFault, aheadFault, thresholdFault}
+use Rattle.rules.specs.Breach.{unless_absent}
+use Rattle.rules.specs.Limits.{gate_maps, most_tests, most_gate_inputs}
+use Rattle.rules.specs.Table.{inputs_fault, no_component_fault, mask_fault, ahead_fault, threshold_fault}
 use Rattle.rules.proofs.Kept.{absent_none, unless-none, range-kept}
 use Rattle.reading.specs.Reader.{byte}
 use Rattle.reading.proofs.Ends.{bit-meant}
 use Rattle.reading.proofs.Held.{Gives, gives-any, gives_then, gives-judge, gives-judged, gives-return, gives-cond, gives-repeat, gives-fields, gives-weaker}
-use Rattle.gate_record.specs.Gate.{threshold, inputsByte, test, tests, input, inputs, gateField, gate, withTests, withGates, withTest, withInput}
+use Rattle.gate_record.specs.Gate.{threshold, inputs_byte, test, tests, input, inputs, gate_field, gate, with_tests, with_gates, with_test, with_input}
 use Rattle.study.specs.declared.Gate.{Gate}
-use Rattle.study.specs.Absent.{absentGate}
-use Rattle.gate_order.specs.Inputs.{inputCount}
+use Rattle.study.specs.Absent.{absent_gate}
+use Rattle.gate_order.specs.Inputs.{input_count}
 use Rattle.study.specs.Places.{ShapedGate}
-use Rattle.study.specs.Zero.{zeroGate}
+use Rattle.study.specs.Zero.{zero_gate}
 use Rattle.soundness.specs.Sound.{SoundGate}
 
 -- a gate that keeps a rule, and has all its places
@@ -35,79 +35,79 @@ IsZero n = n ≡ 0
 
 -- the first j tests stand in front
 record TestsFilled (counts : List ℕ) (j : ℕ) (component mask : List ℕ) : Type 0 where
-  components : Filled (λ (k n : ℕ). noComponentFault (length counts) n ≡ 0) IsZero 0 mostTests j component
-  masks : Filled (λ (k n : ℕ). Unit {0}) IsZero 0 mostTests j mask
-  fit : (k : ℕ) → k < j → maskFault (get_or counts (get_or component k 0) 0) (get_or mask k 0) ≡ 0
+  components : Filled (λ (k n : ℕ). no_component_fault (length counts) n ≡ 0) IsZero 0 most_tests j component
+  masks : Filled (λ (k n : ℕ). Unit {0}) IsZero 0 most_tests j mask
+  fit : (k : ℕ) → k < j → mask_fault (get_or counts (get_or component k 0) 0) (get_or mask k 0) ≡ 0
 
-tests-more : (counts : List ℕ) (j : ℕ) (component mask : List ℕ) (c m : ℕ) → TestsFilled counts j component mask → j < mostTests
-    → noComponentFault (length counts) c ≡ 0 → maskFault (get_or counts c 0) m ≡ 0 → TestsFilled counts (j + 1) (set component j c) (set mask j m)
+tests-more : (counts : List ℕ) (j : ℕ) (component mask : List ℕ) (c m : ℕ) → TestsFilled counts j component mask → j < most_tests
+    → no_component_fault (length counts) c ≡ 0 → mask_fault (get_or counts c 0) m ≡ 0 → TestsFilled counts (j + 1) (set component j c) (set mask j m)
 tests-more counts j component mask c m f h known fits =
     record {
       components = filled_more f.components h known;
       masks = filled_more f.masks h tt;
       fit =
-          below_more (λ k. maskFault (get_or counts (get_or (set component j c) k 0) 0) (get_or (set mask j m) k 0) ≡ 0) j
+          below_more (λ k. mask_fault (get_or counts (get_or (set component j c) k 0) 0) (get_or (set mask j m) k 0) ≡ 0) j
           (λ k lower. rw (get_or-set_other component j k c 0 (λ same. omega arith), get_or-set_other mask j k m 0 (λ same. omega arith)) (f.fit k lower))
           (rw (get_or-set_same component j c 0 (omega (arith, f.components.long)), get_or-set_same mask j m 0 (omega (arith, f.masks.long))) fits);
     }
 
 abbrev InputsFilled : ℕ → ℕ → List ℕ → Type 0
-InputsFilled number j input = Filled (λ (k n : ℕ). aheadFault number n ≡ 0) IsZero 0 mostGateInputs j input
+InputsFilled number j input = Filled (λ (k n : ℕ). ahead_fault number n ≡ 0) IsZero 0 most_gate_inputs j input
 
 zero-places : (size k : ℕ) → k < size → ◌≡◌ {A = ℕ} (get_or (replicate size 0) k 0) 0
 zero-places size k h = get_or-replicate size k 0 0 h
 
-count-sound : (most : ℕ) → Gives (inputsByte most) (λ (n : ℕ). inputsFault most n ≡ 0)
-unfolding inputsByte
-count-sound most = gives-judged byte (inputsFault most) (λ n. n) (λ n kept. kept)
+count-sound : (most : ℕ) → Gives (inputs_byte most) (λ (n : ℕ). inputs_fault most n ≡ 0)
+unfolding inputs_byte
+count-sound most = gives-judged byte (inputs_fault most) (λ n. n) (λ n kept. kept)
 
 module _ (counts : List ℕ) (number : ℕ) where
   -- the rules of the tests, and of the gate inputs
   record TestsKept (tests : ℕ) (component mask : List ℕ) : Type 0 where
-    count : unlessAbsent 0 tests (inputsFault mostTests tests) ≡ 0
+    count : unless_absent 0 tests (inputs_fault most_tests tests) ≡ 0
     filled : TestsFilled counts tests component mask
 
   record InputsKept (gates : ℕ) (input : List ℕ) : Type 0 where
-    count : unlessAbsent 0 gates (inputsFault mostGateInputs gates) ≡ 0
+    count : unless_absent 0 gates (inputs_fault most_gate_inputs gates) ≡ 0
     filled : InputsFilled number gates input
 
   -- The fields below bit k are read: all rules but that of the threshold are kept, and no field from bit k on is given.
   record FieldsSoFar (k tests : ℕ) (component mask : List ℕ) (gates : ℕ) (input : List ℕ) : Type 0 where
-    tests-kept : TestsKept tests component mask
-    inputs-kept : InputsKept gates input
-    no-tests : k ≤ 1 → tests ≡ 0
-    no-gates : k ≤ 2 → gates ≡ 0
+    tests_kept : TestsKept tests component mask
+    inputs_kept : InputsKept gates input
+    no_tests : k ≤ 1 → tests ≡ 0
+    without_gates : k ≤ 2 → gates ≡ 0
 
   abbrev SoFar : ℕ → Gate → Type 0
   SoFar k g = FieldsSoFar k g.tests g.component g.mask g.gates g.input
 
-  start : SoFar 0 absentGate
-  unfolding absentGate zeroGate
+  start : SoFar 0 absent_gate
+  unfolding absent_gate zero_gate
   start =
       record {
-        tests-kept =
+        tests_kept =
             record {
-              count = absent_none 0 (inputsFault mostTests 0);
+              count = absent_none 0 (inputs_fault most_tests 0);
               filled =
                   record {
-                    components = filled_none refl (zero-places mostTests);
-                    masks = filled_none refl (zero-places mostTests);
+                    components = filled_none refl (zero-places most_tests);
+                    masks = filled_none refl (zero-places most_tests);
                     fit = λ k h. absurd (omega arith);
                   };
             };
-        inputs-kept = record { count = absent_none 0 (inputsFault mostGateInputs 0); filled = filled_none refl (zero-places mostGateInputs) };
-        no-tests = λ h. refl;
-        no-gates = λ h. refl;
+        inputs_kept = record { count = absent_none 0 (inputs_fault most_gate_inputs 0); filled = filled_none refl (zero-places most_gate_inputs) };
+        no_tests = λ h. refl;
+        without_gates = λ h. refl;
       }
 
   -- a bit that gives no inputs
   passed : (k : ℕ) (g : Gate) → SoFar k g → SoFar (k + 1) g
   passed k g s =
       record {
-        tests-kept = s.tests-kept;
-        inputs-kept = s.inputs-kept;
-        no-tests = λ h. s.no-tests (omega arith);
-        no-gates = λ h. s.no-gates (omega arith);
+        tests_kept = s.tests_kept;
+        inputs_kept = s.inputs_kept;
+        no_tests = λ h. s.no_tests (omega arith);
+        without_gates = λ h. s.without_gates (omega arith);
       }
 
   threshold-sound : (g : Gate) → SoFar 0 g → Gives (threshold g) (SoFar 1)
@@ -118,94 +118,94 @@ module _ (counts : List ℕ) (number : ℕ) where
   record TestLoop (n j : ℕ) (g : Gate) : Type 0 where
     tests : g.tests ≡ n
     filled : TestsFilled counts j g.component g.mask
-    inputs-kept : InputsKept g.gates g.input
-    no-gates : g.gates ≡ 0
+    inputs_kept : InputsKept g.gates g.input
+    without_gates : g.gates ≡ 0
 
-  test-sound : (n j : ℕ) (g : Gate) → n ≤ mostTests → j < n → TestLoop n j g → Gives (test counts j g) (TestLoop n (j + 1))
+  test-sound : (n j : ℕ) (g : Gate) → n ≤ most_tests → j < n → TestLoop n j g → Gives (test counts j g) (TestLoop n (j + 1))
   unfolding test
   test-sound n j g room h l =
       gives_then (gives-any byte)
       (λ c u.
-      gives-judge (noComponentFault (length counts) c)
+      gives-judge (no_component_fault (length counts) c)
       (λ known.
-      gives-judged byte (maskFault (get_or counts c 0)) (λ m. withTest j c m g)
+      gives-judged byte (mask_fault (get_or counts c 0)) (λ m. with_test j c m g)
       (λ m fits.
       record {
         tests = l.tests;
         filled = tests-more counts j g.component g.mask c m l.filled (omega arith) known fits;
-        inputs-kept = l.inputs-kept;
-        no-gates = l.no-gates;
+        inputs_kept = l.inputs_kept;
+        without_gates = l.without_gates;
       })))
 
-  tests-read : (n : ℕ) (g : Gate) → inputsFault mostTests n ≡ 0 → TestLoop n n g → SoFar 2 g
+  tests-read : (n : ℕ) (g : Gate) → inputs_fault most_tests n ≡ 0 → TestLoop n n g → SoFar 2 g
   tests-read n g kept l =
       record {
-        tests-kept =
+        tests_kept =
             record {
-              count = rw l.tests (unless-none 0 n (inputsFault mostTests n) kept);
+              count = rw l.tests (unless-none 0 n (inputs_fault most_tests n) kept);
               filled = subst (λ (k : ℕ). TestsFilled counts k g.component g.mask) (sym l.tests) l.filled;
             };
-        inputs-kept = l.inputs-kept;
-        no-tests = λ e. absurd (omega arith);
-        no-gates = λ e. l.no-gates;
+        inputs_kept = l.inputs_kept;
+        no_tests = λ e. absurd (omega arith);
+        without_gates = λ e. l.without_gates;
       }
 
   tests-sound : (g : Gate) → SoFar 1 g → Gives (tests counts g) (SoFar 2)
   unfolding tests
   tests-sound g s =
-      gives_then (count-sound mostTests)
+      gives_then (count-sound most_tests)
       (λ n kept.
-      let room = (range-kept _ _ mostTests n kept).most in
+      let room = (range-kept _ _ most_tests n kept).most in
       gives-weaker (λ h l. tests-read n h kept l)
-      (gives-repeat (TestLoop n) (test counts) n (withTests n g) (λ j h less l. test-sound n j h room less l)
+      (gives-repeat (TestLoop n) (test counts) n (with_tests n g) (λ j h less l. test-sound n j h room less l)
       (record {
         tests = refl;
-        filled = subst (λ (k : ℕ). TestsFilled counts k g.component g.mask) (s.no-tests (omega arith)) s.tests-kept.filled;
-        inputs-kept = s.inputs-kept;
-        no-gates = s.no-gates (omega arith);
+        filled = subst (λ (k : ℕ). TestsFilled counts k g.component g.mask) (s.no_tests (omega arith)) s.tests_kept.filled;
+        inputs_kept = s.inputs_kept;
+        without_gates = s.without_gates (omega arith);
       })))
 
   -- j of n gate inputs are read
   record InputLoop (n j : ℕ) (g : Gate) : Type 0 where
     gates : g.gates ≡ n
     filled : InputsFilled number j g.input
-    tests-kept : TestsKept g.tests g.component g.mask
+    tests_kept : TestsKept g.tests g.component g.mask
 
-  input-sound : (n j : ℕ) (g : Gate) → n ≤ mostGateInputs → j < n → InputLoop n j g → Gives (input number j g) (InputLoop n (j + 1))
+  input-sound : (n j : ℕ) (g : Gate) → n ≤ most_gate_inputs → j < n → InputLoop n j g → Gives (input number j g) (InputLoop n (j + 1))
   unfolding input
   input-sound n j g room h l =
-      gives-judged byte (aheadFault number) (λ lower. withInput j lower g)
-      (λ lower kept. record { gates = l.gates; filled = filled_more l.filled (omega arith) kept; tests-kept = l.tests-kept })
+      gives-judged byte (ahead_fault number) (λ lower. with_input j lower g)
+      (λ lower kept. record { gates = l.gates; filled = filled_more l.filled (omega arith) kept; tests_kept = l.tests_kept })
 
-  inputs_read : (n : ℕ) (g : Gate) → inputsFault mostGateInputs n ≡ 0 → InputLoop n n g → SoFar 3 g
+  inputs_read : (n : ℕ) (g : Gate) → inputs_fault most_gate_inputs n ≡ 0 → InputLoop n n g → SoFar 3 g
   inputs_read n g kept l =
       record {
-        tests-kept = l.tests-kept;
-        inputs-kept =
+        tests_kept = l.tests_kept;
+        inputs_kept =
             record {
-              count = rw l.gates (unless-none 0 n (inputsFault mostGateInputs n) kept);
+              count = rw l.gates (unless-none 0 n (inputs_fault most_gate_inputs n) kept);
               filled = subst (λ (k : ℕ). InputsFilled number k g.input) (sym l.gates) l.filled;
             };
-        no-tests = λ e. absurd (omega arith);
-        no-gates = λ e. absurd (omega arith);
+        no_tests = λ e. absurd (omega arith);
+        without_gates = λ e. absurd (omega arith);
       }
 
   inputs-sound : (g : Gate) → SoFar 2 g → Gives (inputs number g) (SoFar 3)
   unfolding inputs
   inputs-sound g s =
-      gives_then (count-sound mostGateInputs)
+      gives_then (count-sound most_gate_inputs)
       (λ n kept.
-      let room = (range-kept _ _ mostGateInputs n kept).most in
+      let room = (range-kept _ _ most_gate_inputs n kept).most in
       gives-weaker (λ h l. inputs_read n h kept l)
-      (gives-repeat (InputLoop n) (input number) n (withGates n g) (λ j h less l. input-sound n j h room less l)
+      (gives-repeat (InputLoop n) (input number) n (with_gates n g) (λ j h less l. input-sound n j h room less l)
       (record {
         gates = refl;
-        filled = subst (λ (k : ℕ). InputsFilled number k g.input) (s.no-gates (omega arith)) s.inputs-kept.filled;
-        tests-kept = s.tests-kept;
+        filled = subst (λ (k : ℕ). InputsFilled number k g.input) (s.without_gates (omega arith)) s.inputs_kept.filled;
+        tests_kept = s.tests_kept;
       })))
 
-  field-sound : (k : ℕ) (g : Gate) → 2 ^ k < gateMaps → SoFar k g → Gives (gateField counts number k g) (SoFar (k + 1))
-  unfolding gateField
+  field-sound : (k : ℕ) (g : Gate) → 2 ^ k < gate_maps → SoFar k g → Gives (gate_field counts number k g) (SoFar (k + 1))
+  unfolding gate_field
   field-sound k g meant s =
       gives-cond (eqb k 0) (λ e. rw (eqb-true k 0 e) (threshold-sound g (rw (eqb-true k 0 e) at s)))
       (λ not0.
@@ -217,11 +217,11 @@ module _ (counts : List ℕ) (number : ℕ) where
   pub gate-sound : Gives (gate counts number) (WholeGate (SoundGate counts number))
   unfolding gate
   gate-sound =
-      gives_then (gives-fields SoFar gateMaps (gateField counts number) absentGate start field-sound passed)
+      gives_then (gives-fields SoFar gate_maps (gate_field counts number) absent_gate start field-sound passed)
       (λ g s.
-      let tests = s.tests-kept in
-      let inputs = s.inputs-kept in
-      gives-judge (thresholdFault (inputCount g) g.threshold)
+      let tests = s.tests_kept in
+      let inputs = s.inputs_kept in
+      gives-judge (threshold_fault (input_count g) g.threshold)
       (λ within.
       gives-return
       (record {

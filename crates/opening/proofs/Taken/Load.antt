@@ -1,13 +1,13 @@
 -- A load record takes at most ten bytes: the map, the loss gate, and four each for the customers and the minutes.
 use Prim.Native.Nat.{ℕ, zero, suc, min, ◌+◌, ◌-◌, ◌*◌, ◌^◌, ◌<◌, ◌≤◌}
 use native.Mathlib.Omega.{arith}
-use Rattle.rules.specs.Limits.{loadMaps, mostCustomers, mostMinutes}
-use Rattle.rules.specs.Table.{noGateFault, sizeFault}
+use Rattle.rules.specs.Limits.{load_maps, most_customers, most_minutes}
+use Rattle.rules.specs.Table.{no_gate_fault, size_fault}
 use Rattle.reading.proofs.Ends.{Ends, bit-meant, ends-weaker}
 use Rattle.reading.proofs.Takes.{Refusal, Takes, judges, ends-record, takes-byte, takes-word, takes-return, takes-then, takes-judged}
-use Rattle.load_record.specs.Load.{lossGate, size, customers, minutes, loadField, load}
+use Rattle.load_record.specs.Load.{loss_gate, size, customers, minutes, load_field, load}
 use Rattle.study.specs.declared.Load.{Load}
-use Rattle.study.specs.Absent.{absentLoad}
+use Rattle.study.specs.Absent.{absent_load}
 
 -- the bytes before bit k: bit 0 has one, and bits 1 and 2 have four
 abbrev before : ℕ → Load → ℕ
@@ -16,23 +16,23 @@ before k l = 1 + (4 * min k 3 - 3)
 module _ {Short : Type 0} where
   size-taken : (most : ℕ) → Takes Short 4 (size most)
   unfolding size
-  size-taken most = takes-judged (sizeFault most) (λ n. n) (λ n. judges _ _ tt) takes-word
+  size-taken most = takes-judged (size_fault most) (λ n. n) (λ n. judges _ _ tt) takes-word
 
-  gate-taken : (gates : ℕ) (l : Load) → Takes Short 1 (lossGate gates l)
-  unfolding lossGate
-  gate-taken gates l = takes-judged (noGateFault gates) _ (λ n. judges _ _ tt) takes-byte
+  gate-taken : (gates : ℕ) (l : Load) → Takes Short 1 (loss_gate gates l)
+  unfolding loss_gate
+  gate-taken gates l = takes-judged (no_gate_fault gates) _ (λ n. judges _ _ tt) takes-byte
 
   customers-taken : (l : Load) → Takes Short 4 (customers l)
   unfolding customers
-  customers-taken l = takes-then (size-taken mostCustomers) (λ n. takes-return _)
+  customers-taken l = takes-then (size-taken most_customers) (λ n. takes-return _)
 
   minutes-taken : (l : Load) → Takes Short 4 (minutes l)
   unfolding minutes
-  minutes-taken l = takes-then (size-taken mostMinutes) (λ n. takes-return _)
+  minutes-taken l = takes-then (size-taken most_minutes) (λ n. takes-return _)
 
-  field-taken : (gates k : ℕ) (l : Load) (left : ℕ) → 2 ^ k < loadMaps → (before k l + left < 10 → Short)
-      → Ends (Refusal Short) left (loadField gates k l) (λ b rest. before k l + left ≤ before (k + 1) b + rest)
-  unfolding loadField
+  field-taken : (gates k : ℕ) (l : Load) (left : ℕ) → 2 ^ k < load_maps → (before k l + left < 10 → Short)
+      → Ends (Refusal Short) left (load_field gates k l) (λ b rest. before k l + left ≤ before (k + 1) b + rest)
+  unfolding load_field
   field-taken gates zero l left meant few = ends-weaker (λ b rest h. omega arith) ((gate-taken gates l).takes left (λ less. few (omega arith)))
   field-taken gates (suc zero) l left meant few = ends-weaker (λ b rest h. omega arith) ((customers-taken l).takes left (λ less. few (omega arith)))
   field-taken gates (suc (suc zero)) l left meant few = ends-weaker (λ b rest h. omega arith) ((minutes-taken l).takes left (λ less. few (omega arith)))
@@ -44,5 +44,5 @@ module _ {Short : Type 0} where
       record {
         takes =
             λ n few.
-            ends-record before 10 loadMaps (loadField gates) absentLoad (omega arith) (λ k l. omega arith) (field-taken gates) (omega arith) few;
+            ends-record before 10 load_maps (load_field gates) absent_load (omega arith) (λ k l. omega arith) (field-taken gates) (omega arith) few;
       }

@@ -1,5 +1,5 @@
 -- `opening::count_at` meets its contract: the byte is read, then its rule is judged; a count that is not refused keeps it.
-use Rattle.rules.specs.Table.{countFault}
+use Rattle.rules.specs.Table.{count_fault}
 use Rattle.rules.proofs.Kept.{range-kept}
 use Rattle.reading.specs.Reader.{byte}
 use Rattle.reading.proofs.After.{kept-last}
@@ -13,7 +13,7 @@ unfolding count
 returns c =
     let read = c.before.before.byte_at.ensures in
     let rule = c.before.count-fault.ensures in
-    kept-last byte (countFault _) (λ n kept. (range-kept _ _ _ n kept).most) read rule c.first.ensures
+    kept-last byte (count_fault _) (λ n kept. (range-kept _ _ _ n kept).most) read rule c.first.ensures
 
 pub count-at-spec : {M : Type 1} → statement M
 count-at-spec = tie.close (tie.spec asks_nothing asks_nothing asks_nothing returns)

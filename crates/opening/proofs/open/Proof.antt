@@ -5,18 +5,18 @@ use mathlib.Core.List.{List}
 use lib.ListN.{length, take, drop, length-drop}
 use lib.Seq.{length-take-le}
 use borrow.Author.Rules.{rules}
-use Rattle.rules.specs.Limits.{mostComponents}
-use Rattle.rules.specs.Table.{leftFault}
+use Rattle.rules.specs.Limits.{most_components}
+use Rattle.rules.specs.Table.{left_fault}
 use Rattle.reading.proofs.Calls.{asks_nothing}
 use Rattle.reading.specs.Reader.{Read, Reads, got, repeat}
 use Rattle.study.specs.declared.Gate.{Gate}
 use Rattle.study.specs.declared.Study.{Study}
 use Rattle.study.specs.Joint.{states}
-use Rattle.study.specs.Zero.{noGates}
+use Rattle.study.specs.Zero.{no_gates}
 use Rattle.gate_order.specs.Order.{ordered}
-use Rattle.opening.specs.Opening.{gateRecord, placing, records, answer, opened}
+use Rattle.opening.specs.Opening.{gate_record, placing, records, answer, opened}
 use Rattle.opening.specs.Places.{CountsFit}
-use Rattle.opening.proofs.Sorting.{HeldInOrder, allInOrder, gates-in-order, held-in-order, refused-alike}
+use Rattle.opening.proofs.Sorting.{HeldInOrder, all_in_order, gates-in-order, held-in-order, refused-alike}
 use Rattle.opening.proofs.Answers.{answer-refused, answer-going, answer-left, answer-ended}
 use Rattle.opening.proofs.open.Statement.{statement}
 use Rattle.opening.proofs.open.Tie as tie
@@ -45,7 +45,7 @@ records-ahead c = (counts-read c).read-counts.ensures.ahead c.if1.false
 -- ---- the components
 
 read-components-requires : tie.Need-read-components-requires
-read-components-requires c κs = ((fits c.before.before).components-fit, refl)
+read-components-requires c κs = ((fits c.before.before).components_fit, refl)
 
 abbrev counted : tie.After-read-components → tie.Else1
 counted c = c.before.before.before
@@ -69,8 +69,8 @@ counts-enough : (c : tie.Else2)
     (counts-read (counted components)).read-counts.result.components ≤ length components.read-components.last.1.1.1.0
 counts-enough c =
     let components = components-read c in
-    let long : length components.read-components.last.1.1.1.0 ≡ mostComponents = search rules in
-    rw long (fits (counted components)).components-fit
+    let long : length components.read-components.last.1.1.1.0 ≡ most_components = search rules in
+    rw long (fits (counted components)).components_fit
 
 slice-aggregate-read-gates : tie.Need-slice-aggregate-read-gates
 slice-aggregate-read-gates c =
@@ -86,13 +86,13 @@ gates-given c =
     let components = components-read (gates-behind c) in
     let head = (counts-read (counted components)).read-counts.result in
     let cs = components.read-components.result in
-    repeat (placing (gateRecord (take head.components (states cs.component)))) head.gates noGates
+    repeat (placing (gate_record (take head.components (states cs.component)))) head.gates no_gates
     (drop cs.next (start (counted components)).args.bytes.now)
 
 gates-in-order-read : (c : tie.After-read-gates)
     → let gates = c.read-gates.result in
     let entry = start (counted (components-read (gates-behind c))) in
-    Reads entry.args.bytes.now gates.refusal gates.next gates.gate (allInOrder (gates-given c))
+    Reads entry.args.bytes.now gates.refusal gates.next gates.gate (all_in_order (gates-given c))
 gates-in-order-read c =
     let known = (components-read (gates-behind c)).read-components.ensures.1 (gates-behind c).if2.false in
     subst (Reads _ _ _ _) (gates-in-order _ _ _) (rw known at c.read-gates.ensures)
@@ -140,8 +140,8 @@ abbrev loads-read : tie.Else4 → tie.After-read-loads
 loads-read c = c.before.before
 
 -- the study with these gates
-abbrev studyWith : tie.Else4 → List Gate → Study
-studyWith c gates =
+abbrev study_with : tie.Else4 → List Gate → Study
+study_with c gates =
     let components = components-read (gates-behind (gates-read (gates-kept (loads-read c)))) in
     let head = (counts-read (counted components)).read-counts.result in
     record {
@@ -157,7 +157,7 @@ studyWith c gates =
 end-ahead : (c : tie.Else4)
     → let kept = gates-kept (loads-read c) in
     let bytes = (start (counted (components-read (gates-behind (gates-read kept))))).args.bytes.now in
-    answer (got (studyWith c (gates-held kept).given) (drop (loads-read c).read-loads.result.next bytes)) ≡ opened bytes
+    answer (got (study_with c (gates-held kept).given) (drop (loads-read c).read-loads.result.next bytes)) ≡ opened bytes
 unfolding records
 end-ahead c =
     let kept = gates-kept (loads-read c) in
@@ -171,8 +171,8 @@ end-ahead c =
 judged : (c : tie.After-left-fault)
     → let loads = loads-read c.before.before in
     let bytes = (start (counted (components-read (gates-behind (gates-read (gates-kept loads)))))).args.bytes.now in
-    c.left-fault.result ≡ leftFault (length (drop loads.read-loads.result.next bytes))
-judged c = rw length-drop (c.left-fault.ensures ∙ ap leftFault c.before.bytes_left.ensures)
+    c.left-fault.result ≡ left_fault (length (drop loads.read-loads.result.next bytes))
+judged c = rw length-drop (c.left-fault.ensures ∙ ap left_fault c.before.bytes_left.ensures)
 
 returns-5 : tie.Need-returns-5
 returns-5 c =
@@ -185,7 +185,7 @@ returns-6 c =
     let ended = c.before.before.before in
     let left = ended.before in
     let read = left.before.before in
-    answer-ended _ _ (judged left) (ap (studyWith read) (gates-held (gates-kept (loads-read read))).in_order) ended.if5.false ∙ end-ahead read
+    answer-ended _ _ (judged left) (ap (study_with read) (gates-held (gates-kept (loads-read read))).in_order) ended.if5.false ∙ end-ahead read
 
 pub open_spec : {M : Type 1} → statement M
 open_spec =
@@ -202,11 +202,11 @@ open_spec =
     counts-enough
     slice-aggregate-read-gates
     (λ c. search rules)
-    (λ c κs. (fits (counted (components-read c.before.before))).gates-fit)
+    (λ c κs. (fits (counted (components-read c.before.before))).gates_fit)
     asks_nothing
     returns-3
     (λ c. search rules)
-    (λ c κs. (fits (counted (components-read (gates-behind (gates-read c.before))))).loads-fit)
+    (λ c κs. (fits (counted (components-read (gates-behind (gates-read c.before))))).loads_fit)
     asks_nothing
     returns-4
     asks_nothing

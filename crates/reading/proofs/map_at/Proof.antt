@@ -1,19 +1,19 @@
 -- `reading::map_at` meets its contract: the byte is read, then its rule is judged; a map that is not refused keeps it.
-use Rattle.rules.specs.Table.{strayFault}
+use Rattle.rules.specs.Table.{stray_fault}
 use Rattle.rules.proofs.Kept.{refuse-kept}
 use borrow.Author.Tests.{leb-false}
 use Rattle.reading.specs.Reader.{byte}
-use Rattle.reading.specs.Fields.{mapByte}
+use Rattle.reading.specs.Fields.{map_byte}
 use Rattle.reading.proofs.After.{kept-last}
 use Rattle.reading.proofs.Calls.{asks_nothing}
 use Rattle.reading.proofs.map_at.Statement.{statement}
 use Rattle.reading.proofs.map_at.Tie as tie
 
 returns : tie.Need-returns
-unfolding mapByte
+unfolding map_byte
 returns c =
     let read = c.before.before.byte_at.ensures in
-    kept-last byte (strayFault _) (λ map kept. leb-false _ map (refuse-kept _ _ kept)) read c.before.stray-fault.ensures c.first.ensures
+    kept-last byte (stray_fault _) (λ map kept. leb-false _ map (refuse-kept _ _ kept)) read c.before.stray-fault.ensures c.first.ensures
 
 pub map-at-spec : {M : Type 1} → statement M
 map-at-spec = tie.close (tie.spec asks_nothing asks_nothing asks_nothing returns)

@@ -4,7 +4,7 @@ use mathlib.Core.Path.{◌≡◌, sym}
 use native.Mathlib.Omega.{arith}
 use lib.ListN.{length}
 use lib.Seq.{length-take-le}
-use Rattle.report_text.specs.Report.{reportBytes}
+use Rattle.report_text.specs.Report.{report_bytes}
 use Rattle.report_text.proofs.Reported.{report-inside}
 use borrow.Author.Rules.{rules}
 use Rattle.report.proofs.main.Statement.{statement}
@@ -24,7 +24,7 @@ emptied c =
 inside : (c : tie.After-answer) → c.answer.given.0.0 ≤ length (reported c).report.new.1.0
 inside c =
     let call = reported c in
-    let same : length call.report.last.1.0 ≡ reportBytes = search rules in
+    let same : length call.report.last.1.0 ≡ report_bytes = search rules in
     let whole = (emptied call).empty-text.ensures in
     omega (arith, report-inside _ _ _ _ _ _ call.report.ensures.0 c.answer.given.1, same, whole)
 

@@ -11,20 +11,20 @@ use Rattle.lists.specs.Rows.{joined}
 use Rattle.lists.specs.Tabulate.{tabulate}
 use Rattle.lists.proofs.Joined.{joined-last}
 use Rattle.lists.proofs.Tabulated.{tabulate-alike}
-use Rattle.rules.specs.Limits.{mostComponents, mostGates, mostLoads}
-use Rattle.rules.specs.Table.{countFault, widthFault}
+use Rattle.rules.specs.Limits.{most_components, most_gates, most_loads}
+use Rattle.rules.specs.Table.{count_fault, width_fault}
 use Rattle.rules.proofs.Rows.{count_kept}
 use Rattle.study.specs.declared.Component.{Component}
 use Rattle.study.specs.declared.Study.{Study}
 use Rattle.study.specs.Joint.{states}
-use Rattle.study.specs.Places.{noGate}
-use Rattle.study.specs.Zero.{zeroComponent, zeroLoad, noComponents, noGates, noLoads}
-use Rattle.study_bytes.specs.Written.{componentBytes, gateBytes, loadBytes, componentsBytes, gatesBytes, loadsBytes, studyBytes}
+use Rattle.study.specs.Places.{no_gate}
+use Rattle.study.specs.Zero.{zero_component, zero_load, no_components, no_gates, no_loads}
+use Rattle.study_bytes.specs.Written.{component_bytes, gate_bytes, load_bytes, components_bytes, gates_bytes, loads_bytes, study_bytes}
 use Rattle.reading.specs.Reader.{Read, Reader, repeat}
 use Rattle.reading.proofs.Ends.{EndsIn, Ends, ends-then, ends_return, ends-weaker, ends-byte, ends-judge, ends-repeat}
 use Rattle.reading.proofs.Held.{Any}
 use Rattle.reading.proofs.Takes.{Counts}
-use Rattle.opening.specs.Opening.{count, componentAfter, componentRecord, gateRecord, loadRecord, placing, records, study}
+use Rattle.opening.specs.Opening.{count, component_after, component_record, gate_record, load_record, placing, records, study}
 use Rattle.round_trip.specs.Laws.{NoneShorter}
 use Rattle.round_trip.proofs.Costs.Component.{component-costs}
 use Rattle.round_trip.proofs.Costs.Gate.{gate-costs}
@@ -34,10 +34,10 @@ use Rattle.round_trip.proofs.Costs.Load.{load-costs}
 
 module _ {A : Type 0} (d : A) (bytes : A → List ℕ) (most : ℕ) where
   -- the first k, one behind the other
-  abbrev placesBytes : ℕ → List A → List ℕ
-  placesBytes k l = joined (tabulate (λ (i : ℕ). bytes (get_or l i d)) k)
+  abbrev places_bytes : ℕ → List A → List ℕ
+  places_bytes k l = joined (tabulate (λ (i : ℕ). bytes (get_or l i d)) k)
 
-  place-more : (l : List A) (k : ℕ) (a : A) → k < length l → length (placesBytes (k + 1) (set l k a)) ≡ length (placesBytes k l) + length (bytes a)
+  place-more : (l : List A) (k : ℕ) (a : A) → k < length l → length (places_bytes (k + 1) (set l k a)) ≡ length (places_bytes k l) + length (bytes a)
   unfolding tabulate
   place-more l k a inside =
       let now : ℕ → List ℕ = λ i. bytes (get_or (set l k a) i d) in
@@ -51,11 +51,11 @@ module _ {A : Type 0} (d : A) (bytes : A → List ℕ) (most : ℕ) where
   -- of n bytes, k records are read into their places
   record Placed (n k : ℕ) (l : List A) (left : ℕ) : Type 0 where
     long : length l ≡ most
-    costs : length (placesBytes k l) + left ≤ n
+    costs : length (places_bytes k l) + left ≤ n
 
   places-cost : (reader : ℕ → List A → Reader A) (none : List A) (turns n : ℕ) → turns ≤ most → length none ≡ most
       → ((k : ℕ) (l : List A) (left : ℕ) → Ends Any left (reader k l) (λ a rest. length (bytes a) + rest ≤ left))
-      → Ends Any n (repeat (placing reader) turns none) (λ l left. length (placesBytes turns l) + left ≤ n)
+      → Ends Any n (repeat (placing reader) turns none) (λ l left. length (places_bytes turns l) + left ≤ n)
   unfolding joined tabulate
   places-cost reader none turns n room long each-costs =
       ends-weaker (λ l left placed. placed.costs)
@@ -72,44 +72,44 @@ module _ {A : Type 0} (d : A) (bytes : A → List ℕ) (most : ℕ) where
 
 -- ---- the study
 
-component-record-costs : (i : ℕ) (cs : List Component) (n : ℕ) → Ends Any n (componentRecord i cs) (λ c left. length (componentBytes c) + left ≤ n)
-unfolding componentRecord componentAfter
+component-record-costs : (i : ℕ) (cs : List Component) (n : ℕ) → Ends Any n (component_record i cs) (λ c left. length (component_bytes c) + left ≤ n)
+unfolding component_record component_after
 component-record-costs i cs n =
     ends-then (component-costs n)
-    (λ c left h. ends-judge (widthFault (product (take i (states cs)) * c.states)) (λ broken. tt) (λ kept. ends_return h))
+    (λ c left h. ends-judge (width_fault (product (take i (states cs)) * c.states)) (λ broken. tt) (λ kept. ends_return h))
 
 count-costs : (most n : ℕ) → Ends Any n (count most) (Counts n most)
 unfolding count
 count-costs most n =
     ends-then (ends-byte n (λ none. tt))
     (λ v left e.
-    ends-judge (countFault most v) (λ broken. tt) (λ kept. ends_return (record { within = count_kept most v kept; taken = e })))
+    ends-judge (count_fault most v) (λ broken. tt) (λ kept. ends_return (record { within = count_kept most v kept; taken = e })))
 
-study-size : (t : Study) → length (studyBytes t) ≡ 3 + length (componentsBytes t) + length (gatesBytes t) + length (loadsBytes t)
-unfolding studyBytes
+study-size : (t : Study) → length (study_bytes t) ≡ 3 + length (components_bytes t) + length (gates_bytes t) + length (loads_bytes t)
+unfolding study_bytes
 study-size t =
-    omega (arith, length-append (componentsBytes t) (gatesBytes t ++ loadsBytes t), length-append (gatesBytes t) (loadsBytes t))
+    omega (arith, length-append (components_bytes t) (gates_bytes t ++ loads_bytes t), length-append (gates_bytes t) (loads_bytes t))
 
-reading-costs : (n : ℕ) → Ends Any n study (λ t left. length (studyBytes t) + left ≤ n)
-unfolding study records noComponents noGates noLoads
+reading-costs : (n : ℕ) → Ends Any n study (λ t left. length (study_bytes t) + left ≤ n)
+unfolding study records no_components no_gates no_loads
 reading-costs n =
-    ends-then (count-costs mostComponents n)
+    ends-then (count-costs most_components n)
     (λ components n1 c.
-    ends-then (count-costs mostGates n1)
+    ends-then (count-costs most_gates n1)
     (λ gates n2 g.
-    ends-then (count-costs mostLoads n2)
+    ends-then (count-costs most_loads n2)
     (λ loads n3 l.
-    ends-then (places-cost zeroComponent componentBytes mostComponents componentRecord noComponents components n3 c.within.most refl component-record-costs)
+    ends-then (places-cost zero_component component_bytes most_components component_record no_components components n3 c.within.most refl component-record-costs)
     (λ cs n4 hc.
     let counts = take components (states cs) in
-    ends-then (places-cost noGate gateBytes mostGates (gateRecord counts) noGates gates n4 g.within.most refl (λ i gs. gate-costs counts i))
+    ends-then (places-cost no_gate gate_bytes most_gates (gate_record counts) no_gates gates n4 g.within.most refl (λ i gs. gate-costs counts i))
     (λ gs n5 hg.
-    ends-then (places-cost zeroLoad loadBytes mostLoads (loadRecord gates) noLoads loads n5 l.within.most refl (λ j ls. load-costs gates))
+    ends-then (places-cost zero_load load_bytes most_loads (load_record gates) no_loads loads n5 l.within.most refl (λ j ls. load-costs gates))
     (λ ls left hl.
     let t : Study = record { components = components; gates = gates; loads = loads; component = cs; gate = gs; load = ls } in
     ends_return (omega (arith, study-size t, c.taken, g.taken, l.taken, hc, hg, hl))))))))
 
 pub study-costs : NoneShorter
 study-costs bytes t rest e =
-    subst (λ (r : Read Study). EndsIn Any (λ (u : Study) (left : ℕ). length (studyBytes u) + left ≤ length bytes) r) e
+    subst (λ (r : Read Study). EndsIn Any (λ (u : Study) (left : ℕ). length (study_bytes u) + left ≤ length bytes) r) e
     ((reading-costs (length bytes)).ends bytes refl)

@@ -7,9 +7,9 @@ use lib.Seq.{length-take-le}
 use borrow.Author.Tests.{ne_eqb}
 use borrow.Author.Rules.{rules}
 use Rattle.rules.specs.Breach.{first}
-use Rattle.rules.specs.Limits.{mostComponents}
+use Rattle.rules.specs.Limits.{most_components}
 use Rattle.study.specs.declared.Study.{Study}
-use Rattle.soundness.specs.Check.{frontFault, restFault, sound}
+use Rattle.soundness.specs.Check.{front_fault, rest_fault, sound}
 use Rattle.soundness.proofs.Front.{components-most, counts-most}
 use Rattle.soundness.proofs.is_sound.Statement.{statement}
 use Rattle.soundness.proofs.is_sound.Tie as tie
@@ -19,14 +19,14 @@ use Rattle.soundness.proofs.is_sound.Tie as tie
 abbrev study : tie.After-struct-known → Study
 study c = c.before.before.before.before.before.args.t
 
-front-none : (c : tie.After-struct-known) → frontFault (study c) ≡ 0
+front-none : (c : tie.After-struct-known) → front_fault (study c) ≡ 0
 front-none c =
     let judged = c.before.before.before in
     sym judged.before.front-fault.ensures ∙ judged.if1.false
 
 room : (c : tie.After-struct-known) → (study c).components ≤ length c.before.state-counts.result
 room c =
-    let places : length c.before.state-counts.result ≡ mostComponents = search rules in
+    let places : length c.before.state-counts.result ≡ most_components = search rules in
     rw places (components-most (study c) (front-none c))
 
 -- the counts in use are as many as the components
@@ -59,8 +59,8 @@ width c = c.before.before.before.before.before
 abbrev known : tie.After-width-fault → tie.After-struct-known
 known c = c.before.before.before
 
-rest-is : (c : tie.After-first-of-three) → c.first-of-three.result ≡ restFault (study (known (width c)))
-unfolding restFault
+rest-is : (c : tie.After-first-of-three) → c.first-of-three.result ≡ rest_fault (study (known (width c)))
+unfolding rest_fault
 rest-is c = cc
 
 returns-2 : tie.Need-returns-2

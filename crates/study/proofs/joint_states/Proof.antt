@@ -9,7 +9,7 @@ use native.Mathlib.Omega.{arith}
 use lib.ListN.{length, get_or, drop, drop_of_length-le}
 use lib.Seq.{drop-cons}
 use lib.Dec.{lit<}
-use Rattle.rules.specs.Limits.{mostComponents, mostStates}
+use Rattle.rules.specs.Limits.{most_components, most_states}
 use Rattle.lists.specs.Product.{product}
 use Rattle.study.proofs.joint_states.Statement.{statement}
 use Rattle.study.proofs.joint_states.Tie as tie
@@ -18,9 +18,9 @@ use Rattle.study.proofs.joint_states.Tie as tie
 record JointLeft (counts : List ℕ) (i joint : ℕ) : Type 0 where
   inside : i ≤ length counts
   left : joint * product (drop i counts) ≡ product counts
-  bound : joint ≤ mostStates ^ i
+  bound : joint ≤ most_states ^ i
 
-joint-more : (counts : List ℕ) (i joint : ℕ) → JointLeft counts i joint → ((k : ℕ) → k < length counts → get_or counts k 0 ≤ mostStates) → i < length counts
+joint-more : (counts : List ℕ) (i joint : ℕ) → JointLeft counts i joint → ((k : ℕ) → k < length counts → get_or counts k 0 ≤ most_states) → i < length counts
     → JointLeft counts (i + 1) (joint * get_or counts i 0)
 unfolding product
 joint-more counts i joint l four h =
@@ -36,7 +36,7 @@ unfolding product
 joint-done counts i joint l h = sym (mul-one joint) ∙ ap (λ (rest : List ℕ). joint * product rest) (sym (drop_of_length-le counts h)) ∙ l.left
 
 -- as many counts as there are component places
-joint-fits : (i joint : ℕ) → joint ≤ mostStates ^ i → i ≤ mostComponents → joint ≤ mostStates ^ mostComponents
+joint-fits : (i joint : ℕ) → joint ≤ most_states ^ i → i ≤ most_components → joint ≤ most_states ^ most_components
 joint-fits i joint h most = le_trans h (pow-le-pow_right (lit< tt) most)
 
 abbrev invariant-loop : tie.invariant-loop
@@ -55,7 +55,7 @@ shared-slice-read-joint c = omega arith
 cast-joint : tie.Need-overflow-cast-joint invariant-loop decreases-loop
 cast-joint c = omega (arith, c.shared-slice-known.given c.before.before.loop.i)
 
-few : (c : tie.In-loop invariant-loop decreases-loop) → length c.before.before.args.counts.now ≤ mostComponents
+few : (c : tie.In-loop invariant-loop decreases-loop) → length c.before.before.args.counts.now ≤ most_components
 few c = c.before.before.requires.0
 
 loop-again : tie.Need-loop-preserved invariant-loop decreases-loop

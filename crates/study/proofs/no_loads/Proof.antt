@@ -1,11 +1,11 @@
 -- `study::no_loads` meets its contract: the literal is the definition, written out.
 use mathlib.Core.Path.{refl}
-use Rattle.study.specs.Zero.{noLoads}
+use Rattle.study.specs.Zero.{no_loads}
 use Rattle.study.proofs.no_loads.Statement.{statement}
 use Rattle.study.proofs.no_loads.Tie as tie
 
 returns : tie.Need-returns
-unfolding noLoads
+unfolding no_loads
 returns c = refl
 
 pub no-loads-spec : {M : Type 1} → statement M

@@ -6,22 +6,22 @@ use native.Mathlib.Omega.{arith}
 use lib.ListN.{length, set, length-map, get_or-map}
 use borrow.Author.Rules.{rules}
 use Rattle.lists.proofs.Filling.{Filling, filling-start, filling-more, filling-done}
-use Rattle.rules.specs.Limits.{mostComponents}
+use Rattle.rules.specs.Limits.{most_components}
 use Rattle.study.specs.declared.Component.{Component}
 use Rattle.study.specs.Joint.{states}
-use Rattle.study.specs.Zero.{zeroComponent}
+use Rattle.study.specs.Zero.{zero_component}
 use Rattle.study.proofs.state_counts.Statement.{statement}
 use Rattle.study.proofs.state_counts.Tie as tie
 
 -- as many counts as component places
-long : (component : List Component) → length component ≡ mostComponents → length (states component) ≡ mostComponents
+long : (component : List Component) → length component ≡ most_components → length (states component) ≡ most_components
 long component places = length-map component (λ (c : Component). c.states) ∙ places
 
 abbrev invariant-loop : tie.invariant-loop
-invariant-loop component counts₀ i₀ counts i = (length (states component) ≡ mostComponents) × Filling (states component) i counts
+invariant-loop component counts₀ i₀ counts i = (length (states component) ≡ most_components) × Filling (states component) i counts
 
 abbrev decreases-loop : tie.decreases-loop
-decreases-loop component counts₀ i₀ counts i = mostComponents - i
+decreases-loop component counts₀ i₀ counts i = most_components - i
 
 loop-holds : tie.Need-loop-init invariant-loop decreases-loop
 loop-holds c =
@@ -43,7 +43,7 @@ loop-again c =
     let component = c.before.before.args.t1 in (
       at.invariant.0,
       subst (λ (n : ℕ). Filling (states component) (at.i + 1) (set at.counts at.i n))
-          (get_or-map (λ (k : Component). k.states) component at.i zeroComponent)
+          (get_or-map (λ (k : Component). k.states) component at.i zero_component)
           (filling-more 0 at.invariant.1 (rw at.invariant.0 c.loop-test.true)),
     )
 

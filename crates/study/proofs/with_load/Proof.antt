@@ -4,13 +4,13 @@ use lib.ListN.{length}
 use lib.Seq.{set_out}
 use borrow.Author.Rules.{rules}
 use Rattle.lists.proofs.Maps.{mapped}
-use Rattle.rules.specs.Limits.{mostLoads}
+use Rattle.rules.specs.Limits.{most_loads}
 use Rattle.study.proofs.with_load.Statement.{statement}
 use Rattle.study.proofs.with_load.Tie as tie
 
 returns : tie.Need-returns
 returns c =
-    let places : length c.before.args.t.load ≡ mostLoads = search (mapped, rules) in
+    let places : length c.before.args.t.load ≡ most_loads = search (mapped, rules) in
     rw (set_out c.before.args.t.load c.before.args.j c.before.args.l (rw places c.if1.true))
 
 pub with-load-spec : {M : Type 1} → statement M

@@ -1,11 +1,11 @@
 -- `study::zero_study` meets its contract: its arrays are the callees'.
 use borrow.Author.Rules.{rules}
-use Rattle.study.specs.Zero.{zeroStudy}
+use Rattle.study.specs.Zero.{zero_study}
 use Rattle.study.proofs.zero_study.Statement.{statement}
 use Rattle.study.proofs.zero_study.Tie as tie
 
 returns : tie.Need-returns
-unfolding zeroStudy
+unfolding zero_study
 returns c = cc
 
 pub zero-study-spec : {M : Type 1} → statement M

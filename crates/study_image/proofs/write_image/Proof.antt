@@ -3,7 +3,7 @@ use Prim.Native.Nat.{ℕ}
 use mathlib.Core.List.{List}
 use native.Mathlib.Omega.{arith}
 use Rattle.text.proofs.Pieces.{Pieces, pieces-start, pieces_room, pieces_more, pieces-done}
-use Rattle.study_image.specs.Image.{studyFields, image_of}
+use Rattle.study_image.specs.Image.{study_fields, image_of}
 use Rattle.study_image.specs.Fits.{StudyFits}
 use Rattle.study_image.proofs.Owned.{study-fits}
 use Rattle.study_image.proofs.Widths.{image-long}
@@ -31,7 +31,7 @@ fits s = study-fits _ _ s.well-formed.0
 
 -- the fields below k are written
 abbrev Written : tie.Start → ℕ → List ℕ → ℕ → Type 0
-Written s k d p = Pieces (studyFields s.args.t) s.args.image.now 0 k d p
+Written s k d p = Pieces (study_fields s.args.t) s.args.image.now 0 k d p
 
 written0 : (s : tie.Start) → Written s 0 s.args.image.now 0
 unfolding image_of

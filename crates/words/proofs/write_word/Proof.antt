@@ -25,7 +25,7 @@ use Rattle.text.specs.Writing.{Room}
 use Rattle.text.proofs.copy.Symbol as copy-def
 use Rattle.text.proofs.copy.Symbol.{name as #text·copy}
 use Rattle.text.proofs.copy.Met as copy_thm
-use Rattle.words.specs.Words.{refusalWord}
+use Rattle.words.specs.Words.{refusal_word}
 use Rattle.words.proofs.Copied.{Copy}
 use Rattle.words.specs.contracts.write_word.Key.{name as #words·write-word}
 use Rattle.words.specs.contracts.write_word as here
@@ -43,7 +43,7 @@ module _ {M : Type 1} {𝓤 : Ura M} (𝓛 : Logic 𝓤) (mem : Memory → SProp
   write-word-walks C Λ fm known =
       walked 𝓛 here.ended stayed (here.clauses 𝓛 mem run) (WpFn 𝓤 H C Λ code.function) (λ κs. (mut_slice_vals, (uint_vals w64, (uint_vals w8, tt))))
       (λ κs. (mut_slice_Tells (named 0) κs.0 u8, (uint_Tells w64, (uint_Tells w8, tt))))
-      (λ κs qs bounds a g are. needs 𝓤 (Room a.0.now a.1.0 (refusalWord a.1.1.0)) _
+      (λ κs qs bounds a g are. needs 𝓤 (Room a.0.now a.1.0 (refusal_word a.1.1.0)) _
       (walk 𝓛 mem run κs.0 qs.0 a.0 a.1.0 a.1.1.0 are.0.0.1 are.1.0.1 are.1.1.0.1 C Λ fm known))
 
 write-word-meets : {M : Type 1} {𝓤 : Ura M} (𝓛 : Logic 𝓤) → (mem : Memory → SProp 𝓤) (run : Routine → Fun 𝓤) (𝓣 : Tables 𝓤 𝓛.H)

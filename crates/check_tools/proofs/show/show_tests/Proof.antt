@@ -1,6 +1,6 @@
 -- `check_tools::show::show_tests` is safe and ends: each place leaves fewer.
 use Prim.Native.Nat.{◌-◌}
-use Rattle.rules.specs.Limits.{mostTests}
+use Rattle.rules.specs.Limits.{most_tests}
 use borrow.Author.Rules.{rules}
 use Rattle.check_tools.proofs.show.show_tests.Statement.{statement}
 use Rattle.check_tools.proofs.show.show_tests.Tie as tie
@@ -9,7 +9,7 @@ abbrev invariant-loop : tie.invariant-loop
 invariant-loop component mask j₀ j = Unit {0}
 
 abbrev decreases-loop : tie.decreases-loop
-decreases-loop component mask j₀ j = mostTests - j
+decreases-loop component mask j₀ j = most_tests - j
 
 pub show-tests-spec : {M : Type 1} → statement M
 show-tests-spec =

@@ -8,7 +8,7 @@ use lib.ListN.{length, get_or, length-set}
 use borrow.Author.Rules.{rules}
 use borrow.Fn.Kinds.{In, Out}
 use borrow.Fn.PlainCycle.{Measures, is, falls, and}
-use Rattle.drawn_tree.specs.Filling.{branchFilled}
+use Rattle.drawn_tree.specs.Filling.{branch_filled}
 use Rattle.drawn_tree.proofs.BranchFilled.{Filled, filled-most, filled-inside, filled-part, filled_more, filled-done}
 use Rattle.drawn_tree.proofs.BranchFilled.{Ahead, ahead-start, ahead-place, ahead-one, ahead-some, ahead-most, ahead-nowhere, ahead-inside}
 use Rattle.drawn_tree.proofs.BranchFilled.{ahead-settled, ahead-blank}
@@ -66,8 +66,8 @@ module _ (t : ℕ) where
   div-size : here lts.Need-nonzero-div-size
   div-size c = ahead-some (turn c).before.loop.invariant (turn c).loop-test.true
 
-  states-most : (c : here lts.After-shared-slice-known4) → get_or (start c).args.counts.now (turn c).before.loop.next 0 < 256
-  states-most c = omega (arith, ahead-most (turn c).before.loop.invariant (turn c).loop-test.true)
+  states_most : (c : here lts.After-shared-slice-known4) → get_or (start c).args.counts.now (turn c).before.loop.next 0 < 256
+  states_most c = omega (arith, ahead-most (turn c).before.loop.invariant (turn c).loop-test.true)
 
   -- the mark is settled, and a state
   suited-inside : (c : here lts.Else2)
@@ -127,7 +127,7 @@ module _ (t : ℕ) where
   kept c = (turn c.before.before.before.before.before).before.loop.inv.kept
 
   returns : here lts.Need-returns
-  returns c = filled-done c.before.loop2.invariant c.loop2-test.false ∙ ap (branchFilled _ _ _) (kept c)
+  returns c = filled-done c.before.loop2.invariant c.loop2-test.false ∙ ap (branch_filled _ _ _) (kept c)
 
   -- no component is left
   same-length-3 : here lts.Need-same-length-3
@@ -139,13 +139,13 @@ pub +fill-branch-spec : {M : Type 1} → statement M
 +fill-branch-spec =
     close μ
     λ t. lts.spec (claims t) (at t) fill-branch.Post invariant-loop2 decreases-loop2 invariant-loop decreases-loop (loop-holds t) (λ c. c.before.loop-test.true)
-    (λ c. omega (arith, c.before.before.loop-test.true, c.before.before.before.loop.invariant.few)) (λ c. omega (arith, states-most t c))
+    (λ c. omega (arith, c.before.before.loop-test.true, c.before.before.before.loop.invariant.few)) (λ c. omega (arith, states_most t c))
     (div-size t) (λ c. search ((turn t c).loop-test.true, rules)) (λ c. search rules) (λ c. search rules) (λ c. search rules) (λ c. search rules)
     (λ c. search rules) (λ c. search rules) (loop2-holds t) (λ c. search (inside t c, rules)) (λ c. search rules) (λ c. search (inside t c, rules))
     (λ c. inside t c) (fill-branch-requires t) (λ c. search (inside t (inner t c), rules))
     (λ c. omega (arith, filled-most (inner t c).before.loop2.invariant (inner t c).loop2-test.true))
     (λ c. omega (arith, (inner t c).loop2-test.true)) (loop2-again t) (λ c. c.before.loop2.invariant.long ∙ ap length (kept t c)) (returns t)
     (λ c. ap length (turn t c.before.before).before.loop.inv.kept) (returns-2 t)
-    (λ c. omega (arith, c.if2.false, states-most t c.before.before)) (λ c. search (suited-inside t c, rules))
+    (λ c. omega (arith, c.if2.false, states_most t c.before.before)) (λ c. search (suited-inside t c, rules))
     (λ c. search (suited-inside t c, rules)) (λ c. omega (arith, (turn t c.before.before).loop-test.taken)) (loop-again t)
     (λ c. ahead-place c.before.loop.invariant c.loop-test.false) (same-length-3 t) (λ c. ahead-one c.before.loop.invariant c.loop-test.false)

@@ -7,12 +7,12 @@ use lib.ListN.{length}
 use borrow.Author.Rules.{rules}
 use borrow.Fn.Kinds.{In, Out}
 use borrow.Fn.PlainCycle.{Measures, is, falls, and}
-use Rattle.rules.specs.Table.{nodeFault}
-use Rattle.reading.proofs.After.{as_read, stopped}
+use Rattle.rules.specs.Table.{node_fault}
+use Rattle.reading.proofs.After.{as_read_lem, stopped}
 use Rattle.drawn_tree.specs.Filling.{unasked}
-use Rattle.drawn_tree.specs.Reading.{asked as Reading·asked}
+use Rattle.drawn_tree.specs.Reading.{asked as reading_asked}
 use Rattle.drawn_tree.proofs.Asked.{free-kept}
-use Rattle.drawn_tree.proofs.Steps.{drawn-short, drawn-leaf, drawn-refused, drawn-node, AtNode, at-node, fewer-left}
+use Rattle.drawn_tree.proofs.Steps.{drawn-short, drawn-leaf, drawn-refused, drawn-node, AtNode, at_node, fewer-left}
 use Rattle.drawn_tree.proofs.Steps.{Drawing, drawing-start, drawing-more, drawing-done}
 use Rattle.drawn_tree.proofs.tree.draw_tree.Reads as draw-tree
 use Rattle.drawn_tree.proofs.tree.draw_tree.Kinds as draw-tree-kinds
@@ -83,7 +83,7 @@ module _ (t : ℕ) where
   fault-is : (c : here lts.After-node-fault)
       → let byte = first (asks c.before) in
       let a = (start byte.before).args in
-      c.node-fault.result ≡ nodeFault (length a.counts.now) byte.byte_or.result.value (Reading·asked a.marks byte.byte_or.result.value)
+      c.node-fault.result ≡ node_fault (length a.counts.now) byte.byte_or.result.value (reading_asked a.marks byte.byte_or.result.value)
   fault-is c = rw (← c.before.asked.ensures) c.node-fault.ensures
 
   -- the node, from behind its count
@@ -97,7 +97,7 @@ module _ (t : ℕ) where
       AtNode a.counts.now a.marks byte.byte_or.result.value c.count_of.result
   node-is c =
       let s = start (first (asks (node c).before)).before in
-      at-node s.pre.1.0 (free-kept _ _ _ (sym (fault-is (node c)) ∙ c.before.if4.false)) c.count_of.ensures
+      at_node s.pre.1.0 (free-kept _ _ _ (sym (fault-is (node c)) ∙ c.before.if4.false)) c.count_of.ensures
 
   returns-2 : here lts.Need-returns-2
   returns-2 c = let byte = c.before.before in drawn-short _ _ _ _ _ _ _ byte.before.if1.false byte.byte_or.ensures c.if2.true
@@ -158,7 +158,7 @@ module _ (t : ℕ) where
 pub +draw-tree-spec : {M : Type 1} → statement M
 +draw-tree-spec =
     close μ
-    λ t. lts.spec (claims t) (at t) draw-tree.Post invariant-loop decreases-loop (λ c. stopped _ as_read c.if1.true) (λ c κs. search rules) (returns-2 t)
+    λ t. lts.spec (claims t) (at t) draw-tree.Post invariant-loop decreases-loop (λ c. stopped _ as_read_lem c.if1.true) (λ c κs. search rules) (returns-2 t)
     (draw-leaf-requires t) (λ c. search rules) (returns-3 t) (λ c κs. search rules) (λ c κs. search rules) (returns-4 t) (λ c κs. search rules)
     (λ c. omega (arith, marked t c.before)) (λ c. marked t c.before) (loop-holds t)
     (λ c. omega (arith, c.loop-test.true, c.before.loop.invariant.node.few)) (λ c. marked t c.before.before.before) (draw-tree-requires t) (λ c. omega (arith, (turn t c).loop-test.true, (turn t c).before.loop.invariant.node.few))

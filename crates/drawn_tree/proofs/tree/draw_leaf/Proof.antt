@@ -4,7 +4,7 @@ use mathlib.Core.List.{List}
 use borrow.Author.Rules.{rules}
 use Rattle.reading.specs.Reader.{ReadsAt}
 use Rattle.reading.proofs.After.{refused-any, kept-as, after, judged-last}
-use Rattle.drawn_tree.specs.Filling.{branchFilled, leafDrawn}
+use Rattle.drawn_tree.specs.Filling.{branch_filled, leaf_drawn}
 use Rattle.drawn_tree.proofs.tree.draw_leaf.Statement.{statement}
 use Rattle.drawn_tree.proofs.tree.draw_leaf.Tie as tie
 
@@ -21,9 +21,9 @@ marks c = (start c).args.t5
 read : (c : tie.After-first)
     → let a = (start (leaf c)).args in
     let class = (leaf c).class-or.result in
-    ReadsAt a.bytes.now a.at (leafDrawn a.counts.now a.loads (marks (leaf c)) a.table.now) c.first.result class.next
-    (branchFilled a.counts.now (marks (leaf c)) class.value a.table.now)
-unfolding leafDrawn
+    ReadsAt a.bytes.now a.at (leaf_drawn a.counts.now a.loads (marks (leaf c)) a.table.now) c.first.result class.next
+    (branch_filled a.counts.now (marks (leaf c)) class.value a.table.now)
+unfolding leaf_drawn
 read c = after _ (leaf c).class-or.ensures (judged-last _ c.before.leaf-fault.ensures) c.first.ensures
 
 returns : tie.Need-returns

@@ -13,7 +13,7 @@ write-classes-requires : tie.Need-write-classes-requires
 write-classes-requires c κs =
     let judged = c.before.before in
     let room = pair-room (sym judged.before.pair-fault.ensures ∙ judged.if1.false) in
-    (judged.before.before.before.before.before.requires, (room.in-lower, room.in-upper))
+    (judged.before.before.before.before.before.requires, (room.in_lower, room.in_upper))
 
 returns-2 : tie.Need-returns-2
 returns-2 c =

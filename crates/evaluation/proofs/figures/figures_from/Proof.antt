@@ -3,14 +3,14 @@ use Prim.Native.Nat.{ℕ}
 use mathlib.Core.Path.{◌≡◌, sym, ap, ◌∙◌}
 use mathlib.Core.List.{List}
 use lib.ListN.{take}
-use Rattle.rules.specs.Table.{customersFault}
+use Rattle.rules.specs.Table.{customers_fault}
 use Rattle.rules.proofs.Rows.{customers-kept}
 use Rattle.study.specs.declared.Load.{Load}
 use Rattle.answers.specs.declared.figures.Figures.{Figures as FigureValues}
 use Rattle.answers.specs.declared.figures.FiguresAnswer.TheVariants.{Figures, Refused}
 use Rattle.answers.proofs.Answered.{answered-done, answered-refused}
-use Rattle.indices.specs.Figures.{customersSum, figuresOf}
-use Rattle.evaluation.specs.Figures.{figuresBy}
+use Rattle.indices.specs.Figures.{customers_sum, figures_of}
+use Rattle.evaluation.specs.Figures.{figures_by}
 use borrow.Author.Rules.{rules}
 use Rattle.evaluation.proofs.figures.figures_from.Statement.{statement}
 use Rattle.evaluation.proofs.figures.figures_from.Tie as tie
@@ -20,17 +20,17 @@ start c = c.before.before.before
 
 -- the breach is that of the sum of customers
 fault-is : (c : tie.After-customers-fault)
-    → let model = (start c).args.model in c.customers-fault.result ≡ customersFault (customersSum (take model.loads model.load))
-fault-is c = c.customers-fault.ensures ∙ ap customersFault c.before.customers-sum.ensures.is
+    → let model = (start c).args.model in c.customers-fault.result ≡ customers_fault (customers_sum (take model.loads model.load))
+fault-is c = c.customers-fault.ensures ∙ ap customers_fault c.before.customers-sum.ensures.is
 
 -- with customers, the answer is the figures by them
-figures-stated : {customers : ℕ} {values : FigureValues} (lower upper : List ℕ) (loads : List Load) → customers ≡ customersSum loads
-    → customersFault customers ≡ 0 → values ≡ figuresOf customers lower upper loads → Figures values ≡ figuresBy lower upper loads
-unfolding figuresBy
+figures-stated : {customers : ℕ} {values : FigureValues} (lower upper : List ℕ) (loads : List Load) → customers ≡ customers_sum loads
+    → customers_fault customers ≡ 0 → values ≡ figures_of customers lower upper loads → Figures values ≡ figures_by lower upper loads
+unfolding figures_by
 figures-stated lower upper loads sum kept are = rw (are, sum) (sym (answered-done Refused _ _ (rw sum at kept)))
 
 returns : tie.Need-returns
-unfolding figuresBy
+unfolding figures_by
 returns c = rw (← fault-is c.before) (sym (answered-refused Refused _ _ c.if1.true))
 
 figures-of-requires : tie.Need-figures-of-requires

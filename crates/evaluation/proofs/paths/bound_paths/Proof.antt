@@ -4,11 +4,11 @@ use mathlib.Core.Path.{◌≡◌, sym, ap, ◌∙◌}
 use lib.ListN.{length}
 use Rattle.lists.specs.Rows.{put}
 use Rattle.answers.specs.declared.counts.CountAnswer.TheVariants.{Count, Refused}
-use Rattle.model.specs.InHand.{modelHeld}
+use Rattle.model.specs.InHand.{model_held}
 use Rattle.model.specs.Model.{Model}
 use Rattle.model.proofs.InHand.{held-inside, listed-values}
 use Rattle.probability.specs.Totals.{lower_bounds, upper_bounds}
-use Rattle.evaluation.specs.Rooms.{pairFault, pathsRoom}
+use Rattle.evaluation.specs.Rooms.{pair_fault, paths_room}
 use Rattle.evaluation.proofs.Bounding.{hand-boundable}
 use Rattle.evaluation.proofs.PairPut.{pair-room, pair-refused, pair-done}
 use borrow.Author.Rules.{rules}
@@ -23,13 +23,13 @@ begun c = (listed c).before.before.before.before.before.before
 
 -- the model that the class table makes
 abbrev model : tie.After-pair-fault → Model
-model c = modelHeld (begun c).args.model (begun c).args.classes.now
+model c = model_held (begun c).args.model (begun c).args.classes.now
 
 -- the breach is that of as many places as the page has paths
-fault-is : (c : tie.After-pair-fault) → c.pair-fault.result ≡ pathsRoom (model c) (begun c).args.lower.now (begun c).args.upper.now
+fault-is : (c : tie.After-pair-fault) → c.pair-fault.result ≡ paths_room (model c) (begun c).args.lower.now (begun c).args.upper.now
 fault-is c =
     let args = (begun c).args in
-    c.pair-fault.ensures ∙ ap (λ (need : ℕ). pairFault need (length args.lower.now) (length args.upper.now)) (listed c).list-whole.ensures.number
+    c.pair-fault.ensures ∙ ap (λ (need : ℕ). pair_fault need (length args.lower.now) (length args.upper.now)) (listed c).list-whole.ensures.number
 
 -- the steps in front of the writing
 abbrev kept : tie.After-table2 → tie.Else1
@@ -49,7 +49,7 @@ write-paths-requires c κs =
     let front = fronted c in
     let judged = (kept front.before).before in
     let room = pair-room (sym judged.pair-fault.ensures ∙ (kept front.before).if1.false) in
-    (rw front.first-components.ensures (hand-boundable (begun judged).pre (listed judged).list-whole.ensures), (room.in-lower, room.in-upper))
+    (rw front.first-components.ensures (hand-boundable (begun judged).pre (listed judged).list-whole.ensures), (room.in_lower, room.in_upper))
 
 returns-2 : tie.Need-returns-2
 returns-2 c =

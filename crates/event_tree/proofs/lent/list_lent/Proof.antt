@@ -5,7 +5,7 @@ use mathlib.Core.List.{List}
 use native.Mathlib.Omega.{arith}
 use lib.ListN.{length}
 use Rattle.lists.specs.Rows.{joined}
-use Rattle.rules.specs.Table.{roomFault}
+use Rattle.rules.specs.Table.{room_fault}
 use Rattle.rules.proofs.Rows.{room-kept}
 use Rattle.answers.specs.declared.counts.Listing.TheVariants.{Listed}
 use Rattle.answers.proofs.Answered.{answered-done, answered-refused, filled-done, filled-refused}
@@ -24,7 +24,7 @@ entries c = paths c.args.counts.now c.args.block.now
 
 -- the breach is that of the exact need
 fault-is : (c : tie.After-room-fault)
-    → let s = start c.before.before in c.room-fault.result ≡ roomFault (length (joined (entries s))) (length s.args.buffer.now)
+    → let s = start c.before.before in c.room-fault.result ≡ room_fault (length (joined (entries s))) (length s.args.buffer.now)
 fault-is c = room-is (start c.before.before).requires _ c.before.before.count-paths.ensures c.before.list-need.ensures c.room-fault.ensures
 
 list-need-requires : tie.Need-list-need-requires

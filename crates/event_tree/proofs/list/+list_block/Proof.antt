@@ -10,7 +10,7 @@ use borrow.Author.Rules.{rules}
 use Rattle.lists.proofs.Puts.{Due, due-done, due-end}
 use Rattle.paths.specs.Paths.{paths}
 use Rattle.paths.proofs.Sizes.{one_class}
-use Rattle.event_tree.specs.Entries.{entriesBehind}
+use Rattle.event_tree.specs.Entries.{entries_behind}
 use Rattle.event_tree.proofs.Fork.{fork, fork-fewer, fork-most, fork-inside, fork-block}
 use Rattle.event_tree.proofs.Listed.{Listed, Way, listed_start, listed-way, listed-room, listed_more, listed-all, leaf_room, leaf-done}
 use Prim.Native.Nat.{ℕ, ◌<◌}
@@ -57,7 +57,7 @@ module _ (t : ℕ) where
 
   -- all that the call is to write
   abbrev due : here lts.Start → List ℕ
-  due s = entriesBehind (take s.args.front s.args.marks.now) (paths s.args.counts.now s.args.block.now)
+  due s = entries_behind (take s.args.front s.args.marks.now) (paths s.args.counts.now s.args.block.now)
 
   abbrev leaf : here lts.After-write-entry-arg2 → here lts.Then1
   leaf c = c.before.before.before

@@ -1,8 +1,8 @@
 -- `export_losses::interruptions::figures` meets its contract: the call's own, for the study that the image holds.
 use mathlib.Core.Path.{◌≡◌}
-use Rattle.meaning.specs.Sources.{meaningOf}
-use Rattle.loss_calls.specs.Figures.{figuresGiven}
-use Rattle.study_image.specs.Image.{studyIn}
+use Rattle.meaning.specs.Sources.{meaning_of}
+use Rattle.loss_calls.specs.Figures.{figures_given}
+use Rattle.study_image.specs.Image.{study_in}
 use Rattle.export_answers.proofs.Signed.{handed-on}
 use Rattle.export_losses.specs.Figures.{TakesFigures}
 use borrow.Author.Rules.{rules}
@@ -12,7 +12,7 @@ use Rattle.export_losses.proofs.interruptions.figures.Tie as tie
 -- what the call answers
 given : (c : tie.After-figures-meant)
     → let args = c.before.before.before.before.args in
-    c.figures-meant.result ≡ figuresGiven (meaningOf args.source args.tree.now) (studyIn args.study.now)
+    c.figures-meant.result ≡ figures_given (meaning_of args.source args.tree.now) (study_in args.study.now)
 given c = rw c.before.read-image.ensures at c.figures-meant.ensures
 
 returns : tie.Need-returns

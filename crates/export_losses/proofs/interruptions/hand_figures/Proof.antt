@@ -6,7 +6,7 @@ use native.Mathlib.Omega.{arith}
 use lib.IntN.{pos}
 use lib.ListN.{length-append}
 use Rattle.answers.specs.declared.figures.Figures.{Figures as FigureValues}
-use Rattle.answers.specs.Told.{pairValues, caidiValues, figureValues}
+use Rattle.answers.specs.Told.{pair_values, caidi_values, figure_values}
 use Rattle.export_answers.specs.Answers.{pairs}
 use Rattle.export_answers.proofs.Signed.{handed}
 use borrow.Author.Rules.{rules}
@@ -28,8 +28,8 @@ abbrev maifi : tie.After-hand-caidi → tie.After-hand-pair3
 maifi c = c.before.before.before
 
 -- as many as have a pair among the values
-figures-stated : (f : FigureValues) {n : ℕ} → n ≡ 3 + pairs (caidiValues f.caidi) → n ≡ pairs (figureValues f)
-figures-stated f is = omega (arith, is, length-append (caidiValues f.caidi) (pairValues f.maifi))
+figures-stated : (f : FigureValues) {n : ℕ} → n ≡ 3 + pairs (caidi_values f.caidi) → n ≡ pairs (figure_values f)
+figures-stated f is = omega (arith, is, length-append (caidi_values f.caidi) (pair_values f.maifi))
 
 returns : tie.Need-returns
 returns c =
@@ -41,10 +41,10 @@ returns c =
     rw (matched first).answer.given.1
     (record {
       answered = handed _ c.counted.type-inv ∙ c.counted.ensures ∙ ap pos stated;
-      saifi-left = first.hand-pair.ensures;
-      saidi-left = second.hand-pair2.ensures;
-      caidi-left = last.hand-caidi.ensures.1;
-      maifi-left = third.hand-pair3.ensures;
+      saifi_left = first.hand-pair.ensures;
+      saidi_left = second.hand-pair2.ensures;
+      caidi_left = last.hand-caidi.ensures.1;
+      maifi_left = third.hand-pair3.ensures;
     })
 
 returns-2 : tie.Need-returns-2
@@ -52,10 +52,10 @@ returns-2 c =
     rw c.before.before.answer2.given.1
     (record {
       answered = handed _ c.refused.type-inv ∙ c.refused.ensures;
-      saifi-left = refl;
-      saidi-left = refl;
-      caidi-left = refl;
-      maifi-left = refl;
+      saifi_left = refl;
+      saidi_left = refl;
+      caidi_left = refl;
+      maifi_left = refl;
     })
 
 pub hand-figures-spec : {M : Type 1} → statement M

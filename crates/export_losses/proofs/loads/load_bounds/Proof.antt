@@ -1,8 +1,8 @@
 -- `export_losses::loads::load_bounds` meets its contract: the call's own, for the study that the image holds.
 use mathlib.Core.Path.{◌≡◌}
-use Rattle.meaning.specs.Sources.{meaningOf}
-use Rattle.loss_calls.specs.Bounds.{loadBounded}
-use Rattle.study_image.specs.Image.{studyIn}
+use Rattle.meaning.specs.Sources.{meaning_of}
+use Rattle.loss_calls.specs.Bounds.{load_bounded}
+use Rattle.study_image.specs.Image.{study_in}
 use Rattle.export_answers.proofs.Signed.{handed-on}
 use Rattle.export_losses.specs.Losses.{TakesPair}
 use borrow.Author.Rules.{rules}
@@ -12,7 +12,7 @@ use Rattle.export_losses.proofs.loads.load_bounds.Tie as tie
 -- what the call answers
 bounded : (c : tie.After-load-meant)
     → let args = c.before.before.before.before.args in
-    c.load-meant.result ≡ loadBounded (meaningOf args.source args.tree.now) (studyIn args.study.now) args.load
+    c.load-meant.result ≡ load_bounded (meaning_of args.source args.tree.now) (study_in args.study.now) args.load
 bounded c = rw c.before.read-image.ensures at c.load-meant.ensures
 
 returns : tie.Need-returns

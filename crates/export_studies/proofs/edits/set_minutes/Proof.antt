@@ -1,12 +1,12 @@
 -- `export_studies::edits::set_minutes` meets its contract: the edited study is kept, and the slice of a sound study has the room.
-use Rattle.editing.specs.Edits.{minutesSet, loadEditFault}
+use Rattle.editing.specs.Edits.{minutes_set, load_edit_fault}
 use borrow.Author.Rules.{rules}
 use Rattle.export_studies.proofs.Kept.{edit-keeps}
 use Rattle.export_studies.proofs.edits.set_minutes.Statement.{statement}
 use Rattle.export_studies.proofs.edits.set_minutes.Tie as tie
 
 returns : tie.Need-returns
-unfolding minutesSet loadEditFault
+unfolding minutes_set load_edit_fault
 returns c =
     let keeping = c.before.before in
     let set = keeping.before.before in

@@ -1,12 +1,12 @@
 -- `export_studies::edits::set_probabilities` meets its contract: the edited study is kept, and the slice of a sound study has the room.
-use Rattle.editing.specs.Edits.{probabilitiesSet, componentEditFault}
+use Rattle.editing.specs.Edits.{probabilities_set, component_edit_fault}
 use borrow.Author.Rules.{rules}
 use Rattle.export_studies.proofs.Kept.{edit-keeps}
 use Rattle.export_studies.proofs.edits.set_probabilities.Statement.{statement}
 use Rattle.export_studies.proofs.edits.set_probabilities.Tie as tie
 
 returns : tie.Need-returns
-unfolding probabilitiesSet componentEditFault
+unfolding probabilities_set component_edit_fault
 returns c =
     let keeping = c.before.before in
     let set = keeping.before.before in

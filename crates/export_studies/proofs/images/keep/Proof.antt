@@ -2,14 +2,14 @@
 use Prim.Native.Nat.{◌≤◌}
 use mathlib.Core.Path.{◌≡◌, sym, ap, ◌∙◌}
 use lib.ListN.{length}
-use Rattle.study_image.specs.Places.{imageBytes}
-use Rattle.study_image.specs.Image.{studyIn}
+use Rattle.study_image.specs.Places.{image_bytes}
+use Rattle.study_image.specs.Image.{study_in}
 use Rattle.study_image.proofs.ImageBack.{image-back}
 use Rattle.answers.proofs.Answered.{filled-refused, filled-done}
 use Rattle.export_answers.specs.Answers.{below}
 use Rattle.export_answers.proofs.Answering.{breach-answered}
 use Rattle.export_answers.proofs.Signed.{handed}
-use Rattle.export_studies.specs.Images.{keepFault}
+use Rattle.export_studies.specs.Images.{keep_fault}
 use Rattle.export_studies.proofs.Kept.{keep-is, keep-room}
 use borrow.Author.Rules.{rules}
 use Rattle.export_studies.proofs.images.keep.Statement.{statement}
@@ -19,15 +19,15 @@ abbrev start : tie.After-first → tie.Start
 start c = c.before.before.before.before
 
 -- the breach that the code finds
-fault : (c : tie.After-first) → c.first.result ≡ keepFault (start c).args.answer (start c).args.image.now
+fault : (c : tie.After-first) → c.first.result ≡ keep_fault (start c).args.answer (start c).args.image.now
 fault c =
     keep-is (start c).args.answer (start c).args.image.now c.first.ensures c.before.before.refusal.ensures
     c.before.room-fault.ensures
 
-none : (c : tie.Else1) → keepFault (start c.before).args.answer (start c.before).args.image.now ≡ 0
+none : (c : tie.Else1) → keep_fault (start c.before).args.answer (start c.before).args.image.now ≡ 0
 none c = sym (fault c.before) ∙ c.if1.false
 
-room : (c : tie.Else1) → imageBytes ≤ length (start c.before).args.image.now
+room : (c : tie.Else1) → image_bytes ≤ length (start c.before).args.image.now
 room c = keep-room (start c.before).args.answer (start c.before).args.image.now (none c)
 
 returns : tie.Need-returns
@@ -50,7 +50,7 @@ returns-2 c =
     record {
       answered = ap below (sym (none fine)) ∙ breach-answered _ _;
       written = wrote.0 ∙ sym (filled-done _ _ _ (none fine));
-      held = λ _. ap studyIn wrote.0 ∙ image-back _ _ wrote.1 (room fine);
+      held = λ _. ap study_in wrote.0 ∙ image-back _ _ wrote.1 (room fine);
     }
 
 pub keep_spec : {M : Type 1} → statement M

@@ -1,7 +1,7 @@
 -- `fault_tree::class::class_by` meets its contract. The bits of the loads below j are set (`Bits`); the loads left fall.
 use Prim.Native.Nat.{◌-◌, ◌≤◌}
 use native.Mathlib.Omega.{arith}
-use Rattle.rules.specs.Limits.{mostLoads}
+use Rattle.rules.specs.Limits.{most_loads}
 use Rattle.fault_tree.proofs.ClassBits.{Bits, bits-start, bits-more, bits-done}
 use Rattle.fault_tree.proofs.class.class_by.Statement.{statement}
 use Rattle.fault_tree.proofs.class.class_by.Tie as tie
@@ -13,7 +13,7 @@ abbrev decreases-loop : tie.decreases-loop
 decreases-loop truths n load loads class₀ j₀ class j = loads - j
 
 -- the study has so many loads that each has a bit of its own
-few : (c : tie.In-loop invariant-loop decreases-loop) → c.before.before.before.args.n ≤ mostLoads
+few : (c : tie.In-loop invariant-loop decreases-loop) → c.before.before.before.args.n ≤ most_loads
 few c = c.before.before.before.requires
 
 loop-holds : tie.Need-loop-init invariant-loop decreases-loop

@@ -5,21 +5,21 @@ use mathlib.Core.List.{List, [], ◌++◌, append-nil}
 use native.Mathlib.Omega.{arith}
 use lib.ListN.{length, length-append}
 use Rattle.lists.proofs.Puts.{Due, due-start, due-room, due-more, due-done}
-use Rattle.rules.specs.Limits.{mostTests, mostGateInputs}
-use Rattle.fault_tree.specs.Rows.{gateRow}
+use Rattle.rules.specs.Limits.{most_tests, most_gate_inputs}
+use Rattle.fault_tree.specs.Rows.{gate_row}
 use Rattle.fault_tree.proofs.GateRows.{counts}
 use borrow.Author.Rules.{rules}
 use Rattle.fault_tree.proofs.rows.put_row.Statement.{statement}
 use Rattle.fault_tree.proofs.rows.put_row.Tie as tie
 
 -- the places of a gate's arrays
-components : (c : tie.Start) → length c.args.g.component ≡ mostTests
+components : (c : tie.Start) → length c.args.g.component ≡ most_tests
 components c = search rules
 
-masks : (c : tie.Start) → length c.args.g.mask ≡ mostTests
+masks : (c : tie.Start) → length c.args.g.mask ≡ most_tests
 masks c = search rules
 
-inputs : (c : tie.Start) → length c.args.g.input ≡ mostGateInputs
+inputs : (c : tie.Start) → length c.args.g.input ≡ most_gate_inputs
 inputs c = search rules
 
 -- the steps of the code, and what comes before them
@@ -37,9 +37,9 @@ masked c = c.before.before.before.before
 
 -- what is written from a place on when so much of a row is left to write
 abbrev Left : tie.Start → List ℕ → ℕ → List ℕ → Type 0
-Left s rows at rest = Due s.args.rows.now s.args.at (gateRow s.args.g) rows at rest
+Left s rows at rest = Due s.args.rows.now s.args.at (gate_row s.args.g) rows at rest
 
-begun : (s : tie.Start) → Left s s.args.rows.now s.args.at (gateRow s.args.g)
+begun : (s : tie.Start) → Left s s.args.rows.now s.args.at (gate_row s.args.g)
 begun s =
     let g = s.args.g in
     due-start

@@ -4,7 +4,7 @@ use Prim.Native.Nat.{◌-◌, ◌<◌}
 use mathlib.Core.Path.{◌∙◌}
 use native.Mathlib.Omega.{arith}
 use borrow.Author.Rules.{rules}
-use Rattle.rules.specs.Limits.{mostGates}
+use Rattle.rules.specs.Limits.{most_gates}
 use Rattle.fault_tree.proofs.GateRows.{Rowed, rowed-start, rowed-room, rowed-more, rowed-done}
 use Rattle.fault_tree.proofs.rows.put_rows.Statement.{statement}
 use Rattle.fault_tree.proofs.rows.put_rows.Tie as tie
@@ -15,7 +15,7 @@ invariant-loop rows₀ n gate i₀ rows i = Rowed gate n i rows
 abbrev decreases-loop : tie.decreases-loop
 decreases-loop rows₀ n gate i₀ rows i = n - i
 
-inside : (c : tie.In-loop invariant-loop decreases-loop) → c.before.loop.i < mostGates
+inside : (c : tie.In-loop invariant-loop decreases-loop) → c.before.loop.i < most_gates
 inside c = omega (arith, c.loop-test.true, c.before.loop.invariant.few)
 
 -- the gate without its repeats, the turn that it belongs to, and the call

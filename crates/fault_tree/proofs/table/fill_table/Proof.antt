@@ -7,9 +7,9 @@ use mathlib.Core.List.{List}
 use native.Mathlib.Omega.{arith}
 use borrow.Author.Rules.{rules}
 use Rattle.lists.specs.Product.{product}
-use Rattle.rules.specs.Limits.{mostGates}
+use Rattle.rules.specs.Limits.{most_gates}
 use Rattle.soundness.proofs.Ranges.{loads-most, gates-most, joint-most, counts-inside, counts-small}
-use Rattle.fault_tree.specs.Classes.{classBy, class_of}
+use Rattle.fault_tree.specs.Classes.{class_by, class_of}
 use Rattle.fault_tree.proofs.GateRows.{row-true}
 use Rattle.fault_tree.proofs.SoundReadable.{gate-fits, row-readable}
 use Rattle.fault_tree.proofs.Tables.{Tabled, tabled_start, tabled-more, tabled-inside, tabled-long, tabled-done}
@@ -62,7 +62,7 @@ classed c = c.before.before
 abbrev told : tie.After-gate-true invariant-loop2 decreases-loop2 invariant-loop decreases-loop → tie.In-loop2 invariant-loop2 decreases-loop2 invariant-loop decreases-loop
 told c = c.before.before.before.before
 
-gate-inside : (c : tie.In-loop2 invariant-loop2 decreases-loop2 invariant-loop decreases-loop) → c.before.loop2.i < mostGates
+gate-inside : (c : tie.In-loop2 invariant-loop2 decreases-loop2 invariant-loop decreases-loop) → c.before.loop2.i < most_gates
 gate-inside c = omega (arith, gates-most _ (turn c).before.loop.invariant.sound, c.loop2-test.true)
 
 -- ---- the needs
@@ -152,7 +152,7 @@ loop-again c =
     let at = ended done in
     let truths = evaluated-done done.before.loop2.inv done.loop2-test.left in
     let t = (begun (rowed at.before)).args.t in
-    let class = (classed own).class-by.ensures ∙ ap (λ (row : List Bool). classBy row t.load t.loads) truths in
+    let class = (classed own).class-by.ensures ∙ ap (λ (row : List Bool). class_by row t.load t.loads) truths in
     let next = c.before.before.next-joint-state.ensures in
     tabled-more at.before.loop.inv at.loop-test.taken class own.set-class.ensures next.0 next.1
 

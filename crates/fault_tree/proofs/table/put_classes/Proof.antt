@@ -4,7 +4,7 @@ use mathlib.Core.Path.{◌≡◌, sym, ap, ◌∙◌}
 use lib.ListN.{length, length-map}
 use lib.Seq.{length-take-le}
 use borrow.Author.Rules.{rules}
-use Rattle.rules.specs.Limits.{mostComponents}
+use Rattle.rules.specs.Limits.{most_components}
 use Rattle.study.specs.declared.Component.{Component}
 use Rattle.study.specs.declared.Study.{Study}
 use Rattle.soundness.specs.Sound.{Sound}
@@ -18,18 +18,18 @@ use Rattle.fault_tree.proofs.table.put_classes.Tie as tie
 abbrev study : tie.After-state-counts → Study
 study c = c.before.before.before.before.args.t
 
-is-sound : (c : tie.After-state-counts) → Sound (study c)
-is-sound c = c.before.before.before.before.requires.0
+is_sound : (c : tie.After-state-counts) → Sound (study c)
+is_sound c = c.before.before.before.before.requires.0
 
 counts-room : (c : tie.After-state-counts) → (study c).components ≤ length c.state-counts.result
 counts-room c =
-    let places : length c.state-counts.result ≡ mostComponents = search rules in
-    rw places (components-most (study c) (is-sound c))
+    let places : length c.state-counts.result ≡ most_components = search rules in
+    rw places (components-most (study c) (is_sound c))
 
 states-room : (c : tie.After-all-up) → (study c.before).components ≤ length c.all_up.result
 states-room c =
-    let places : length c.all_up.result ≡ mostComponents = search rules in
-    rw places (components-most (study c.before) (is-sound c.before))
+    let places : length c.all_up.result ≡ most_components = search rules in
+    rw places (components-most (study c.before) (is_sound c.before))
 
 -- ---- the needs
 
@@ -49,9 +49,9 @@ fill-table-requires : tie.Need-fill-table-requires
 fill-table-requires c κs =
     let known = c.before.before.before.before in
     let counts = known.state-counts in
-    let places : length counts.result ≡ mostComponents = search rules in
+    let places : length counts.result ≡ most_components = search rules in
     let long = sym (length-map (study known).component (λ (k : Component). k.states)) ∙ ap length (sym counts.ensures) ∙ places in
-    rw (counts.ensures, c.before.before.before.all_up.ensures) (begins (study known) (is-sound known) long, known.before.before.before.before.requires.1)
+    rw (counts.ensures, c.before.before.before.all_up.ensures) (begins (study known) (is_sound known) long, known.before.before.before.before.requires.1)
 
 pub put-classes-spec : {M : Type 1} → statement M
 put-classes-spec =

@@ -6,7 +6,7 @@ use native.Mathlib.Omega.{arith}
 use lib.ListN.{get_or}
 use Rattle.lists.proofs.Sums.{Counted, counted_start, counted-more, counted-most, counted-done}
 use Rattle.fault_tree.specs.Readable.{InputsReadable}
-use Rattle.fault_tree.specs.Rows.{gatesAt, inputsFrom, rowGates}
+use Rattle.fault_tree.specs.Rows.{gates_at, inputs_from, row_gates}
 use Rattle.fault_tree.proofs.truth.true_gates.Statement.{statement}
 use Rattle.fault_tree.proofs.truth.true_gates.Tie as tie
 
@@ -28,7 +28,7 @@ abbrev turn : tie.After-shared-slice-known3 invariant-loop decreases-loop → ti
 turn c = c.before.before
 
 cast-gates : tie.Need-overflow-cast-gates invariant-loop decreases-loop
-cast-gates c = record { fits = omega (arith, c.shared-slice-known.given (c.before.args.at + gatesAt)) }
+cast-gates c = record { fits = omega (arith, c.shared-slice-known.given (c.before.args.at + gates_at)) }
 
 -- a gate input of the row stands inside it
 add-i : tie.Need-overflow-add-i invariant-loop decreases-loop
@@ -40,7 +40,7 @@ shared-slice-read-i c = let own = c.before in omega (arith, (readable own).insid
 cast-i : tie.Need-overflow-cast-i invariant-loop decreases-loop
 cast-i c =
     let own = c.before in
-    record { fits = omega (arith, c.shared-slice-known2.given ((begun own).args.at + inputsFrom + own.before.loop.j)) }
+    record { fits = omega (arith, c.shared-slice-known2.given ((begun own).args.at + inputs_from + own.before.loop.j)) }
 
 shared-slice-read-n : tie.Need-shared-slice-read-n invariant-loop decreases-loop
 shared-slice-read-n c = let own = turn c in (readable own).input own.before.loop.j own.loop-test.taken
@@ -55,7 +55,7 @@ loop-less : tie.Need-loop-smaller invariant-loop decreases-loop
 loop-less c = omega (arith, (turn c).loop-test.true)
 
 returns : tie.Need-returns invariant-loop decreases-loop
-unfolding rowGates
+unfolding row_gates
 returns c = counted-done c.before.loop.invariant c.loop-test.false
 
 pub true-gates-spec : {M : Type 1} → statement M

@@ -5,7 +5,7 @@ use lib.ListN.{length, get_or}
 use Rattle.lists.specs.Bits.{bit}
 use Rattle.lists.proofs.Sums.{Counted, counted_start, counted-more, counted-most, counted-done}
 use Rattle.fault_tree.specs.Readable.{TestsReadable}
-use Rattle.fault_tree.specs.Rows.{testsAt, componentsFrom, rowTests}
+use Rattle.fault_tree.specs.Rows.{tests_at, components_from, row_tests}
 use Rattle.fault_tree.proofs.truth.true_tests.Statement.{statement}
 use Rattle.fault_tree.proofs.truth.true_tests.Tie as tie
 
@@ -30,7 +30,7 @@ abbrev turn : tie.After-shared-slice-known6 invariant-loop decreases-loop → ti
 turn c = c.before.before.before
 
 cast-tests : tie.Need-overflow-cast-tests invariant-loop decreases-loop
-cast-tests c = record { fits = omega (arith, c.shared-slice-known3.given ((start c).args.at + testsAt)) }
+cast-tests c = record { fits = omega (arith, c.shared-slice-known3.given ((start c).args.at + tests_at)) }
 
 -- a test of the row stands inside it
 add-c : tie.Need-overflow-add-c invariant-loop decreases-loop
@@ -42,7 +42,7 @@ shared-slice-read-c c = let own = c.before in omega (arith, (readable own).insid
 cast-c : tie.Need-overflow-cast-c invariant-loop decreases-loop
 cast-c c =
     let own = c.before in
-    record { fits = omega (arith, c.shared-slice-known4.given ((begun own).args.at + componentsFrom + own.before.loop.j)) }
+    record { fits = omega (arith, c.shared-slice-known4.given ((begun own).args.at + components_from + own.before.loop.j)) }
 
 add-test-true : tie.Need-overflow-add-test-true invariant-loop decreases-loop
 add-test-true c = let own = c.before in record { fits = omega (arith, (readable own).inside, (readable own).count, own.loop-test.true) }
@@ -52,7 +52,7 @@ shared-slice-read-test-true c = let own = c.before.before in omega (arith, (read
 
 -- its component is one of the joint state's
 component-inside : (c : tie.In-loop invariant-loop decreases-loop)
-    → get_or (begun c).args.rows.now ((begun c).args.at + componentsFrom + c.before.loop.j) 0 < length (begun c).args.x.now
+    → get_or (begun c).args.rows.now ((begun c).args.at + components_from + c.before.loop.j) 0 < length (begun c).args.x.now
 component-inside c = (readable c).component c.before.loop.j c.loop-test.true
 
 test-true-requires : tie.Need-test-true-requires invariant-loop decreases-loop
@@ -70,7 +70,7 @@ loop-less : tie.Need-loop-smaller invariant-loop decreases-loop
 loop-less c = omega (arith, (turn c.before).loop-test.taken)
 
 returns : tie.Need-returns invariant-loop decreases-loop
-unfolding rowTests
+unfolding row_tests
 returns c = counted-done c.before.loop.invariant c.loop-test.false
 
 pub true-tests-spec : {M : Type 1} → statement M

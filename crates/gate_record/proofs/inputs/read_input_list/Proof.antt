@@ -9,15 +9,15 @@ use Rattle.reading.proofs.After.{kept-as}
 use Rattle.reading.proofs.Calls.{asks_nothing}
 use Rattle.reading.proofs.Repeats.{RepeatLeft, repeat-start, repeat-more, repeat-done, repeat-stopped}
 use Rattle.study.specs.declared.Gate.{Gate}
-use Rattle.gate_record.specs.Gate.{input as Gate·input}
-use Rattle.gate_record.specs.Places.{withInputRow}
+use Rattle.gate_record.specs.Gate.{input as gate_input}
+use Rattle.gate_record.specs.Places.{with_input_row}
 use Rattle.gate_record.proofs.inputs.read_input_list.Statement.{statement}
 use Rattle.gate_record.proofs.inputs.read_input_list.Tie as tie
 
 abbrev invariant-loop : tie.invariant-loop
 invariant-loop bytes at number n input₀ next₀ j₀ input next j =
     (length input ≡ length input₀)
-    × ((k : ℕ) (g : Gate) → RepeatLeft (Gate·input number) n (withInputRow k input₀ g) bytes at 0 next (withInputRow k input g) j)
+    × ((k : ℕ) (g : Gate) → RepeatLeft (gate_input number) n (with_input_row k input₀ g) bytes at 0 next (with_input_row k input g) j)
 
 abbrev decreases-loop : tie.decreases-loop
 decreases-loop bytes at number n input₀ next₀ j₀ input next j = n - j

@@ -3,7 +3,7 @@ use Prim.Native.Nat.{◌≤◌}
 use native.Mathlib.Omega.{arith}
 use borrow.Author.Rules.{rules}
 use borrow.Author.Tests.{ne_eqb}
-use Rattle.rules.specs.Limits.{mostGateInputs}
+use Rattle.rules.specs.Limits.{most_gate_inputs}
 use Rattle.reading.proofs.After.{returned, stopped, going}
 use Rattle.reading.proofs.Calls.{asks_nothing}
 use Rattle.gate_record.specs.Gate.{inputs}
@@ -23,7 +23,7 @@ returns-2 c g =
 abbrev counted : tie.Else2 → tie.After-inputs-at
 counted c = c.before.before
 
-in-range : (c : tie.Else2) → (counted c).inputs-at.result.value ≤ mostGateInputs
+in-range : (c : tie.Else2) → (counted c).inputs-at.result.value ≤ most_gate_inputs
 in-range c = (counted c).inputs-at.ensures.kept c.if2.false
 
 read-input-list-requires : tie.Need-read-input-list-requires

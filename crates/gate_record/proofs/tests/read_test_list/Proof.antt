@@ -10,7 +10,7 @@ use Rattle.reading.proofs.Calls.{asks_nothing}
 use Rattle.reading.proofs.Repeats.{RepeatLeft, repeat-start, repeat-more, repeat-done, repeat-stopped}
 use Rattle.study.specs.declared.Gate.{Gate}
 use Rattle.gate_record.specs.Gate.{test}
-use Rattle.gate_record.specs.Places.{withTestRow}
+use Rattle.gate_record.specs.Places.{with_test_row}
 use Rattle.gate_record.proofs.tests.read_test_list.Statement.{statement}
 use Rattle.gate_record.proofs.tests.read_test_list.Tie as tie
 
@@ -18,7 +18,7 @@ abbrev invariant-loop : tie.invariant-loop
 invariant-loop bytes at counts n component₀ mask₀ next₀ j₀ component mask next j =
     (length component ≡ length component₀)
     × (length mask ≡ length mask₀)
-    × ((k : ℕ) (g : Gate) → RepeatLeft (test counts) n (withTestRow k component₀ mask₀ g) bytes at 0 next (withTestRow k component mask g) j)
+    × ((k : ℕ) (g : Gate) → RepeatLeft (test counts) n (with_test_row k component₀ mask₀ g) bytes at 0 next (with_test_row k component mask g) j)
 
 abbrev decreases-loop : tie.decreases-loop
 decreases-loop bytes at counts n component₀ mask₀ next₀ j₀ component mask next j = n - j

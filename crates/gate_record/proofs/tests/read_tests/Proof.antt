@@ -5,7 +5,7 @@ use native.Mathlib.Omega.{arith}
 use borrow.Author.Rules.{rules}
 use borrow.Author.Tests.{ne_eqb}
 use Rattle.lists.specs.Bits.{digit}
-use Rattle.rules.specs.Limits.{mostTests}
+use Rattle.rules.specs.Limits.{most_tests}
 use Rattle.reading.proofs.After.{returned, stopped, going}
 use Rattle.reading.proofs.Calls.{asks_nothing}
 use Rattle.gate_record.specs.Gate.{tests}
@@ -32,7 +32,7 @@ returns-2 c g =
 abbrev counted : tie.Else2 → tie.After-inputs-at
 counted c = c.before.before
 
-in-range : (c : tie.Else2) → (counted c).inputs-at.result.value ≤ mostTests
+in-range : (c : tie.Else2) → (counted c).inputs-at.result.value ≤ most_tests
 in-range c = (counted c).inputs-at.ensures.kept c.if2.false
 
 read-test-list-requires : tie.Need-read-test-list-requires

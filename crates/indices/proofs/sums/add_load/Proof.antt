@@ -8,7 +8,7 @@ use Rattle.lists.specs.Counting.{counted}
 use Rattle.lists.proofs.SumOver.{counted-parted, counted-scaled}
 use Rattle.study.specs.declared.Load.{Load}
 use Rattle.indices.specs.Parts.{short, sustained}
-use Rattle.indices.specs.Sums.{plusLoad}
+use Rattle.indices.specs.Sums.{plus_load}
 use borrow.Author.Rules.{rules}
 use Rattle.indices.proofs.sums.add_load.Statement.{statement}
 use Rattle.indices.proofs.sums.add_load.Tie as tie
@@ -35,12 +35,12 @@ sustained-is c = c.counted.ensures ∙ ap (λ (b : Bool). counted (not b) (lost 
 minutes-are : (c : tie.After-counted)
     → c.counted.result * (load (start c)).minutes ≡ counted (sustained (load (start c))) (lost (start c) * (load (start c)).minutes)
 minutes-are c =
-    let takesPart = sustained (load (start c)) in
+    let takes_part = sustained (load (start c)) in
     let minutes = (load (start c)).minutes in
     ap (λ (n : ℕ). n * minutes) (sustained-is c)
-    ∙ mul_comm (counted takesPart (lost (start c))) minutes
-    ∙ sym (counted-scaled takesPart minutes (lost (start c)))
-    ∙ ap (counted takesPart) (mul_comm minutes (lost (start c)))
+    ∙ mul_comm (counted takes_part (lost (start c))) minutes
+    ∙ sym (counted-scaled takes_part minutes (lost (start c)))
+    ∙ ap (counted takes_part) (mul_comm minutes (lost (start c)))
 
 momentary-is : (c : tie.After-counted2) → let s = start (behind-first c) in c.counted2.result ≡ counted (short (load s)) (lost s)
 momentary-is c =
@@ -50,29 +50,29 @@ momentary-is c =
 -- ---- it fits
 
 mul-lost : tie.Need-overflow-mul-lost
-unfolding plusLoad sustained
+unfolding plus_load sustained
 mul-lost c =
     let s = c.before in
     record { fits = omega (arith, s.requires.loss, s.requires.momentary, counted-parted (short (load s)) (lost s)) }
 
 add-t7 : tie.Need-overflow-add-t7
-unfolding plusLoad
+unfolding plus_load
 add-t7 c = let here = c.before in record { fits = omega (arith, sustained-is here, (start here).requires.loss) }
 
 mul-t10 : tie.Need-overflow-mul-t10
-unfolding plusLoad
+unfolding plus_load
 mul-t10 c = let here = c.before.before in record { fits = omega (arith, minutes-are here, (start here).requires.minutes) }
 
 add-t11 : tie.Need-overflow-add-t11
-unfolding plusLoad
+unfolding plus_load
 add-t11 c = let here = c.before.before.before in record { fits = omega (arith, minutes-are here, (start here).requires.minutes) }
 
 add-t13 : tie.Need-overflow-add-t13
-unfolding plusLoad
+unfolding plus_load
 add-t13 c = let here = c.before in record { fits = omega (arith, momentary-is here, (start (behind-first here)).requires.momentary) }
 
 returns : tie.Need-returns
-unfolding plusLoad
+unfolding plus_load
 returns c =
     let here = c.before in
     cc (sustained-is (behind-first here), minutes-are (behind-first here), momentary-is here)

@@ -4,8 +4,8 @@ use Prim.Native.Nat.{◌-◌}
 use mathlib.Core.Path.{◌≡◌, sym}
 use native.Mathlib.Omega.{arith}
 use lib.ListN.{length, take}
-use Rattle.rules.specs.Limits.{mostLoads}
-use Rattle.indices.specs.Figures.{customersServed, customersSum}
+use Rattle.rules.specs.Limits.{most_loads}
+use Rattle.indices.specs.Figures.{customers_served, customers_sum}
 use Rattle.indices.specs.Parts.{every}
 use Rattle.indices.proofs.Front.{InUse, front_long, in_use}
 use Rattle.indices.proofs.Most.{served-few, customers-limited}
@@ -14,7 +14,7 @@ use Rattle.indices.proofs.sums.customers_sum.Statement.{statement}
 use Rattle.indices.proofs.sums.customers_sum.Tie as tie
 
 abbrev invariant-loop : tie.invariant-loop
-invariant-loop n load loads sum₀ j₀ sum j = Summed every customersServed 1 (take loads load) j sum
+invariant-loop n load loads sum₀ j₀ sum j = Summed every customers_served 1 (take loads load) j sum
 
 abbrev decreases-loop : tie.decreases-loop
 decreases-loop n load loads sum₀ j₀ sum j = loads - j
@@ -22,7 +22,7 @@ decreases-loop n load loads sum₀ j₀ sum j = loads - j
 -- as many loads are in use as are asked for
 long : (c : tie.Start invariant-loop decreases-loop) → length (take c.args.n c.args.t1) ≡ c.args.n
 long c =
-    let places : length c.args.t1 ≡ mostLoads = search rules in
+    let places : length c.args.t1 ≡ most_loads = search rules in
     front_long _ _ places c.requires.0
 
 -- a turn reads one of them
@@ -56,7 +56,7 @@ loop-again c =
     rw (sym (in-turn turn).read) (summed-more turn.before.loop.invariant (in-turn turn).inside)
 
 returns : tie.Need-returns invariant-loop decreases-loop
-unfolding customersSum
+unfolding customers_sum
 returns c = summed-done c.before.loop.invariant (rw (long c.before.before) c.loop-test.false)
 
 pub customers-sum-spec : {M : Type 1} → statement M

@@ -4,7 +4,7 @@ use Prim.Native.Nat.{◌-◌}
 use mathlib.Core.Path.{◌≡◌, sym}
 use native.Mathlib.Omega.{arith}
 use lib.ListN.{length, take}
-use Rattle.rules.specs.Limits.{mostLoads}
+use Rattle.rules.specs.Limits.{most_loads}
 use Rattle.indices.proofs.Carried.{Carried, carried-start, carried-fits, carried-more, carried-done}
 use Rattle.indices.proofs.Front.{InUse, front_long, in_use}
 use Rattle.indices.proofs.sums.sums_of.Statement.{statement}
@@ -19,7 +19,7 @@ decreases-loop n losses load loads sums₀ j₀ sums j = loads - j
 -- as many loads are in use as are asked for
 long : (c : tie.Start invariant-loop decreases-loop) → length (take c.args.n c.args.t2) ≡ c.args.n
 long c =
-    let places : length c.args.t2 ≡ mostLoads = search rules in
+    let places : length c.args.t2 ≡ most_loads = search rules in
     front_long _ _ places c.requires.0
 
 -- a turn reads one of them

@@ -7,7 +7,7 @@ use Rattle.loss_calls.proofs.loads.load_breach.Tie as tie
 returns : tie.Need-returns
 returns c =
     let judged = c.before.before in
-    load-judged c.first.ensures judged.before.is-sound.ensures judged.unsound-fault.ensures c.before.item-fault.ensures
+    load-judged c.first.ensures judged.before.is_sound.ensures judged.unsound-fault.ensures c.before.item-fault.ensures
 
 pub load-breach-spec : {M : Type 1} → statement M
 load-breach-spec =

@@ -5,10 +5,10 @@ use mathlib.Core.List.{List}
 use native.Mathlib.Omega.{arith}
 use lib.ListN.{length, take}
 use lib.Seq.{length-take-le}
-use Rattle.rules.specs.Limits.{mostComponents}
-use Rattle.study.specs.Joint.{stateCounts}
+use Rattle.rules.specs.Limits.{most_components}
+use Rattle.study.specs.Joint.{state_counts}
 use Rattle.soundness.proofs.Ranges.{components-most, loads-most, counts-inside, counts-small}
-use Rattle.drawn_tree.specs.Drawn.{drawnFault}
+use Rattle.drawn_tree.specs.Drawn.{drawn_fault}
 use Rattle.meaning.proofs.TreeFront.{Front, front-inside, front-block, front-few, front-put}
 use borrow.Author.Rules.{rules}
 use Rattle.meaning.proofs.drawn.put_drawn.Statement.{statement}
@@ -18,13 +18,13 @@ abbrev start : tie.After-counts-in-use → tie.Start
 start c = c.before.before.before.before.before.before
 
 -- what is cut off are the state counts of the study
-counts-are : (c : tie.After-counts-in-use) → c.counts-in-use.result.now ≡ stateCounts (start c).args.t
+counts-are : (c : tie.After-counts-in-use) → c.counts-in-use.result.now ≡ state_counts (start c).args.t
 counts-are c = c.counts-in-use.ensures ∙ ap (take (start c).args.t.components) c.before.before.state-counts.ensures
 
 counts-in-use-requires : tie.Need-counts-in-use-requires
 counts-in-use-requires c κs =
     let most = components-most _ c.before.before.before.before.before.requires.0 in
-    let twelve : length c.before.state-counts.result ≡ mostComponents = search rules in
+    let twelve : length c.before.state-counts.result ≡ most_components = search rules in
     omega (arith, most, twelve)
 
 joint-states-requires : tie.Need-joint-states-requires
@@ -37,7 +37,7 @@ front : (c : tie.After-joint-states)
     → let args = (start c.before).args in Front args.t args.classes.now c.before.counts-in-use.result.now c.joint-states.result
 front c =
     let pre = (start c.before).requires in
-    record { sound = pre.0; room = pre.1; is-counts = counts-are c.before; is-joint = c.joint-states.ensures }
+    record { sound = pre.0; room = pre.1; is_counts = counts-are c.before; is_joint = c.joint-states.ensures }
 
 slice-aggregate-draw-classes : tie.Need-slice-aggregate-draw-classes
 slice-aggregate-draw-classes c = sym (length-take-le _ _ (front-inside (front c.before)))
@@ -54,7 +54,7 @@ returns c =
     let args = (start known.before).args in
     let drawn = call.draw-classes.ensures in
     record {
-      is = drawn.0 ∙ ap (λ (l : List ℕ). drawnFault l args.t.loads args.tree.now) (front known).is-counts;
+      is = drawn.0 ∙ ap (λ (l : List ℕ). drawn_fault l args.t.loads args.tree.now) (front known).is_counts;
       tabled = λ none. record { holds = front-put (front known) args.tree.now (drawn.1 none) };
     }
 

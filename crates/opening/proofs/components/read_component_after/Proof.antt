@@ -7,12 +7,12 @@ use mir.Syntax.{w8}
 use mir.Val.{bits}
 use borrow.Author.Tests.{ltb-false}
 use borrow.Author.Rules.{rules}
-use Rattle.rules.specs.Table.{widthFault}
+use Rattle.rules.specs.Table.{width_fault}
 use Rattle.rules.proofs.Kept.{refuse-kept}
 use Rattle.component_record.specs.Component.{component}
 use Rattle.reading.proofs.After.{kept-last}
 use Rattle.reading.proofs.Calls.{asks_nothing}
-use Rattle.opening.specs.Opening.{componentAfter}
+use Rattle.opening.specs.Opening.{component_after}
 use Rattle.opening.proofs.components.read_component_after.Statement.{statement}
 use Rattle.opening.proofs.components.read_component_after.Tie as tie
 
@@ -23,11 +23,11 @@ mul-width-fault c =
     record { fits = omega (arith, bound) }
 
 returns : tie.Need-returns
-unfolding componentAfter
+unfolding component_after
 returns c =
     let read = c.before.before.before.before.read-component.ensures in
     let rule = c.before.width-fault.ensures in
-    kept-last component (λ x. widthFault (_ * x.states)) (λ x kept. ltb-false _ _ (refuse-kept _ _ kept)) read rule c.first.ensures
+    kept-last component (λ x. width_fault (_ * x.states)) (λ x kept. ltb-false _ _ (refuse-kept _ _ kept)) read rule c.first.ensures
 
 pub read-component-after-spec : {M : Type 1} → statement M
 read-component-after-spec = tie.close (tie.spec asks_nothing (λ c. search rules) mul-width-fault asks_nothing asks_nothing returns)

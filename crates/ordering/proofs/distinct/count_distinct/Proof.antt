@@ -8,7 +8,7 @@ use lib.Dec.{ltb}
 use lib.ListN.{length, get_or}
 use borrow.Author.Rules.{rules}
 use Rattle.lists.proofs.Sums.{truth-most}
-use Rattle.ordering.specs.Inputs.{maskValues}
+use Rattle.ordering.specs.Inputs.{mask_values}
 use Rattle.ordering.proofs.Along.{Along, along-none, along-start, along-fell, along-more, along-done}
 use Rattle.ordering.proofs.distinct.count_distinct.Statement.{statement}
 use Rattle.ordering.proofs.distinct.count_distinct.Tie as tie
@@ -33,7 +33,7 @@ abbrev entry : tie.In-loop invariant-loop decreases-loop → tie.Start invariant
 entry c = start (some c.before.before)
 
 -- masks are bytes
-bytes : (c : tie.Else1 invariant-loop decreases-loop) (k : ℕ) → get_or (start c).args.mask.now k 0 < maskValues
+bytes : (c : tie.Else1 invariant-loop decreases-loop) (k : ℕ) → get_or (start c).args.mask.now k 0 < mask_values
 bytes c k = omega (arith, c.before.shared-slice-known2.given k)
 
 two : (c : tie.In-loop invariant-loop decreases-loop) → suc c.before.loop.at < length (entry c).args.number.now

@@ -53,7 +53,7 @@ loop-again c =
 loop-less : tie.Need-loop-smaller invariant-loop decreases-loop
 loop-less c =
     let own = turn c.before in
-    omega (arith, own.loop-test.taken, (loop-again c).numbers-due.size, own.before.loop.inv.numbers-due.size)
+    omega (arith, own.loop-test.taken, (loop-again c).numbers_due.size, own.before.loop.inv.numbers_due.size)
 
 returns : tie.Need-returns invariant-loop decreases-loop
 returns c =
@@ -85,6 +85,6 @@ keep-distinct-spec =
     (λ c. search rules)
     loop-less
     loop-again
-    (λ c. c.before.loop.invariant.numbers-due.size)
-    (λ c. c.before.loop.invariant.masks-due.size)
+    (λ c. c.before.loop.invariant.numbers_due.size)
+    (λ c. c.before.loop.invariant.masks_due.size)
     returns)

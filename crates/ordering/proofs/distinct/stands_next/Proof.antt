@@ -6,7 +6,7 @@ use native.Mathlib.Omega.{arith}
 use lib.ListN.{get_or}
 use borrow.Author.Rules.{rules}
 use borrow.Author.Tests.{eq-eqb, ne_eqb}
-use Rattle.ordering.specs.Inputs.{noInput, paired}
+use Rattle.ordering.specs.Inputs.{no_input, paired}
 use Rattle.ordering.proofs.Pairs.{paired_long}
 use Rattle.ordering.proofs.Thinned.{next-short, next-told}
 use Rattle.ordering.proofs.distinct.stands_next.Statement.{statement}
@@ -17,7 +17,7 @@ returns c =
     let start = c.before in
     let row = paired start.args.number.now start.args.mask.now in
     let long = paired_long start.args.number.now start.args.mask.now start.requires.0 in
-    sym (next-short (get_or row start.args.at noInput) row start.args.at (omega (arith, long, c.if1.true)))
+    sym (next-short (get_or row start.args.at no_input) row start.args.at (omega (arith, long, c.if1.true)))
 
 returns-2 : tie.Need-returns-2
 returns-2 c =

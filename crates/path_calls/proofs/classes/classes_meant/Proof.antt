@@ -2,24 +2,24 @@
 use mathlib.Core.Path.{sym}
 use Rattle.answers.specs.declared.outcome.Outcome.TheVariants.{Refused}
 use Rattle.answers.proofs.Answered.{answered-refused, filled-refused}
-use Rattle.probability.specs.Totals.{lowerClasses, upperClasses}
+use Rattle.probability.specs.Totals.{lower_classes, upper_classes}
 use Rattle.study_model.proofs.StudyHeld.{in-hand}
 use Rattle.meaning.proofs.Judging.{judged-first, judged-next}
 use Rattle.meaning.proofs.Tables.{table-values}
-use Rattle.path_calls.specs.Bounds.{pairBreach, classesBounded}
+use Rattle.path_calls.specs.Bounds.{pair_breach, classes_bounded}
 use borrow.Author.Rules.{rules}
 use Rattle.path_calls.proofs.classes.classes_meant.Statement.{statement}
 use Rattle.path_calls.proofs.classes.classes_meant.Tie as tie
 
 returns : tie.Need-returns
-unfolding pairBreach classesBounded
+unfolding pair_breach classes_bounded
 returns c =
     let taken = c.if1.true in
     rw (← judged-first c.before.before.judged-classes.ensures _ taken)
     (sym (answered-refused Refused _ _ taken), (sym (filled-refused _ _ _ taken), sym (filled-refused _ _ _ taken)))
 
 hold-requires : tie.Need-hold-requires
-hold-requires c κs = c.before.before.judged-classes.ensures.is-sound c.if1.false
+hold-requires c κs = c.before.before.judged-classes.ensures.is_sound c.if1.false
 
 -- the model in hand, from behind it
 abbrev held : tie.After-bound-classes-arg2 → tie.After-hold
@@ -31,15 +31,15 @@ bound-classes-requires c κs =
     in-hand _ (hold-requires hand.before tt) hand.hold.ensures (search rules)
 
 returns-2 : tie.Need-returns-2
-unfolding pairBreach classesBounded
+unfolding pair_breach classes_bounded
 returns-2 c =
     let call = c.before.before.before.before in
     let hand = held call.before in
     let study = hand.before.before.before.judged-classes.ensures in
     let none = hand.before.if1.left in
-    let values = table-values _ _ (study.is-sound none) hand.hold.ensures (search rules) (study.tabled none) in
+    let values = table-values _ _ (study.is_sound none) hand.hold.ensures (search rules) (study.tabled none) in
     let bounds = call.bound-classes.ensures in
-    rw (judged-next study none, ← values lowerClasses, ← values upperClasses) (bounds.answer-is, (bounds.lower-is, bounds.upper_is))
+    rw (judged-next study none, ← values lower_classes, ← values upper_classes) (bounds.answer_is, (bounds.lower_is, bounds.upper_is))
 
 pub classes-meant-spec : {M : Type 1} → statement M
 classes-meant-spec =

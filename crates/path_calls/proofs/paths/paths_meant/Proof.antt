@@ -6,20 +6,20 @@ use Rattle.probability.specs.Totals.{lower_bounds, upper_bounds}
 use Rattle.study_model.proofs.StudyHeld.{in-hand}
 use Rattle.meaning.proofs.Judging.{judged-first, judged-next}
 use Rattle.meaning.proofs.Tables.{table-paths, table-values}
-use Rattle.path_calls.specs.Bounds.{pairBreach, pathsBounded}
+use Rattle.path_calls.specs.Bounds.{pair_breach, paths_bounded}
 use borrow.Author.Rules.{rules}
 use Rattle.path_calls.proofs.paths.paths_meant.Statement.{statement}
 use Rattle.path_calls.proofs.paths.paths_meant.Tie as tie
 
 returns : tie.Need-returns
-unfolding pairBreach pathsBounded
+unfolding pair_breach paths_bounded
 returns c =
     let taken = c.if1.true in
     rw (← judged-first c.before.before.judged-classes.ensures _ taken)
     (sym (answered-refused Refused _ _ taken), (sym (filled-refused _ _ _ taken), sym (filled-refused _ _ _ taken)))
 
 hold-requires : tie.Need-hold-requires
-hold-requires c κs = c.before.before.judged-classes.ensures.is-sound c.if1.false
+hold-requires c κs = c.before.before.judged-classes.ensures.is_sound c.if1.false
 
 -- the model in hand, from behind it
 abbrev held : tie.After-bound-paths-arg2 → tie.After-hold
@@ -31,16 +31,16 @@ bound-paths-requires c κs =
     in-hand _ (hold-requires hand.before tt) hand.hold.ensures (search rules)
 
 returns-2 : tie.Need-returns-2
-unfolding pairBreach pathsBounded
+unfolding pair_breach paths_bounded
 returns-2 c =
     let call = c.before.before.before.before in
     let hand = held call.before in
     let study = hand.before.before.before.judged-classes.ensures in
     let none = hand.before.if1.left in
-    let values = table-values _ _ (study.is-sound none) hand.hold.ensures (search rules) (study.tabled none) in
-    let paths = table-paths _ _ (study.is-sound none) hand.hold.ensures (search rules) (study.tabled none) in
+    let values = table-values _ _ (study.is_sound none) hand.hold.ensures (search rules) (study.tabled none) in
+    let paths = table-paths _ _ (study.is_sound none) hand.hold.ensures (search rules) (study.tabled none) in
     let bounds = call.bound-paths.ensures in
-    rw (judged-next study none, ← values lower_bounds, ← values upper_bounds, ← paths) (bounds.answer-is, (bounds.lower-is, bounds.upper_is))
+    rw (judged-next study none, ← values lower_bounds, ← values upper_bounds, ← paths) (bounds.answer_is, (bounds.lower_is, bounds.upper_is))
 
 pub paths-meant-spec : {M : Type 1} → statement M
 paths-meant-spec =

@@ -4,8 +4,8 @@ use mathlib.Core.List.{List}
 use native.Mathlib.Omega.{arith}
 use lib.ListN.{get_or}
 use Rattle.text.proofs.Pieces.{Tabled, tabled_start, tabled-room, tabled-more, tabled-size, tabled-done}
-use Rattle.entries.specs.Entries.{classPlaces}
-use Rattle.report_lines.specs.Listing.{classWith}
+use Rattle.entries.specs.Entries.{class_places}
+use Rattle.report_lines.specs.Listing.{class_with}
 use Rattle.report_lines.proofs.Borne.{with_rows}
 use borrow.Author.Rules.{rules}
 use Rattle.report_lines.proofs.class_list.list_classes.Statement.{statement}
@@ -13,18 +13,18 @@ use Rattle.report_lines.proofs.class_list.list_classes.Tie as tie
 
 -- what is written for class c, from counts by class
 abbrev row : List ℕ → ℕ → List ℕ
-row counts c = classWith (get_or counts c 0) c
+row counts c = class_with (get_or counts c 0) c
 
 abbrev invariant-loop : tie.invariant-loop
-invariant-loop counts classes₀ listed₀ c₀ classes listed c = Tabled (row counts) classPlaces classes₀ 0 c classes listed
+invariant-loop counts classes₀ listed₀ c₀ classes listed c = Tabled (row counts) class_places classes₀ 0 c classes listed
 
 abbrev decreases-loop : tie.decreases-loop
-decreases-loop counts classes₀ listed₀ c₀ classes listed c = classPlaces - c
+decreases-loop counts classes₀ listed₀ c₀ classes listed c = class_places - c
 
 abbrev start : tie.In-loop invariant-loop decreases-loop → tie.Start invariant-loop decreases-loop
 start c = c.before.before.before.before
 
-a-class : (c : tie.In-loop invariant-loop decreases-loop) → c.before.loop.c < classPlaces
+a-class : (c : tie.In-loop invariant-loop decreases-loop) → c.before.loop.c < class_places
 a-class c = omega (arith, c.loop-test.true)
 
 loop-holds : tie.Need-loop-init invariant-loop decreases-loop

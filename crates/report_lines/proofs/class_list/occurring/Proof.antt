@@ -4,9 +4,9 @@ use Prim.Native.Nat.{ℕ}
 use mathlib.Core.Path.{◌≡◌, ap}
 use mathlib.Core.List.{List}
 use lib.ListN.{length, get_or}
-use Rattle.entries.specs.Entries.{entriesOf}
+use Rattle.entries.specs.Entries.{entries_of}
 use Rattle.entries.proofs.Entries.{entries-long}
-use Rattle.report_lines.specs.Classes.{classesWith, classesBorne}
+use Rattle.report_lines.specs.Classes.{classes_with, classes_borne}
 use Rattle.report_lines.proofs.Borne.{borne-few, borne-counted}
 use borrow.Author.Rules.{rules}
 use Rattle.report_lines.proofs.class_list.occurring.Statement.{statement}
@@ -16,10 +16,10 @@ abbrev start : tie.After-count-paths → tie.Start
 start c = c.before.before.before.before.before
 
 abbrev entries : tie.Start → List (List ℕ)
-entries s = entriesOf s.args.n s.args.paths s.args.list.now
+entries s = entries_of s.args.n s.args.paths s.args.list.now
 
 counted : (c : tie.After-count-paths)
-    → classesWith (λ (k : ℕ). get_or c.count-paths.new.1.1.1.0 k 0) ≡ classesBorne (start c).args.n (entries (start c))
+    → classes_with (λ (k : ℕ). get_or c.count-paths.new.1.1.1.0 k 0) ≡ classes_borne (start c).args.n (entries (start c))
 counted c = borne-counted (start c).args.n (entries (start c)) c.count-paths.ensures
 
 list-classes-requires : tie.Need-list-classes-requires

@@ -2,13 +2,13 @@
 use Prim.Native.Nat.{◌-◌}
 use lib.ListN.{length}
 use Rattle.text.proofs.Pieces.{Tabled, tabled_start, tabled-room, tabled-more, tabled-size, tabled-done}
-use Rattle.report_lines.proofs.Listed.{classLineAt, class-lines-at}
+use Rattle.report_lines.proofs.Listed.{class_line_at, class-lines-at}
 use borrow.Author.Rules.{rules}
 use Rattle.report_lines.proofs.class_text.class_lines.Statement.{statement}
 use Rattle.report_lines.proofs.class_text.class_lines.Tie as tie
 
 abbrev invariant-loop : tie.invariant-loop
-invariant-loop out₀ at classes lower upper place₀ i₀ out place i = Tabled (classLineAt classes lower upper) (length classes) out₀ at i out place
+invariant-loop out₀ at classes lower upper place₀ i₀ out place i = Tabled (class_line_at classes lower upper) (length classes) out₀ at i out place
 
 abbrev decreases-loop : tie.decreases-loop
 decreases-loop out₀ at classes lower upper place₀ i₀ out place i = length classes - i

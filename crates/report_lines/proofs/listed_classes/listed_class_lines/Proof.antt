@@ -3,8 +3,8 @@ use Prim.Native.Nat.{ℕ, ◌-◌}
 use mathlib.Core.List.{List}
 use native.Mathlib.Omega.{arith}
 use Rattle.text.proofs.Pieces.{Tabled, tabled_start, tabled-room, tabled-more, tabled-size, tabled-done}
-use Rattle.entries.specs.Entries.{classPlaces, entriesOf}
-use Rattle.report_lines.specs.ListedClasses.{listedLine}
+use Rattle.entries.specs.Entries.{class_places, entries_of}
+use Rattle.report_lines.specs.ListedClasses.{listed_line}
 use Rattle.report_lines.proofs.ListedClasses.{listed-lines}
 use borrow.Author.Rules.{rules}
 use Rattle.report_lines.proofs.listed_classes.listed_class_lines.Statement.{statement}
@@ -12,14 +12,14 @@ use Rattle.report_lines.proofs.listed_classes.listed_class_lines.Tie as tie
 
 abbrev invariant-loop : tie.invariant-loop
 invariant-loop out₀ at probabilities n list paths place₀ c₀ out place c =
-    Tabled (listedLine probabilities n (entriesOf n paths list)) classPlaces out₀ at c out place
+    Tabled (listed_line probabilities n (entries_of n paths list)) class_places out₀ at c out place
 
 abbrev decreases-loop : tie.decreases-loop
-decreases-loop out₀ at probabilities n list paths place₀ c₀ out place c = classPlaces - c
+decreases-loop out₀ at probabilities n list paths place₀ c₀ out place c = class_places - c
 
 -- the entries of the list
 abbrev entries : tie.Start invariant-loop decreases-loop → List (List ℕ)
-entries c = entriesOf c.args.n c.args.paths c.args.list.now
+entries c = entries_of c.args.n c.args.paths c.args.list.now
 
 -- what the caller knows, from a turn of the loop
 abbrev entered : tie.At-loop invariant-loop decreases-loop → tie.Start invariant-loop decreases-loop

@@ -3,14 +3,14 @@ use Prim.Native.Nat.{◌-◌, ◌<◌, ◌≤◌}
 use native.Mathlib.Omega.{arith}
 use lib.ListN.{length}
 use Rattle.lists.proofs.Writing.{Writing, writing_start, writing_more, writing-room, writing-done, writing-end}
-use Rattle.report_lines.specs.Paths.{markBytes}
+use Rattle.report_lines.specs.Paths.{mark_bytes}
 use Rattle.report_lines.proofs.Marked.{marks-long, mark-is}
 use borrow.Author.Rules.{rules}
 use Rattle.report_lines.proofs.marks.mark_bytes.Statement.{statement}
 use Rattle.report_lines.proofs.marks.mark_bytes.Tie as tie
 
 abbrev invariant-loop : tie.invariant-loop
-invariant-loop out₀ at n entry place₀ i₀ out place i = Writing (markBytes n entry) out₀ at i out place
+invariant-loop out₀ at n entry place₀ i₀ out place i = Writing (mark_bytes n entry) out₀ at i out place
 
 abbrev decreases-loop : tie.decreases-loop
 decreases-loop out₀ at n entry place₀ i₀ out place i = n - i
@@ -18,7 +18,7 @@ decreases-loop out₀ at n entry place₀ i₀ out place i = n - i
 abbrev start : tie.In-loop invariant-loop decreases-loop → tie.Start invariant-loop decreases-loop
 start c = c.before.before.before.before
 
-inside : (c : tie.In-loop invariant-loop decreases-loop) → c.before.loop.i < length (markBytes (start c).args.n (start c).args.entry.now)
+inside : (c : tie.In-loop invariant-loop decreases-loop) → c.before.loop.i < length (mark_bytes (start c).args.n (start c).args.entry.now)
 inside c = omega (arith, marks-long (start c).args.n (start c).args.entry.now, c.loop-test.true)
 
 loop-holds : tie.Need-loop-init invariant-loop decreases-loop
@@ -48,7 +48,7 @@ returns : tie.Need-returns invariant-loop decreases-loop
 returns c =
     let args = c.before.before.before.before.args in
     let long = marks-long args.n args.entry.now in
-    let all : length (markBytes args.n args.entry.now) ≤ c.before.loop.i = omega (arith, long, c.loop-test.false) in
+    let all : length (mark_bytes args.n args.entry.now) ≤ c.before.loop.i = omega (arith, long, c.loop-test.false) in
     record { holds = writing-done c.before.loop.invariant all; behind = writing-end c.before.loop.invariant all }
 
 pub mark-bytes-spec : {M : Type 1} → statement M

@@ -1,7 +1,7 @@
 -- `report_lines::path_text::entry_line` meets its contract: its pieces stand one behind the other (`Pieces`).
 use native.Mathlib.Omega.{arith}
 use Rattle.text.proofs.Pieces.{pieces-start, pieces_room, pieces_more, pieces-done}
-use Rattle.report_lines.specs.Paths.{entryLine}
+use Rattle.report_lines.specs.Paths.{entry_line}
 use borrow.Author.Rules.{rules}
 use Rattle.report_lines.proofs.path_text.entry_line.Statement.{statement}
 use Rattle.report_lines.proofs.path_text.entry_line.Tie as tie
@@ -20,11 +20,11 @@ abbrev third : tie.After-bounds-end → tie.After-field
 third c = c.before.before.before.before
 
 copy-requires : tie.Need-copy-requires
-unfolding entryLine
+unfolding entry_line
 copy-requires c κs = pieces_room (pieces-start _ c.before.before.before.before.requires.1) (omega arith)
 
 mark-bytes-requires : tie.Need-mark-bytes-requires
-unfolding entryLine
+unfolding entry_line
 mark-bytes-requires c κs =
     let copied = c.before.before.before in
     let written0 = pieces-start _ (start copied).requires.1 in
@@ -32,7 +32,7 @@ mark-bytes-requires c κs =
     ((start copied).requires.0, pieces_room written1 (omega arith))
 
 field-requires : tie.Need-field-requires
-unfolding entryLine
+unfolding entry_line
 field-requires c κs =
     let marked = c.before.before.before in
     let written0 = pieces-start _ (start (first marked)).requires.1 in
@@ -41,7 +41,7 @@ field-requires c κs =
     pieces_room written2 (omega arith)
 
 bounds-end-requires : tie.Need-bounds-end-requires
-unfolding entryLine
+unfolding entry_line
 bounds-end-requires c κs =
     let classed = c.before.before.before in
     let marked = second classed in
@@ -52,7 +52,7 @@ bounds-end-requires c κs =
     pieces_room written3 (omega arith)
 
 returns : tie.Need-returns
-unfolding entryLine
+unfolding entry_line
 returns c =
     let ended = c.before.before in
     let classed = third ended in

@@ -1,7 +1,7 @@
 -- `report_lines::path_text::path_line` meets its contract: it is the line of its entry with the path's class and two bounds.
 use mathlib.Core.Path.{sym}
 use native.Mathlib.Omega.{arith}
-use Rattle.report_lines.specs.Paths.{pathLine}
+use Rattle.report_lines.specs.Paths.{path_line}
 use borrow.Author.Rules.{rules}
 use Rattle.report_lines.proofs.path_text.path_line.Statement.{statement}
 use Rattle.report_lines.proofs.path_text.path_line.Tie as tie
@@ -17,7 +17,7 @@ path-bound-requires-2 c κs =
     (omega arith, (pre.0, (pre.1.0, omega (arith, pre.1.1.0))))
 
 entry-line-requires : tie.Need-entry-line-requires
-unfolding pathLine
+unfolding path_line
 entry-line-requires c κs =
     let classed = c.before in
     let bounded = classed.before in
@@ -27,7 +27,7 @@ entry-line-requires c κs =
     )
 
 returns : tie.Need-returns
-unfolding pathLine
+unfolding path_line
 returns c =
     let written = c.before.before in
     let classed = written.before.before in

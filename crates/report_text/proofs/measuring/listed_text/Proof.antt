@@ -5,13 +5,13 @@ use mathlib.Core.List.{List, [], ◌∷◌}
 use native.Mathlib.Omega.{arith}
 use Rattle.text.proofs.Pieces.{Pieces, pieces-start, pieces_room, pieces_more, pieces-done}
 use Rattle.joint_states.specs.JointStates.{number_of}
-use Rattle.entries.specs.Entries.{classPlaces, entriesOf}
-use Rattle.model.specs.InHand.{heldCounts, modelHeld}
+use Rattle.entries.specs.Entries.{class_places, entries_of}
+use Rattle.model.specs.InHand.{held_counts, model_held}
 use Rattle.model.specs.Model.{Model}
 use Rattle.model.proofs.InHand.{held-inside, listed-values}
 use Rattle.evaluation.proofs.Bounding.{hand-boundable}
-use Rattle.report_lines.specs.ListedClasses.{listedLines}
-use Rattle.report_text.specs.Report.{pathsText, classesText, lossesText, modelText}
+use Rattle.report_lines.specs.ListedClasses.{listed_lines}
+use Rattle.report_text.specs.Report.{paths_text, classes_text, losses_text, model_text}
 use Rattle.report_text.proofs.Fits.{has_room, model-short}
 use borrow.Author.Rules.{rules}
 use Rattle.report_text.proofs.measuring.listed_text.Statement.{statement}
@@ -20,10 +20,10 @@ use Rattle.report_text.proofs.measuring.listed_text.Tie as tie
 -- ---- the parts, and the steps behind which each is written
 
 abbrev model : tie.Start → Model
-model s = modelHeld s.args.model s.args.classes.now
+model s = model_held s.args.model s.args.classes.now
 
 abbrev parts : tie.Start → List (List ℕ)
-parts s = pathsText (model s) ∷ classesText (model s) ∷ lossesText (model s) ∷ []
+parts s = paths_text (model s) ∷ classes_text (model s) ∷ losses_text (model s) ∷ []
 
 abbrev known : tie.After-paths-text-arg → tie.After-shared-slice-known
 known c = c.before.before.before.before.before
@@ -40,12 +40,12 @@ classed c = c.before.before.before
 -- ---- so many parts are written
 
 -- a class of the table is a byte
-class-byte : (c : tie.After-shared-slice-known) (x : List ℕ) → (model c.before).class x < classPlaces
-unfolding modelHeld
-class-byte c x = omega (arith, c.shared-slice-known.given (number_of (heldCounts c.before.args.model) x))
+class-byte : (c : tie.After-shared-slice-known) (x : List ℕ) → (model c.before).class x < class_places
+unfolding model_held
+class-byte c x = omega (arith, c.shared-slice-known.given (number_of (held_counts c.before.args.model) x))
 
 none : (c : tie.After-paths-text-arg) → Pieces (parts (start c)) (start c).args.out.now 0 0 (start c).args.out.now 0
-unfolding modelText
+unfolding model_text
 none c =
     let pre = (start c).requires in
     pieces-start _ (has_room _ _ (model-short (model (start c)) pre.0.good (class-byte (known c))) pre.1.1)
@@ -58,13 +58,13 @@ one c = pieces_more (none c.before) (omega arith) c.paths-text.ensures
 lines_are : (c : tie.After-first-components)
     → let s = start (pathed c).before in
     let n = s.args.model.components in
-    listedLines c.first-components.result.now n (entriesOf n s.args.paths s.args.list.now) ≡ classesText (model s)
-unfolding classesText
+    listed_lines c.first-components.result.now n (entries_of n s.args.paths s.args.list.now) ≡ classes_text (model s)
+unfolding classes_text
 lines_are c =
     let s = start (pathed c).before in
     let n = s.args.model.components in
-    ap (λ (p : List ℕ). listedLines p n (entriesOf n s.args.paths s.args.list.now)) c.first-components.ensures
-    ∙ listed-values s.pre.0 s.pre.1.0 listedLines
+    ap (λ (p : List ℕ). listed_lines p n (entries_of n s.args.paths s.args.list.now)) c.first-components.ensures
+    ∙ listed-values s.pre.0 s.pre.1.0 listed_lines
 
 two : (c : tie.After-listed-class-lines)
     → let s = start (pathed c.before).before in
@@ -94,7 +94,7 @@ losses-text-requires c κs =
     ((start (pathed lined.before).before).requires.0, pieces_room (two lined) (omega arith))
 
 returns : tie.Need-returns
-unfolding modelText
+unfolding model_text
 returns c =
     let all = c.before.before in
     pieces-done (pieces_more (two (classed all.before)) (omega arith) all.losses-text.ensures) (omega arith)

@@ -6,17 +6,17 @@ use native.Mathlib.Omega.{arith}
 use lib.ListN.{length, take}
 use lib.Seq.{length-take-le}
 use Rattle.lists.proofs.Puts.{put-size}
-use Rattle.rules.specs.Limits.{mostJointStates}
-use Rattle.entries.specs.Entries.{classPlaces, entriesOf}
+use Rattle.rules.specs.Limits.{most_joint_states}
+use Rattle.entries.specs.Entries.{class_places, entries_of}
 use Rattle.entries.proofs.Entries.{entries-long}
-use Rattle.model.specs.InHand.{modelHeld}
+use Rattle.model.specs.InHand.{model_held}
 use Rattle.model.proofs.InHand.{held_number, listed-room}
 use Rattle.totals.proofs.Placed.{placed-over}
-use Rattle.evaluation.specs.Bounds.{classLowers, classUppers}
+use Rattle.evaluation.specs.Bounds.{class_lowers, class_uppers}
 use Rattle.evaluation.proofs.PairPut.{PairRoom}
-use Rattle.report_lines.specs.Classes.{classLines}
+use Rattle.report_lines.specs.Classes.{class_lines}
 use Rattle.report_lines.proofs.Borne.{borne-few}
-use Rattle.report_text.specs.Report.{classesText}
+use Rattle.report_text.specs.Report.{classes_text}
 use Rattle.report_text.proofs.Tables.{lowers-long, uppers-long, classes-are}
 use borrow.Author.Rules.{rules}
 use Rattle.report_text.proofs.model_text.classes_text.Statement.{statement}
@@ -46,16 +46,16 @@ inside c =
     let s = start (empty c) in
     let n = s.args.model.components in
     let paths = entries-long n s.args.paths s.args.list.now in
-    let classes = borne-few n (entriesOf n s.args.paths s.args.list.now) in
-    let places : length c.occurring.new.1.1.1.1.0 ≡ mostJointStates = search rules in
+    let classes = borne-few n (entries_of n s.args.paths s.args.list.now) in
+    let places : length c.occurring.new.1.1.1.1.0 ≡ most_joint_states = search rules in
     omega (arith, c.occurring.ensures.1.behind, classes, paths, s.pre.1.0.room.few, places)
 
 -- the lines from the list and the tables are those of the model
 lines_are : (c : tie.After-write-classes)
     → let list = (listed c).occurring in
     let args = (start (empty (listed c))).args in
-    classLines (take list.result list.last.1.1.1.1.0) c.write-classes.new.1.1.0 c.write-classes.new.1.1.1.0
-    ≡ classesText (modelHeld args.model args.classes.now)
+    class_lines (take list.result list.last.1.1.1.1.0) c.write-classes.new.1.1.0 c.write-classes.new.1.1.1.0
+    ≡ classes_text (model_held args.model args.classes.now)
 lines_are c =
     let wrote = c.write-classes.ensures in
     let s = start (empty (listed c)) in
@@ -63,16 +63,16 @@ lines_are c =
 
 -- the tables are as long as they were
 tables-room : (c : tie.After-write-classes)
-    → PairRoom classPlaces (length c.write-classes.new.1.1.0) (length c.write-classes.new.1.1.1.0)
+    → PairRoom class_places (length c.write-classes.new.1.1.0) (length c.write-classes.new.1.1.1.0)
 tables-room c =
     let s = start (empty (listed c)) in
     let room = s.pre.1.1.1 in
-    let m = modelHeld s.args.model s.args.classes.now in
+    let m = model_held s.args.model s.args.classes.now in
     let counts = (listed c).occurring.ensures.0.size in
     let wrote = c.write-classes.ensures in
     record {
-      in-lower = omega (arith, put-size _ _ 0 (classLowers m) (omega (arith, lowers-long m, counts, room.0)) wrote.0, counts, room.0);
-      in-upper = omega (arith, put-size _ _ 0 (classUppers m) (omega (arith, uppers-long m, room.1)) wrote.1, room.1);
+      in_lower = omega (arith, put-size _ _ 0 (class_lowers m) (omega (arith, lowers-long m, counts, room.0)) wrote.0, counts, room.0);
+      in_upper = omega (arith, put-size _ _ 0 (class_uppers m) (omega (arith, uppers-long m, room.1)) wrote.1, room.1);
     }
 
 -- ---- the needs
@@ -100,15 +100,15 @@ class-lines-requires : tie.Need-class-lines-requires
 class-lines-requires c κs =
     let tables = filled c.before.before.before in
     let room = tables-room tables in
-    (room.in-lower, (room.in-upper, rw (lines_are tables) (start (empty (listed tables))).requires.1.1.0))
+    (room.in_lower, (room.in_upper, rw (lines_are tables) (start (empty (listed tables))).requires.1.1.0))
 
 returns : tie.Need-returns
 returns c =
     let lined = c.before.before in
     let tables = filled lined.before.before.before.before in
     let s = start (empty (listed tables)) in
-    let m = modelHeld s.args.model s.args.classes.now in
-    let hidden = placed-over (listed tables).occurring.ensures.0 s.pre.1.1.1.0 (classLowers m) (lowers-long m) in
+    let m = model_held s.args.model s.args.classes.now in
+    let hidden = placed-over (listed tables).occurring.ensures.0 s.pre.1.1.1.0 (class_lowers m) (lowers-long m) in
     (rw (sym (lines_are tables)) lined.class-lines.ensures, (tables.write-classes.ensures.0 ∙ hidden, tables.write-classes.ensures.1))
 
 pub classes-text-spec : {M : Type 1} → statement M

@@ -5,14 +5,14 @@ use mathlib.Core.List.{List, [], ◌∷◌}
 use native.Mathlib.Omega.{arith}
 use lib.ListN.{length}
 use Rattle.text.proofs.Pieces.{Pieces, pieces-start, pieces_room, pieces_more, pieces-done}
-use Rattle.model.specs.InHand.{modelHeld}
+use Rattle.model.specs.InHand.{model_held}
 use Rattle.model.specs.Model.{Model}
-use Rattle.evaluation.specs.Bounds.{loadLowers, loadUppers}
-use Rattle.evaluation.specs.Figures.{figuresBy}
+use Rattle.evaluation.specs.Bounds.{load_lowers, load_uppers}
+use Rattle.evaluation.specs.Figures.{figures_by}
 use Rattle.evaluation.proofs.LossOrder.{fewer-losses}
-use Rattle.report_lines.specs.Figures.{figureLines}
-use Rattle.report_lines.specs.Loads.{loadLines}
-use Rattle.report_text.specs.Report.{lossesText}
+use Rattle.report_lines.specs.Figures.{figure_lines}
+use Rattle.report_lines.specs.Loads.{load_lines}
+use Rattle.report_text.specs.Report.{losses_text}
 use Rattle.report_text.proofs.Tables.{loads-are, figures-are}
 use borrow.Author.Rules.{rules}
 use Rattle.report_text.proofs.model_text.losses_text.Statement.{statement}
@@ -30,19 +30,19 @@ abbrev figured : tie.After-load-lines → tie.After-figures-from
 figured c = c.before.before.before.before
 
 abbrev model : tie.Start → Model
-model s = modelHeld s.args.model s.args.classes.now
+model s = model_held s.args.model s.args.classes.now
 
 abbrev parts : tie.Start → List (List ℕ)
 parts s =
-    loadLines (loadLowers (model s)) (loadUppers (model s)) (length (model s).loads)
-    ∷ figureLines (figuresBy (loadLowers (model s)) (loadUppers (model s)) (model s).loads)
+    load_lines (load_lowers (model s)) (load_uppers (model s)) (length (model s).loads)
+    ∷ figure_lines (figures_by (load_lowers (model s)) (load_uppers (model s)) (model s).loads)
     ∷ []
 
 load-lines-are : (c : tie.After-figures-from)
     → let s = start (bounded c) in
-    loadLines (bounded c).loss-bounds.result.lower (bounded c).loss-bounds.result.upper s.args.model.loads
-    ≡ loadLines (loadLowers (model s)) (loadUppers (model s)) (length (model s).loads)
-unfolding modelHeld
+    load_lines (bounded c).loss-bounds.result.lower (bounded c).loss-bounds.result.upper s.args.model.loads
+    ≡ load_lines (load_lowers (model s)) (load_uppers (model s)) (length (model s).loads)
+unfolding model_held
 load-lines-are c =
     let s = start (bounded c) in
     let places = s.pre.0.places in
@@ -50,13 +50,13 @@ load-lines-are c =
 
 figure-lines-are : (c : tie.After-figures-from)
     → let s = start (bounded c) in
-    figureLines c.figures-from.result ≡ figureLines (figuresBy (loadLowers (model s)) (loadUppers (model s)) (model s).loads)
-unfolding modelHeld
+    figure_lines c.figures-from.result ≡ figure_lines (figures_by (load_lowers (model s)) (load_uppers (model s)) (model s).loads)
+unfolding model_held
 figure-lines-are c = figures-are (bounded c).loss-bounds.ensures _ c.figures-from.ensures
 
 begun : (c : tie.After-figures-from)
     → let s = start (bounded c) in Pieces (parts s) s.args.out.now s.args.at 0 s.args.out.now s.args.at
-unfolding lossesText
+unfolding losses_text
 begun c = pieces-start _ (start (bounded c)).requires.1
 
 one : (c : tie.After-load-lines)
@@ -65,7 +65,7 @@ one : (c : tie.After-load-lines)
 one c = pieces_more (begun (figured c)) (omega arith) (rw (load-lines-are (figured c)) at c.load-lines.ensures)
 
 figures-from-requires : tie.Need-figures-from-requires
-unfolding modelHeld
+unfolding model_held
 figures-from-requires c κs =
     let hand = (start c).requires.0 in
     let few = hand.places.loads in
@@ -82,7 +82,7 @@ figure-lines-requires c κs =
     rw (figure-lines-are (figured lined)) (pieces_room (one lined) (omega arith))
 
 returns : tie.Need-returns
-unfolding lossesText
+unfolding losses_text
 returns c =
     let all = c.before.before in
     let lined = all.before.before.before.before in

@@ -3,9 +3,9 @@ use Prim.Native.Nat.{ℕ}
 use mathlib.Core.List.{List, [], ◌∷◌}
 use native.Mathlib.Omega.{arith}
 use Rattle.text.proofs.Pieces.{Pieces, pieces-start, pieces_room, pieces_more, pieces-done}
-use Rattle.model.specs.InHand.{modelHeld}
+use Rattle.model.specs.InHand.{model_held}
 use Rattle.model.specs.Model.{Model}
-use Rattle.report_text.specs.Report.{pathsText, classesText, lossesText, modelText}
+use Rattle.report_text.specs.Report.{paths_text, classes_text, losses_text, model_text}
 use borrow.Author.Rules.{rules}
 use Rattle.report_text.proofs.model_text.model_text.Statement.{statement}
 use Rattle.report_text.proofs.model_text.model_text.Tie as tie
@@ -13,10 +13,10 @@ use Rattle.report_text.proofs.model_text.model_text.Tie as tie
 -- ---- the parts, and the steps behind which each is written
 
 abbrev model : tie.Start → Model
-model s = modelHeld s.args.model s.args.classes.now
+model s = model_held s.args.model s.args.classes.now
 
 abbrev parts : tie.Start → List (List ℕ)
-parts s = pathsText (model s) ∷ classesText (model s) ∷ lossesText (model s) ∷ []
+parts s = paths_text (model s) ∷ classes_text (model s) ∷ losses_text (model s) ∷ []
 
 abbrev start : tie.After-paths-text-arg → tie.Start
 start c =
@@ -34,7 +34,7 @@ classed c =
 -- ---- so many parts are written
 
 none : (c : tie.After-paths-text-arg) → Pieces (parts (start c)) (start c).args.out.now 0 0 (start c).args.out.now 0
-unfolding modelText
+unfolding model_text
 none c = pieces-start _ (start c).requires.1.1.0
 
 one : (c : tie.After-paths-text)
@@ -65,7 +65,7 @@ losses-text-requires c κs =
     ((start (pathed lined.before).before).requires.0, pieces_room (two lined) (omega arith))
 
 returns : tie.Need-returns
-unfolding modelText
+unfolding model_text
 returns c =
     let all = c.before.before in
     let lined = classed all.before in

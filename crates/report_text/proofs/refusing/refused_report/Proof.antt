@@ -1,7 +1,7 @@
 -- `report_text::refusing::refused_report` meets its contract: the line is written whole, and its bytes are handed over.
 use native.Mathlib.Omega.{arith}
 use Rattle.lent_text.proofs.Whole.{whole-front, whole-inside, front-counts, front-short}
-use Rattle.report_text.specs.Report.{refusedBytes}
+use Rattle.report_text.specs.Report.{refused_bytes}
 use Rattle.report_text.proofs.Fits.{has_room, refused-short}
 use borrow.Author.Rules.{rules}
 use Rattle.report_text.proofs.refusing.refused_report.Statement.{statement}
@@ -10,7 +10,7 @@ use Rattle.report_text.proofs.refusing.refused_report.Tie as tie
 refused-text-requires : tie.Need-refused-text-requires
 refused-text-requires c κs =
     let begin = c.before.before.before in
-    has_room {most = refusedBytes} _ _ (refused-short _ (omega (arith, begin.ranges.refusal.fits))) (search rules)
+    has_room {most = refused_bytes} _ _ (refused-short _ (omega (arith, begin.ranges.refusal.fits))) (search rules)
 
 array-share-prefix-line : tie.Need-array-share-prefix-line
 array-share-prefix-line c = whole-inside c.before.refused-text.ensures
@@ -19,7 +19,7 @@ slice-aggregate-hand-over : tie.Need-slice-aggregate-hand-over
 slice-aggregate-hand-over c = front-counts c.before.before.refused-text.ensures
 
 hand-over-requires : tie.Need-hand-over-requires
-hand-over-requires c κs = front-short c.before.before.before.refused-text.ensures refusedBytes (search rules) (omega arith)
+hand-over-requires c κs = front-short c.before.before.before.refused-text.ensures refused_bytes (search rules) (omega arith)
 
 returns : tie.Need-returns
 returns c =

@@ -5,8 +5,8 @@ use native.Mathlib.Omega.{arith}
 use Rattle.text.specs.Letters.{letters}
 use Rattle.text.specs.Lines.{field}
 use Rattle.text.proofs.Pieces.{Pieces, pieces-start, pieces_room, pieces_more, pieces-done}
-use Rattle.words.specs.Words.{refusalWord}
-use Rattle.report_text.specs.Report.{refusedText}
+use Rattle.words.specs.Words.{refusal_word}
+use Rattle.report_text.specs.Report.{refused_text}
 use borrow.Author.Rules.{rules}
 use Rattle.report_text.proofs.refusing.refused_text.Statement.{statement}
 use Rattle.report_text.proofs.refusing.refused_text.Tie as tie
@@ -14,7 +14,7 @@ use Rattle.report_text.proofs.refusing.refused_text.Tie as tie
 -- ---- the pieces, and the steps behind which each is written
 
 abbrev parts : tie.Start → List (List ℕ)
-parts s = letters "REFUSED" ∷ field s.args.refusal ∷ letters " " ∷ refusalWord s.args.refusal ∷ letters "\n" ∷ []
+parts s = letters "REFUSED" ∷ field s.args.refusal ∷ letters " " ∷ refusal_word s.args.refusal ∷ letters "\n" ∷ []
 
 abbrev start : tie.After-copy → tie.Start
 start c = c.before.before.before.before
@@ -34,7 +34,7 @@ worded c = c.before.before.before.before.before
 -- ---- so many pieces are written
 
 one : (c : tie.After-copy) → Pieces (parts (start c)) (start c).args.out.now 0 1 c.copy.new.0 c.copy.result
-unfolding refusedText
+unfolding refused_text
 one c = pieces_more (pieces-start _ (start c).requires) (omega arith) c.copy.ensures
 
 two : (c : tie.After-field) → Pieces (parts (start (copied c))) (start (copied c)).args.out.now 0 2 c.field.new.0 c.field.result
@@ -50,7 +50,7 @@ four : (c : tie.After-write-word)
 four c = pieces_more (three (parted c)) (omega arith) c.write_word.ensures
 
 copy-requires : tie.Need-copy-requires
-unfolding refusedText
+unfolding refused_text
 copy-requires c κs = pieces_room (pieces-start _ c.before.before.before.requires) (omega arith)
 
 field-requires : tie.Need-field-requires
@@ -66,7 +66,7 @@ copy-requires-3 : tie.Need-copy-requires-3
 copy-requires-3 c κs = pieces_room (four c.before.before.before.before) (omega arith)
 
 returns : tie.Need-returns
-unfolding refusedText
+unfolding refused_text
 returns c =
     let all = c.before.before in
     pieces-done (pieces_more (four (worded all)) (omega arith) all.copy3.ensures) (omega arith)

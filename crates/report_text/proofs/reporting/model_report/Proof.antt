@@ -3,14 +3,14 @@ use Prim.Native.Nat.{ℕ, ◌<◌}
 use mathlib.Core.Path.{◌≡◌, sym, ◌∙◌}
 use mathlib.Core.List.{List}
 use native.Mathlib.Omega.{arith}
-use Rattle.rules.specs.Breach.{firstBreach}
+use Rattle.rules.specs.Breach.{first_breach}
 use Rattle.rules.proofs.Kept.{two-judged}
 use Rattle.joint_states.specs.JointStates.{number_of}
-use Rattle.entries.specs.Entries.{classPlaces}
-use Rattle.model.specs.InHand.{heldCounts, modelHeld}
+use Rattle.entries.specs.Entries.{class_places}
+use Rattle.model.specs.InHand.{held_counts, model_held}
 use Rattle.model.specs.Model.{Model}
-use Rattle.report_text.specs.Lent.{roomBreaches}
-use Rattle.report_text.specs.Report.{modelText}
+use Rattle.report_text.specs.Lent.{room_breaches}
+use Rattle.report_text.specs.Report.{model_text}
 use Rattle.report_text.proofs.Fits.{model-short}
 use Rattle.report_text.proofs.Reported.{put_refused, put-done, text-room, bounds-room}
 use borrow.Author.Rules.{rules}
@@ -31,18 +31,18 @@ listed c =
     text.before.before.before
 
 abbrev model : tie.Start → Model
-model s = modelHeld s.args.model s.args.classes.now
+model s = model_held s.args.model s.args.classes.now
 
 fault-is : (c : tie.After-first)
     → let s = start (listed c) in
     c.first.result
-    ≡ firstBreach (roomBreaches (modelText (model s)) classPlaces s.args.text.now s.args.lower.now s.args.upper.now)
+    ≡ first_breach (room_breaches (model_text (model s)) class_places s.args.text.now s.args.lower.now s.args.upper.now)
 fault-is c = two-judged c.first.ensures c.before.before.text-fault.ensures c.before.pair-fault.ensures
 
 -- a class of the table is a byte, so that the text is no longer than any report
-class-byte : (c : tie.After-shared-slice-known) (x : List ℕ) → (model c.before).class x < classPlaces
-unfolding modelHeld
-class-byte c x = omega (arith, c.shared-slice-known.given (number_of (heldCounts c.before.args.model) x))
+class-byte : (c : tie.After-shared-slice-known) (x : List ℕ) → (model c.before).class x < class_places
+unfolding model_held
+class-byte c x = omega (arith, c.shared-slice-known.given (number_of (held_counts c.before.args.model) x))
 
 -- ---- the needs
 
@@ -65,10 +65,10 @@ model-text-requires c κs =
     let judged = (kept c).before in
     let args = (start (listed judged)).args in
     let none = sym (fault-is judged) ∙ (kept c).if1.false in
-    let report = modelText (model (start (listed judged))) in
-    let text = text-room report classPlaces args.text.now args.lower.now args.upper.now none in
-    let bounds = bounds-room report classPlaces args.text.now args.lower.now args.upper.now none in
-    ((start (listed judged)).requires, ((listed judged).list-whole.ensures, (text, (bounds.in-lower, bounds.in-upper))))
+    let report = model_text (model (start (listed judged))) in
+    let text = text-room report class_places args.text.now args.lower.now args.upper.now none in
+    let bounds = bounds-room report class_places args.text.now args.lower.now args.upper.now none in
+    ((start (listed judged)).requires, ((listed judged).list-whole.ensures, (text, (bounds.in_lower, bounds.in_upper))))
 
 abbrev written : tie.After-slice-known6 → tie.After-model-text
 written c =

@@ -9,18 +9,18 @@ use lib.Pow.{pow_mono, pow_pos, shl_exact, le_ones}
 use lib.Dec.{lit<, ltb}
 use borrow.Author.Rules.{rules}
 use borrow.Author.Tests.{le-ltb}
-use Rattle.rules.specs.Limits.{maskBits}
+use Rattle.rules.specs.Limits.{mask_bits}
 use Rattle.rules.specs.Breach.{refuse, outside}
 use Rattle.rules.proofs.table.mask_fault.Statement.{statement}
 use Rattle.rules.proofs.table.mask_fault.Tie as tie
 
 -- a byte's mask is not above 2 ^ states - 1
-only_zero : (states mask : ℕ) → maskBits ≤ states → mask < 2 ^ maskBits → outside 1 (2 ^ states - 1) mask ≡ ltb mask 1
+only_zero : (states mask : ℕ) → mask_bits ≤ states → mask < 2 ^ mask_bits → outside 1 (2 ^ states - 1) mask ≡ ltb mask 1
 unfolding outside
 only_zero states mask h m = rw (le-ltb (2 ^ states - 1) mask (le_ones states (le_trans m (pow_mono h)))) (or-false (ltb mask 1))
 
 -- the shifted bit
-shifted : (states : ℕ) → states < maskBits → (1 * 2 ^ states) % 2 ^ 32 ≡ 2 ^ states
+shifted : (states : ℕ) → states < mask_bits → (1 * 2 ^ states) % 2 ^ 32 ≡ 2 ^ states
 shifted states h = shl_exact 1 states 32 (lit< tt) (omega arith) ∙ one-mul (2 ^ states)
 
 returns : tie.Need-returns

@@ -2,13 +2,13 @@
 use mathlib.Core.Path.{◌∙◌}
 use mathlib.Core.List.{[], ◌∷◌}
 use borrow.Author.Rules.{rules}
-use Rattle.rules.specs.Breach.{firstBreach}
-use Rattle.soundness.specs.Check.{gateFault}
+use Rattle.rules.specs.Breach.{first_breach}
+use Rattle.soundness.specs.Check.{gate_fault}
 use Rattle.soundness.proofs.gates.gate_fault.Statement.{statement}
 use Rattle.soundness.proofs.gates.gate_fault.Tie as tie
 
 returns : tie.Need-returns
-unfolding gateFault
+unfolding gate_fault
 returns c =
     let vote = c.before in
     let places = vote.before in
@@ -16,7 +16,7 @@ returns c =
     let tests = gates.before in
     c.first-of-four.ensures
     ∙ (λ i.
-    firstBreach (
+    first_breach (
     tests.input-count-fault.ensures i
     ∷ gates.input-count-fault2.ensures i
     ∷ places.input-places-fault.ensures i

@@ -3,12 +3,12 @@ use mathlib.Core.Path.{ap₂, ◌∙◌}
 use borrow.Author.Rules.{rules}
 use borrow.Author.Tests.{lt-ltb, le-ltb}
 use Rattle.rules.specs.Breach.{first}
-use Rattle.soundness.specs.Check.{unusedGateFault, gatePlaceFault}
+use Rattle.soundness.specs.Check.{unused_gate_fault, gate_place_fault}
 use Rattle.soundness.proofs.gates.gate_place_fault.Statement.{statement}
 use Rattle.soundness.proofs.gates.gate_place_fault.Tie as tie
 
 returns : tie.Need-returns
-unfolding gatePlaceFault
+unfolding gate_place_fault
 returns c = rw (lt-ltb _ _ c.before.if1.true) c.gate-fault.ensures
 
 -- the step behind which a place is known to be unused
@@ -16,7 +16,7 @@ abbrev unused : tie.After-first → tie.After-unused-fault
 unused c = c.before.before
 
 returns-2 : tie.Need-returns-2
-unfolding gatePlaceFault unusedGateFault
+unfolding gate_place_fault unused_gate_fault
 returns-2 c =
     let past = (unused c).before.before.before.before in
     rw (le-ltb _ _ past.if1.left) (c.first.ensures ∙ ap₂ first (unused c).unused-fault.ensures c.before.input-places-fault.ensures)

@@ -3,18 +3,18 @@ use Prim.Native.Nat.{ℕ, ◌-◌}
 use native.Mathlib.Omega.{arith}
 use lib.ListN.{get_or}
 use borrow.Author.Rules.{rules}
-use Rattle.soundness.specs.Check.{gatesFault, gatePlaceFault}
-use Rattle.rules.specs.Limits.{mostGates}
+use Rattle.soundness.specs.Check.{gates_fault, gate_place_fault}
+use Rattle.rules.specs.Limits.{most_gates}
 use Rattle.rules.proofs.Firsts.{FirstLeft, first-start, first_more, first_done}
-use Rattle.study.specs.Places.{noGate}
+use Rattle.study.specs.Places.{no_gate}
 use Rattle.soundness.proofs.gates.gates_fault.Statement.{statement}
 use Rattle.soundness.proofs.gates.gates_fault.Tie as tie
 
 abbrev invariant-loop : tie.invariant-loop
-invariant-loop counts n gate fault₀ i₀ fault i = FirstLeft (λ (i : ℕ). gatePlaceFault counts n i (get_or gate i noGate)) mostGates i fault
+invariant-loop counts n gate fault₀ i₀ fault i = FirstLeft (λ (i : ℕ). gate_place_fault counts n i (get_or gate i no_gate)) most_gates i fault
 
 abbrev decreases-loop : tie.decreases-loop
-decreases-loop counts n gate fault₀ i₀ fault i = mostGates - i
+decreases-loop counts n gate fault₀ i₀ fault i = most_gates - i
 
 loop-holds : tie.Need-loop-init invariant-loop decreases-loop
 loop-holds c = first-start
@@ -34,7 +34,7 @@ loop-again c =
     first_more turn.before.loop.invariant turn.loop-test.true c.before.gate-place-fault.ensures c.first.ensures
 
 returns : tie.Need-returns invariant-loop decreases-loop
-unfolding gatesFault
+unfolding gates_fault
 returns c = first_done c.before.loop.invariant c.loop-test.false
 
 pub gates-fault-spec : {M : Type 1} → statement M

@@ -4,24 +4,24 @@ use Prim.Native.Nat.{ℕ, ◌-◌}
 use native.Mathlib.Omega.{arith}
 use lib.ListN.{get_or}
 use borrow.Author.Rules.{rules}
-use Rattle.rules.specs.Limits.{mostGateInputs}
+use Rattle.rules.specs.Limits.{most_gate_inputs}
 use Rattle.rules.proofs.Firsts.{FirstLeft, first-start, none_more, next-first, first_done}
-use Rattle.soundness.specs.Check.{inputPlaceFault, gateInputsFault}
+use Rattle.soundness.specs.Check.{input_place_fault, gate_inputs_fault}
 use Rattle.soundness.proofs.inputs.gate_inputs_fault.Statement.{statement}
 use Rattle.soundness.proofs.inputs.gate_inputs_fault.Tie as tie
 
 abbrev invariant-loop : tie.invariant-loop
-invariant-loop i gates input j₀ j = FirstLeft (λ (j : ℕ). inputPlaceFault i gates j (get_or input j 0)) mostGateInputs j 0
+invariant-loop i gates input j₀ j = FirstLeft (λ (j : ℕ). input_place_fault i gates j (get_or input j 0)) most_gate_inputs j 0
 
 abbrev decreases-loop : tie.decreases-loop
-decreases-loop i gates input j₀ j = mostGateInputs - j
+decreases-loop i gates input j₀ j = most_gate_inputs - j
 
 -- the turn that judges a place
 abbrev turn : tie.After-input-place-fault invariant-loop decreases-loop → tie.In-loop invariant-loop decreases-loop
 turn c = c.before
 
 returns : tie.Need-returns invariant-loop decreases-loop
-unfolding gateInputsFault
+unfolding gate_inputs_fault
 returns c =
     let here = turn c.before in
     next-first here.before.loop.inv here.loop-test.taken c.before.input-place-fault.ensures c.if1.true
@@ -32,7 +32,7 @@ loop-again c =
     none_more here.before.loop.inv here.loop-test.taken c.before.input-place-fault.ensures c.if1.false
 
 returns-2 : tie.Need-returns-2 invariant-loop decreases-loop
-unfolding gateInputsFault
+unfolding gate_inputs_fault
 returns-2 c = first_done c.before.loop.invariant c.loop-test.false
 
 pub gate-inputs-fault-spec : {M : Type 1} → statement M

@@ -1,16 +1,16 @@
 -- `soundness::inputs::input_place_fault` meets its contract: whether the place is in use decides by which rule it is judged.
 use borrow.Author.Rules.{rules}
 use borrow.Author.Tests.{lt-ltb, le-ltb}
-use Rattle.soundness.specs.Check.{inputPlaceFault}
+use Rattle.soundness.specs.Check.{input_place_fault}
 use Rattle.soundness.proofs.inputs.input_place_fault.Statement.{statement}
 use Rattle.soundness.proofs.inputs.input_place_fault.Tie as tie
 
 returns : tie.Need-returns
-unfolding inputPlaceFault
+unfolding input_place_fault
 returns c = rw (lt-ltb _ _ c.before.if1.true) c.ahead-fault.ensures
 
 returns-2 : tie.Need-returns-2
-unfolding inputPlaceFault
+unfolding input_place_fault
 returns-2 c = rw (le-ltb _ _ c.before.if1.false) c.unused-fault.ensures
 
 pub input-place-fault-spec : {M : Type 1} → statement M

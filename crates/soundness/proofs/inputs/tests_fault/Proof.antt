@@ -3,24 +3,24 @@ use Prim.Native.Nat.{ℕ, ◌-◌}
 use native.Mathlib.Omega.{arith}
 use lib.ListN.{get_or}
 use borrow.Author.Rules.{rules}
-use Rattle.rules.specs.Limits.{mostTests}
+use Rattle.rules.specs.Limits.{most_tests}
 use Rattle.rules.proofs.Firsts.{FirstLeft, first-start, none_more, next-first, first_done}
-use Rattle.soundness.specs.Check.{testPlaceFault, testsFault}
+use Rattle.soundness.specs.Check.{test_place_fault, tests_fault}
 use Rattle.soundness.proofs.inputs.tests_fault.Statement.{statement}
 use Rattle.soundness.proofs.inputs.tests_fault.Tie as tie
 
 abbrev invariant-loop : tie.invariant-loop
-invariant-loop counts tests component mask j₀ j = FirstLeft (λ (j : ℕ). testPlaceFault counts tests j (get_or component j 0) (get_or mask j 0)) mostTests j 0
+invariant-loop counts tests component mask j₀ j = FirstLeft (λ (j : ℕ). test_place_fault counts tests j (get_or component j 0) (get_or mask j 0)) most_tests j 0
 
 abbrev decreases-loop : tie.decreases-loop
-decreases-loop counts tests component mask j₀ j = mostTests - j
+decreases-loop counts tests component mask j₀ j = most_tests - j
 
 -- the turn that judges a place
 abbrev turn : tie.After-test-place-fault invariant-loop decreases-loop → tie.In-loop invariant-loop decreases-loop
 turn c = c.before
 
 returns : tie.Need-returns invariant-loop decreases-loop
-unfolding testsFault
+unfolding tests_fault
 returns c =
     let here = turn c.before in
     next-first here.before.loop.inv here.loop-test.taken c.before.test-place-fault.ensures c.if1.true
@@ -31,7 +31,7 @@ loop-again c =
     none_more here.before.loop.inv here.loop-test.taken c.before.test-place-fault.ensures c.if1.false
 
 returns-2 : tie.Need-returns-2 invariant-loop decreases-loop
-unfolding testsFault
+unfolding tests_fault
 returns-2 c = first_done c.before.loop.invariant c.loop-test.false
 
 pub tests-fault-spec : {M : Type 1} → statement M

@@ -1,17 +1,17 @@
 -- `study_image::components::read_components` meets its contract. The component places below i are read (`RecordsRead`).
 use Prim.Native.Nat.{◌-◌}
-use Rattle.rules.specs.Limits.{mostComponents}
-use Rattle.study_image.specs.Image.{componentIn}
+use Rattle.rules.specs.Limits.{most_components}
+use Rattle.study_image.specs.Image.{component_in}
 use Rattle.study_image.proofs.Reading.{RecordsRead, records-start, records-more, records-done}
 use borrow.Author.Rules.{rules}
 use Rattle.study_image.proofs.components.read_components.Statement.{statement}
 use Rattle.study_image.proofs.components.read_components.Tie as tie
 
 abbrev invariant-loop : tie.invariant-loop
-invariant-loop image component₀ i₀ component i = RecordsRead (componentIn image) mostComponents i component
+invariant-loop image component₀ i₀ component i = RecordsRead (component_in image) most_components i component
 
 abbrev decreases-loop : tie.decreases-loop
-decreases-loop image component₀ i₀ component i = mostComponents - i
+decreases-loop image component₀ i₀ component i = most_components - i
 
 loop-again : tie.Need-loop-preserved invariant-loop decreases-loop
 loop-again c = records-more c.before.before.loop.invariant c.before.loop-test.true c.read-component.ensures

@@ -2,18 +2,18 @@
 use Prim.Native.Nat.{ℕ, ◌-◌}
 use lib.ListN.{get_or}
 use borrow.Author.Rules.{rules}
-use Rattle.rules.specs.Limits.{mostComponents}
-use Rattle.study.specs.Zero.{zeroComponent}
+use Rattle.rules.specs.Limits.{most_components}
+use Rattle.study.specs.Zero.{zero_component}
 use Rattle.text.proofs.Pieces.{Tabled, tabled_start, tabled-room, tabled-more, tabled-size, tabled-done}
-use Rattle.study_image.specs.Image.{componentRow}
+use Rattle.study_image.specs.Image.{component_row}
 use Rattle.study_image.proofs.components.write_components.Statement.{statement}
 use Rattle.study_image.proofs.components.write_components.Tie as tie
 
 abbrev invariant-loop : tie.invariant-loop
-invariant-loop image₀ at component next₀ i₀ image next i = Tabled (λ (k : ℕ). componentRow (get_or component k zeroComponent)) mostComponents image₀ at i image next
+invariant-loop image₀ at component next₀ i₀ image next i = Tabled (λ (k : ℕ). component_row (get_or component k zero_component)) most_components image₀ at i image next
 
 abbrev decreases-loop : tie.decreases-loop
-decreases-loop image₀ at component next₀ i₀ image next i = mostComponents - i
+decreases-loop image₀ at component next₀ i₀ image next i = most_components - i
 
 copy-requires : tie.Need-copy-requires invariant-loop decreases-loop
 copy-requires c κs =

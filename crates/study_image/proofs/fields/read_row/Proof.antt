@@ -5,13 +5,13 @@ use native.Mathlib.Omega.{arith}
 use lib.ListN.{length, drop, length-drop}
 use lib.Seq.{length-take-le}
 use Rattle.lists.proofs.Puts.{put_whole}
-use Rattle.study_image.specs.Image.{bytesIn}
+use Rattle.study_image.specs.Image.{bytes_in}
 use borrow.Author.Rules.{rules}
 use Rattle.study_image.proofs.fields.read_row.Statement.{statement}
 use Rattle.study_image.proofs.fields.read_row.Tie as tie
 
 -- as many bytes as the row has
-long : (c : tie.Start) → length (bytesIn c.args.image.now c.args.at (length c.args.row.now)) ≡ length c.args.row.now
+long : (c : tie.Start) → length (bytes_in c.args.image.now c.args.at (length c.args.row.now)) ≡ length c.args.row.now
 long c = length-take-le _ (drop c.args.at c.args.image.now) (simp length-drop (omega (arith, c.requires)))
 
 returns : tie.Need-returns

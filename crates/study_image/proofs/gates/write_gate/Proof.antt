@@ -4,9 +4,9 @@ use mathlib.Core.Path.{◌≡◌, sym}
 use mathlib.Core.List.{List}
 use native.Mathlib.Omega.{arith}
 use lib.ListN.{length}
-use Rattle.rules.specs.Limits.{mostGateInputs}
+use Rattle.rules.specs.Limits.{most_gate_inputs}
 use Rattle.text.proofs.Pieces.{Pieces, pieces-start, pieces_room, pieces_more, pieces-done}
-use Rattle.study_image.specs.Image.{gateFields, gateRow}
+use Rattle.study_image.specs.Image.{gate_fields, gate_row}
 use borrow.Author.Rules.{rules}
 use Rattle.study_image.proofs.gates.write_gate.Statement.{statement}
 use Rattle.study_image.proofs.gates.write_gate.Tie as tie
@@ -31,10 +31,10 @@ start4 c = start3 c.before.before.before.before.before
 
 -- the fields below k are written
 abbrev Written : tie.Start → ℕ → List ℕ → ℕ → Type 0
-Written s k d p = Pieces (gateFields s.args.g) s.args.image.now s.args.at k d p
+Written s k d p = Pieces (gate_fields s.args.g) s.args.image.now s.args.at k d p
 
 written0 : (s : tie.Start) → Written s 0 s.args.image.now s.args.at
-unfolding gateRow
+unfolding gate_row
 written0 s = pieces-start _ s.requires
 
 written1 : (c : tie.After-copy) → Written (start1 c) 1 c.copy.new.0 c.copy.result
@@ -50,11 +50,11 @@ written4 : (c : tie.After-copy4) → Written (start4 c) 4 c.copy4.new.0 c.copy4.
 written4 c = pieces_more (written3 c.before.before.before.before.before) (omega arith) c.copy4.ensures
 
 -- the gate inputs fill their places
-inputs_long : (s : tie.Start) → length s.args.g.input ≡ mostGateInputs
+inputs_long : (s : tie.Start) → length s.args.g.input ≡ most_gate_inputs
 inputs_long s = search rules
 
 returns : tie.Need-returns
-unfolding gateRow
+unfolding gate_row
 returns c =
     let called = c.before.before.before in
     let fields = written4 called.before.before.before.before in

@@ -2,18 +2,18 @@
 use Prim.Native.Nat.{ℕ, ◌-◌}
 use lib.ListN.{get_or}
 use borrow.Author.Rules.{rules}
-use Rattle.rules.specs.Limits.{mostGates}
-use Rattle.study.specs.Places.{noGate}
+use Rattle.rules.specs.Limits.{most_gates}
+use Rattle.study.specs.Places.{no_gate}
 use Rattle.text.proofs.Pieces.{Tabled, tabled_start, tabled-room, tabled-more, tabled-size, tabled-done}
-use Rattle.study_image.specs.Image.{gateRow}
+use Rattle.study_image.specs.Image.{gate_row}
 use Rattle.study_image.proofs.gates.write_gates.Statement.{statement}
 use Rattle.study_image.proofs.gates.write_gates.Tie as tie
 
 abbrev invariant-loop : tie.invariant-loop
-invariant-loop image₀ at gate next₀ i₀ image next i = Tabled (λ (k : ℕ). gateRow (get_or gate k noGate)) mostGates image₀ at i image next
+invariant-loop image₀ at gate next₀ i₀ image next i = Tabled (λ (k : ℕ). gate_row (get_or gate k no_gate)) most_gates image₀ at i image next
 
 abbrev decreases-loop : tie.decreases-loop
-decreases-loop image₀ at gate next₀ i₀ image next i = mostGates - i
+decreases-loop image₀ at gate next₀ i₀ image next i = most_gates - i
 
 write-gate-requires : tie.Need-write-gate-requires invariant-loop decreases-loop
 write-gate-requires c κs = tabled-room c.before.before.before.loop.invariant c.before.before.loop-test.true

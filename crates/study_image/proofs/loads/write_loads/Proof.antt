@@ -2,18 +2,18 @@
 use Prim.Native.Nat.{ℕ, ◌-◌}
 use lib.ListN.{get_or}
 use borrow.Author.Rules.{rules}
-use Rattle.rules.specs.Limits.{mostLoads}
-use Rattle.study.specs.Zero.{zeroLoad}
+use Rattle.rules.specs.Limits.{most_loads}
+use Rattle.study.specs.Zero.{zero_load}
 use Rattle.text.proofs.Pieces.{Tabled, tabled_start, tabled-room, tabled-more, tabled-size, tabled-done}
-use Rattle.study_image.specs.Image.{loadRow}
+use Rattle.study_image.specs.Image.{load_row}
 use Rattle.study_image.proofs.loads.write_loads.Statement.{statement}
 use Rattle.study_image.proofs.loads.write_loads.Tie as tie
 
 abbrev invariant-loop : tie.invariant-loop
-invariant-loop image₀ at load next₀ j₀ image next j = Tabled (λ (k : ℕ). loadRow (get_or load k zeroLoad)) mostLoads image₀ at j image next
+invariant-loop image₀ at load next₀ j₀ image next j = Tabled (λ (k : ℕ). load_row (get_or load k zero_load)) most_loads image₀ at j image next
 
 abbrev decreases-loop : tie.decreases-loop
-decreases-loop image₀ at load next₀ j₀ image next j = mostLoads - j
+decreases-loop image₀ at load next₀ j₀ image next j = most_loads - j
 
 copy-requires : tie.Need-copy-requires invariant-loop decreases-loop
 copy-requires c κs =

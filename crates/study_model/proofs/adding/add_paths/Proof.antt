@@ -37,7 +37,7 @@ slices : (c : tie.After-first-components)
 slices c =
     let block = c.before.before.before in
     record {
-      cut = record { hand = (start (counted block)).requires.0; is-counts = (counted block).counts-in-use.ensures; is_block = block.class-block.ensures };
+      cut = record { hand = (start (counted block)).requires.0; is_counts = (counted block).counts-in-use.ensures; is_block = block.class-block.ensures };
       is_front = c.first-components.ensures;
     }
 

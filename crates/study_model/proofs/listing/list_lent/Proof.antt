@@ -22,7 +22,7 @@ class-block-requires c κs = cut_inside _ (start c).requires c.counts-in-use.ens
 cut : (c : tie.After-class-block)
     → let args = (start c.before).args in
     Cut args.model args.classes.now c.before.counts-in-use.result.now c.class-block.result.now
-cut c = record { hand = (start c.before).requires; is-counts = c.before.counts-in-use.ensures; is_block = c.class-block.ensures }
+cut c = record { hand = (start c.before).requires; is_counts = c.before.counts-in-use.ensures; is_block = c.class-block.ensures }
 
 list-lent-requires : tie.Need-list-lent-requires
 list-lent-requires c κs = cut-listable (cut c.before)

@@ -4,7 +4,7 @@ use mathlib.Core.Path.{◌≡◌, refl}
 use native.Mathlib.Omega.{arith}
 use borrow.Author.Rules.{rules}
 use lib.ListN.{length}
-use Rattle.rules.specs.Limits.{mostComponents}
+use Rattle.rules.specs.Limits.{most_components}
 use Rattle.study_model.proofs.TableFilled.{Filled, filled-start, filled-room, filled_more, filled-done}
 use Rattle.study_model.proofs.probabilities.probability_table.Statement.{statement}
 use Rattle.study_model.proofs.probabilities.probability_table.Tie as tie
@@ -13,11 +13,11 @@ abbrev invariant-loop : tie.invariant-loop
 invariant-loop component table₀ i₀ table i = Filled component table₀ i table
 
 abbrev decreases-loop : tie.decreases-loop
-decreases-loop component table₀ i₀ table i = mostComponents - i
+decreases-loop component table₀ i₀ table i = most_components - i
 
 loop-holds : tie.Need-loop-init invariant-loop decreases-loop
 loop-holds c =
-    let twelve : length c.args.t1 ≡ mostComponents = search rules in
+    let twelve : length c.args.t1 ≡ most_components = search rules in
     filled-start twelve refl
 
 mul-c : tie.Need-overflow-mul-c invariant-loop decreases-loop

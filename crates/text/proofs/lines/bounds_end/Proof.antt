@@ -3,7 +3,7 @@ use Prim.Native.Nat.{ℕ}
 use mathlib.Core.List.{List, [], ◌∷◌}
 use native.Mathlib.Omega.{arith}
 use Rattle.text.specs.Letters.{letters}
-use Rattle.text.specs.Lines.{field, boundsEnd}
+use Rattle.text.specs.Lines.{field, bounds_end}
 use Rattle.text.proofs.Pieces.{Pieces, pieces-start, pieces_room, pieces_more, pieces-done}
 use borrow.Author.Rules.{rules}
 use Rattle.text.proofs.lines.bounds_end.Statement.{statement}
@@ -21,7 +21,7 @@ abbrev Written : tie.Start → ℕ → List ℕ → ℕ → Type 0
 Written s k d p = Pieces (field s.args.lower ∷ field s.args.upper ∷ letters "\n" ∷ []) s.args.out.now s.args.at k d p
 
 written0 : (s : tie.Start) → Written s 0 s.args.out.now s.args.at
-unfolding boundsEnd
+unfolding bounds_end
 written0 s = pieces-start _ s.requires
 
 written1 : (c : tie.After-field) → Written (start1 c) 1 c.field.new.0 c.field.result
@@ -31,7 +31,7 @@ written2 : (c : tie.After-field2) → Written (start2 c) 2 c.field2.new.0 c.fiel
 written2 c = pieces_more (written1 c.before.before.before.before) (omega arith) c.field2.ensures
 
 returns : tie.Need-returns
-unfolding boundsEnd
+unfolding bounds_end
 returns c =
     let called = c.before.before.before in
     let front = written2 called.before.before.before.before in

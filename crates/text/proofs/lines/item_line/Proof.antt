@@ -2,7 +2,7 @@
 use Prim.Native.Nat.{ℕ}
 use mathlib.Core.List.{List, [], ◌∷◌}
 use native.Mathlib.Omega.{arith}
-use Rattle.text.specs.Lines.{field, boundsEnd, itemLine}
+use Rattle.text.specs.Lines.{field, bounds_end, item_line}
 use Rattle.text.proofs.Pieces.{Pieces, pieces-start, pieces_room, pieces_more, pieces-done}
 use borrow.Author.Rules.{rules}
 use Rattle.text.proofs.lines.item_line.Statement.{statement}
@@ -18,10 +18,10 @@ start2 c = start1 c.before.before.before.before
 -- the pieces below k are written
 abbrev Written : tie.Start → ℕ → List ℕ → ℕ → Type 0
 Written s k d p =
-    Pieces (s.args.word.now ∷ field s.args.n ∷ boundsEnd s.args.lower s.args.upper ∷ []) s.args.out.now s.args.at k d p
+    Pieces (s.args.word.now ∷ field s.args.n ∷ bounds_end s.args.lower s.args.upper ∷ []) s.args.out.now s.args.at k d p
 
 written0 : (s : tie.Start) → Written s 0 s.args.out.now s.args.at
-unfolding itemLine
+unfolding item_line
 written0 s = pieces-start _ s.requires
 
 written1 : (c : tie.After-copy) → Written (start1 c) 1 c.copy.new.0 c.copy.result
@@ -31,7 +31,7 @@ written2 : (c : tie.After-field) → Written (start2 c) 2 c.field.new.0 c.field.
 written2 c = pieces_more (written1 c.before.before.before.before) (omega arith) c.field.ensures
 
 returns : tie.Need-returns
-unfolding itemLine
+unfolding item_line
 returns c =
     let called = c.before.before.before in
     let front = written2 called.before.before.before in

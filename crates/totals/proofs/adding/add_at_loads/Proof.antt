@@ -6,17 +6,17 @@ use lib.ListN.{get_or}
 use Rattle.lists.specs.Bits.{bit}
 use Rattle.lists.specs.Counting.{counted}
 use Rattle.lists.proofs.SumOver.{counted-most}
-use Rattle.rules.specs.Limits.{mostLoads}
+use Rattle.rules.specs.Limits.{most_loads}
 use Rattle.totals.proofs.Placed.{Placing, placing-start, placing-room, placing-more, placing-done}
 use Rattle.totals.proofs.adding.add_at_loads.Statement.{statement}
 use Rattle.totals.proofs.adding.add_at_loads.Tie as tie
 
 abbrev invariant-loop : tie.invariant-loop
 invariant-loop most class bound totals₀ j₀ totals j =
-    Placing mostLoads (λ (p : ℕ). min most (get_or totals₀ p 0 + counted (bit class p) bound)) totals₀ j totals
+    Placing most_loads (λ (p : ℕ). min most (get_or totals₀ p 0 + counted (bit class p) bound)) totals₀ j totals
 
 abbrev decreases-loop : tie.decreases-loop
-decreases-loop most class bound totals₀ j₀ totals j = mostLoads - j
+decreases-loop most class bound totals₀ j₀ totals j = most_loads - j
 
 -- a turn of the loop, from the sum in it
 abbrev turn : tie.After-sum-at-most invariant-loop decreases-loop → tie.At-loop invariant-loop decreases-loop

@@ -2,16 +2,16 @@
 use Prim.Native.Nat.{◌-◌}
 use mathlib.Core.Path.{refl}
 use native.Mathlib.Omega.{arith}
-use Rattle.entries.specs.Entries.{classPlaces}
+use Rattle.entries.specs.Entries.{class_places}
 use Rattle.totals.proofs.Placed.{Placing, placing-start, placing-room, placing-more, placing-done}
 use Rattle.totals.proofs.clearing.clear.Statement.{statement}
 use Rattle.totals.proofs.clearing.clear.Tie as tie
 
 abbrev invariant-loop : tie.invariant-loop
-invariant-loop totals₀ c₀ totals c = Placing classPlaces (λ p. 0) totals₀ c totals
+invariant-loop totals₀ c₀ totals c = Placing class_places (λ p. 0) totals₀ c totals
 
 abbrev decreases-loop : tie.decreases-loop
-decreases-loop totals₀ c₀ totals c = classPlaces - c
+decreases-loop totals₀ c₀ totals c = class_places - c
 
 loop-holds : tie.Need-loop-init invariant-loop decreases-loop
 loop-holds c = placing-start c.requires

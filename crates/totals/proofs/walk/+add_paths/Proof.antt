@@ -7,10 +7,10 @@ use borrow.Fn.Kinds.{In, Out}
 use borrow.Fn.PlainCycle.{Measures, is, falls, and}
 use Rattle.units.specs.One.{one}
 use Rattle.units.specs.Rounding.{down, up}
-use Rattle.rules.specs.Limits.{mostComponents}
+use Rattle.rules.specs.Limits.{most_components}
 use Rattle.paths.proofs.Sizes.{one_class}
 use Rattle.event_tree.proofs.Fork.{fork, fork-fewer, fork-most, fork-inside, fork-block}
-use Rattle.totals.specs.Places.{sumsMost}
+use Rattle.totals.specs.Places.{sums_most}
 use Rattle.totals.specs.Walk.{Reached}
 use Rattle.totals.proofs.Walked.{Walked, leaf-brings, walked_start, walked_more, walked-done}
 use Rattle.totals.proofs.walk.add_paths.Reads as add-paths
@@ -39,7 +39,7 @@ claims t =
 
 abbrev invariant-loop : lts.invariant-loop
 invariant-loop loadwise counts block probabilities i low high lower₀ upper₀ way later s₀ lower upper s =
-    Walked loadwise down sumsMost probabilities i counts block way later low lower₀ s lower
+    Walked loadwise down sums_most probabilities i counts block way later low lower₀ s lower
     × Walked loadwise up one probabilities i counts block way later high upper₀ s upper
 
 abbrev decreases-loop : lts.decreases-loop
@@ -76,7 +76,7 @@ module _ (t : ℕ) where
   taken c = c.before.before.if2.true
 
   -- component i is one of the components
-  inside : (c : here lts.After-part) → (begun (turn c)).args.i < mostComponents
+  inside : (c : here lts.After-part) → (begun (turn c)).args.i < most_components
   inside c = omega (arith, (reached c).few, (turn c).loop.invariant.0.fork.some)
 
   -- the call in the loop, and what it was given, from behind it
@@ -95,12 +95,12 @@ module _ (t : ℕ) where
   add-bound-requires : here lts.Need-add-bound-requires
   add-bound-requires c κs =
       let pre = (start c.before.before.before).pre.1 in
-      (omega arith, (pre.0.low-most, pre.1.0))
+      (omega arith, (pre.0.low_most, pre.1.0))
 
   add-bound-requires-2 : here lts.Need-add-bound-requires-2
   add-bound-requires-2 c κs =
       let pre = (start (leaf c.before.before.before).before).pre.1 in
-      (omega arith, (pre.0.high-most, pre.1.1))
+      (omega arith, (pre.0.high_most, pre.1.1))
 
   returns : here lts.Need-returns
   returns c =
@@ -124,10 +124,10 @@ module _ (t : ℕ) where
   add-add-paths c = record { fits = omega (arith, inside c) }
 
   factored-requires : here lts.Need-factored-requires
-  factored-requires c κs = (omega arith, ((reached c).table, (inside c, (reached c).low-most)))
+  factored-requires c κs = (omega arith, ((reached c).table, (inside c, (reached c).low_most)))
 
   factored-requires-2 : here lts.Need-factored-requires-2
-  factored-requires-2 c κs = (omega arith, ((reached c.before).table, (inside c.before, (reached c.before).high-most)))
+  factored-requires-2 c κs = (omega arith, ((reached c.before).table, (inside c.before, (reached c.before).high_most)))
 
   add-paths-requires : here lts.Need-add-paths-requires
   add-paths-requires c κs =
@@ -141,8 +141,8 @@ module _ (t : ℕ) where
             whole = fork-block walked.0.fork _ (taken parted) parted.part.ensures;
             table = (reached parted).table;
             few = omega (arith, fewer, (reached parted).few);
-            low-most = factors.before.factored.ensures.1;
-            high-most = factors.factored2.ensures.1;
+            low_most = factors.before.factored.ensures.1;
+            high_most = factors.factored2.ensures.1;
           },
           (walked.0.totals, walked.1.totals),
         ),

@@ -9,7 +9,7 @@ use mir.Syntax.{Body, Arms, w64, int, place, field, deref, copy, rv_opd, addr_of
 use denote.Builtin.{u8}
 use denote.Slice.{Room}
 use Rattle.text.proofs.copy.Symbol.{name as #text·copy}
-use Rattle.words.specs.Words.{refusalWords, refusalWord, lastRefusal, word_bytes}
+use Rattle.words.specs.Words.{refusal_words, refusal_word, last_refusal, word_bytes}
 use Rattle.words.proofs.ByteArrays.{byte, small}
 use Rattle.words.proofs.Spelling.{spelling, all_small, one-small}
 use Rattle.words.proofs.Strings.{strings-of}
@@ -19,21 +19,21 @@ use Rattle.words.proofs.write_word.Code as code
 -- ---- its byte strings: one for each number of the table, and one for all other numbers
 
 abbrev pub count : ℕ
-count = lastRefusal + 1
+count = last_refusal + 1
 
 -- as the code spells them
 unfoldable pub words : List (List ℕ)
 words = take count (strings-of (code.function).body)
 
 -- they are the words of the table from number 1 on, and behind them the empty one
-words-told : [] ∷ words ≡ refusalWords ++ ([] ∷ [])
-unfolding words refusalWords
+words-told : [] ∷ words ≡ refusal_words ++ ([] ∷ [])
+unfolding words refusal_words
 words-told = refl
 
 abbrev pub word : ℕ → List ℕ
 word k = get_or words k []
 
-pub word-is : (k : ℕ) → word k ≡ refusalWord (suc k)
+pub word-is : (k : ℕ) → word k ≡ refusal_word (suc k)
 word-is = word_at words words-told
 
 pub words_small : T (all_small words)
@@ -87,7 +87,7 @@ copying =
     (seq (call #text·copy (copy (place out-slice []) ∷ copy (place 2 []) ∷ copy (place 4 []) ∷ []) (place 0 [])) return)))
 
 abbrev pub choosing : Body
-choosing = seq (switch (copy (place 3 [])) (arms 0 lastRefusal)) copying
+choosing = seq (switch (copy (place 3 [])) (arms 0 last_refusal)) copying
 
 pub code_is : (code.function).body ≡ spelling (string 0) words choosing
 unfolding words

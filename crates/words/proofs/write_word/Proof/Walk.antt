@@ -41,11 +41,11 @@ use Rattle.lists.specs.Counting.{all_below}
 use Rattle.lists.proofs.Tests.{all-below-true}
 use Rattle.text.specs.Writing.{Room, Wrote}
 use Rattle.text.proofs.copy.Symbol.{name as #text·copy}
-use Rattle.words.specs.Words.{refusalWord, lastRefusal}
+use Rattle.words.specs.Words.{refusal_word, last_refusal}
 use Rattle.words.proofs.Aside.{aside, back, numbered, one_out, one_in}
 use Rattle.words.proofs.ByteArrays.{slot, lends, comes_back}
 use Rattle.words.proofs.Copied.{Copy, Own, buffer-value, copies}
-use Rattle.words.proofs.Locals.{Places, envOf, room, rooms, ends, make-all, free_all, reads}
+use Rattle.words.proofs.Locals.{Places, env_of, room, rooms, ends, make-all, free_all, reads}
 use Rattle.words.proofs.Spelling.{arrays, types-from, vacant, spells, vacates}
 use Rattle.words.proofs.Worded.{NoneOf, no_word}
 use Rattle.words.specs.contracts.write_word as here
@@ -83,7 +83,7 @@ module _ {M : Type 1} {𝓤 : Ura M} (𝓛 : Logic 𝓤) (mem : Memory → SProp
   Ends = (walk_of 𝓛 here.ended stayed (here.clauses 𝓛 mem run)).post (((κ, tt), (q, tt), tt, arguments, values), tt)
 
   -- the contract, from the token, the result and the last list of `out`
-  exits : (v : Val) (r : ℕ) (zs : List ℕ) → Wrote x.now at (refusalWord n) zs r → length zs ≡ length x.now
+  exits : (v : Val) (r : ℕ) (zs : List ℕ) → Wrote x.now at (refusal_word n) zs r → length zs ≡ length x.now
       → ent 𝓤 (⋆ 𝓛 (‵ (flft κ q) ∷ ‵ (usize.own_val r (v ∷ [])) ∷ ‵ (finally u8 x.name zs) ∷ [])) (Ends v)
   exits v r zs wrote same =
       qed 𝓛 (‵ (flft κ q) ∷ ‵ (usize.own_val r (v ∷ [])) ∷ ‵ (finally u8 x.name zs) ∷ []) ∵
@@ -96,7 +96,7 @@ module _ {M : Type 1} {𝓤 : Ura M} (𝓛 : Logic 𝓤) (mem : Memory → SProp
 
   module _ (bs : Places (code.function).locals) where
     abbrev E : Env 𝓤 H
-    E = envOf (code.function).locals bs
+    E = env_of (code.function).locals bs
 
     abbrev type-of : ℕ → Ty
     type-of i = (spot_of 𝓤 H E i).0
@@ -151,7 +151,7 @@ module _ {M : Type 1} {𝓤 : Ura M} (𝓛 : Logic 𝓤) (mem : Memory → SProp
     -- ---- behind the match
 
     -- every local is room again, and is freed
-    leaves : (v : Val) (r : ℕ) (zs : List ℕ) → Wrote x.now at (refusalWord n) zs r → length zs ≡ length x.now
+    leaves : (v : Val) (r : ℕ) (zs : List ℕ) → Wrote x.now at (refusal_word n) zs r → length zs ≡ length x.now
         → Sq 𝓛 (Strings ∷ References ∷ LocalEnds ∷ ‵ (flft κ q) ∷ ‵ (usize.own_val r (v ∷ [])) ∷ ‵ (finally u8 x.name zs) ∷ room_of 0 ∷ room_of 1 ∷ room_of 2
         ∷ room_of 3 ∷ room_of 4 ∷ room_of chosen ∷ room_of out-pointer ∷ room_of out-slice ∷ []) (frees E (prop (Ends v)))
     unfolding words
@@ -161,9 +161,9 @@ module _ {M : Type 1} {𝓤 : Ura M} (𝓛 : Logic 𝓤) (mem : Memory → SProp
         move ! in_order $ aside (rooms E) $ free_all E $ by ! (exits v r zs wrote same)
 
     module _ (C : Calls 𝓤 H) (Λ : Loops 𝓤 H) (fm : FmC 𝓤 H 𝓛.laws C) (known : Triple 𝓤 (C #text·copy) (Copy 𝓛 mem run))
-        (fits : Room x.now at (refusalWord n)) where
+        (fits : Room x.now at (refusal_word n)) where
       -- string k was chosen, and is the word of n
-      joined : (k : ℕ) → k < count → word k ≡ refusalWord n → Sq 𝓛 (Context (holds chosen (word_value k))) (runs C Λ E copying (at_ret E Ends))
+      joined : (k : ℕ) → k < count → word k ≡ refusal_word n → Sq 𝓛 (Context (holds chosen (word_value k))) (runs C Λ E copying (at_ret E Ends))
       joined k below is =
           -- `word` is set, and `out` is lent on
           assigns ! (of_opd ! (reads 10 refl)) (from ! (stop !)) (init ! 9 refl (tt, (tt, (record { fits = (word-few k).0 }, tt)))) $
@@ -194,7 +194,7 @@ module _ {M : Type 1} {𝓤 : Ura M} (𝓛 : Logic 𝓤) (mem : Memory → SProp
       Then = any_q (after_seq 𝓤 H (Wp 𝓤 H C Λ E copying (post 𝓤 H (at_ret E Ends))) (post 𝓤 H (at_ret E Ends)))
 
       -- it leaves the slice of string k
-      one_arm : (k : ℕ) → k < count → refusalWord (suc k) ≡ refusalWord n → Sq 𝓛 (Context (room_of chosen)) (runs C Λ E (choice k) Then)
+      one_arm : (k : ℕ) → k < count → refusal_word (suc k) ≡ refusal_word n → Sq 𝓛 (Context (room_of chosen)) (runs C Λ E (choice k) Then)
       one_arm k below so =
           let pointed = subst T (sym (all-below-true points count all-point k below)) tt in
           move ! (1 ∷ []) $ one_out reference-room count k below $
@@ -206,16 +206,16 @@ module _ {M : Type 1} {𝓤 : Ura M} (𝓛 : Logic 𝓤) (mem : Memory → SProp
           exec ! C Λ E copying (at_ret E Ends) $ joined k below (word-is k ∙ so)
 
       -- arm k is that of number k + 1, and the last one that of the numbers which the table lacks
-      each_arm : (m k : ℕ) → k + m ≡ lastRefusal → Cases (Go {0}) 𝓛 (Context (room_of chosen)) C Λ E Then (NoneOf n k) (arms k m) n
+      each_arm : (m k : ℕ) → k + m ≡ last_refusal → Cases (Go {0}) 𝓛 (Context (room_of chosen)) C Λ E Then (NoneOf n k) (arms k m) n
       each_arm zero k e = λ none. one_arm k (omega (arith, e)) (no_word n k (omega (arith, e)) none)
-      each_arm (suc m) k e = ((λ is. one_arm k (omega (arith, e)) (ap refusalWord (sym is))), each_arm m (suc k) (omega (arith, e)))
+      each_arm (suc m) k e = ((λ is. one_arm k (omega (arith, e)) (ap refusal_word (sym is))), each_arm m (suc k) (omega (arith, e)))
 
       chooses : Sq 𝓛 (Context (room_of chosen)) (runs C Λ E choosing (at_ret E Ends))
-      chooses = first ! $ switches ! (reads 8 refl) (each_arm lastRefusal 0 refl)
+      chooses = first ! $ switches ! (reads 8 refl) (each_arm last_refusal 0 refl)
 
   -- ---- from the start
 
-  pub walk : (C : Calls 𝓤 H) (Λ : Loops 𝓤 H) → FmC 𝓤 H 𝓛.laws C → Triple 𝓤 (C #text·copy) (Copy 𝓛 mem run) → Room x.now at (refusalWord n)
+  pub walk : (C : Calls 𝓤 H) (Λ : Loops 𝓤 H) → FmC 𝓤 H 𝓛.laws C → Triple 𝓤 (C #text·copy) (Copy 𝓛 mem run) → Room x.now at (refusal_word n)
       → ent 𝓤 (on_entry 𝓛 here.signature (κ, tt) (q, tt) arguments values)
       (WpFn 𝓤 H C Λ code.function (buffer-value x ∷ vint w64 at ∷ vint w8 n ∷ []) Ends)
   unfolding words

@@ -1,6 +1,6 @@
 -- `writing::components::component_map` meets its contract: a bit stands where its field is given.
 use mathlib.Core.Path.{◌∙◌}
-use Rattle.study.specs.Absent.{absentComponent}
+use Rattle.study.specs.Absent.{absent_component}
 use Rattle.study_bytes.proofs.Fields.{byte-bit, number_bit}
 use Rattle.writing.proofs.Maps.{map-of-four}
 use borrow.Author.Rules.{rules}
@@ -20,10 +20,10 @@ returns c =
     let k = (start (origin states)).args.c in
     c.map_of.ensures
     ∙ map-of-four
-    (byte-bit absentComponent.states k.states (rw absent at states.is-given.ensures))
-    (number_bit absentComponent.p1 k.p1 (rw absent at c.before.before.before.is-given2.ensures))
-    (number_bit absentComponent.p2 k.p2 (rw absent at c.before.before.is-given3.ensures))
-    (number_bit absentComponent.p3 k.p3 (rw absent at c.before.is-given4.ensures))
+    (byte-bit absent_component.states k.states (rw absent at states.is-given.ensures))
+    (number_bit absent_component.p1 k.p1 (rw absent at c.before.before.before.is-given2.ensures))
+    (number_bit absent_component.p2 k.p2 (rw absent at c.before.before.is-given3.ensures))
+    (number_bit absent_component.p3 k.p3 (rw absent at c.before.is-given4.ensures))
 
 pub component-map-spec : {M : Type 1} → statement M
 component-map-spec =

@@ -6,7 +6,7 @@ use native.Mathlib.Omega.{arith}
 use Rattle.study.specs.declared.Component.{Component}
 use Rattle.lists.specs.Rows.{joined}
 use Rattle.text.proofs.Pieces.{Pieces, pieces_room, pieces_more}
-use Rattle.study_bytes.specs.Written.{byte_of, fourBytesOf, field, componentFields}
+use Rattle.study_bytes.specs.Written.{byte_of, four_bytes_of, field, component_fields}
 use Rattle.writing.proofs.Parts.{Spell, record-start, record-done}
 use borrow.Author.Rules.{rules}
 use Rattle.writing.proofs.components.write_component.Statement.{statement}
@@ -35,12 +35,12 @@ second c = c.before.before.before.before
 abbrev fields : Component → Component → List (List ℕ)
 fields absent k =
     field absent.states k.states (byte_of k.states)
-    ∷ field absent.p1 k.p1 (fourBytesOf k.p1)
-    ∷ field absent.p2 k.p2 (fourBytesOf k.p2)
-    ∷ field absent.p3 k.p3 (fourBytesOf k.p3)
+    ∷ field absent.p1 k.p1 (four_bytes_of k.p1)
+    ∷ field absent.p2 k.p2 (four_bytes_of k.p2)
+    ∷ field absent.p3 k.p3 (four_bytes_of k.p3)
     ∷ []
 
-same : (c : tie.After-component-map) → Spell (fields c.before.before.absent-component.result (start c).args.c) (componentFields (start c).args.c)
+same : (c : tie.After-component-map) → Spell (fields c.before.before.absent-component.result (start c).args.c) (component_fields (start c).args.c)
 same c = record { same = ap (λ (absent : Component). joined (fields absent (start c).args.c)) c.before.before.absent-component.ensures }
 
 abbrev Written : tie.After-component-map → ℕ → List ℕ → ℕ → Type 0

@@ -1,16 +1,16 @@
 -- `writing::components::write_components` meets its contract. The records of the components below i are written (`Tabled`), and the components left fall.
 use Prim.Native.Nat.{ℕ, ◌-◌}
 use native.Mathlib.Omega.{arith}
-use Rattle.study.specs.Places.{componentAt}
+use Rattle.study.specs.Places.{component_at}
 use Rattle.soundness.proofs.Ranges.{components-most}
 use Rattle.text.proofs.Pieces.{Tabled, tabled_start, tabled-room, tabled-more, tabled-size, tabled-done}
-use Rattle.study_bytes.specs.Written.{componentBytes}
+use Rattle.study_bytes.specs.Written.{component_bytes}
 use borrow.Author.Rules.{rules}
 use Rattle.writing.proofs.components.write_components.Statement.{statement}
 use Rattle.writing.proofs.components.write_components.Tie as tie
 
 abbrev invariant-loop : tie.invariant-loop
-invariant-loop out₀ at t n place₀ i₀ out place i = Tabled (λ (k : ℕ). componentBytes (componentAt t k)) n out₀ at i out place
+invariant-loop out₀ at t n place₀ i₀ out place i = Tabled (λ (k : ℕ). component_bytes (component_at t k)) n out₀ at i out place
 
 abbrev decreases-loop : tie.decreases-loop
 decreases-loop out₀ at t n place₀ i₀ out place i = n - i

@@ -1,6 +1,6 @@
 -- `writing::gates::gate_map` meets its contract: a bit stands where its field is given.
 use mathlib.Core.Path.{◌∙◌}
-use Rattle.study.specs.Absent.{absentGate}
+use Rattle.study.specs.Absent.{absent_gate}
 use Rattle.study_bytes.proofs.Fields.{field-bit, byte-bit}
 use Rattle.writing.proofs.Maps.{map-of-three}
 use borrow.Author.Rules.{rules}
@@ -21,9 +21,9 @@ returns c =
     let g = (start (origin threshold)).args.g in
     c.map_of.ensures
     ∙ map-of-three
-    (byte-bit absentGate.threshold g.threshold (rw absent at threshold.is-given.ensures))
-    (field-bit absentGate.tests g.tests (rw absent at tests.is-given2.ensures) g.tests _)
-    (field-bit absentGate.gates g.gates (rw absent at c.before.is-given3.ensures) g.gates _)
+    (byte-bit absent_gate.threshold g.threshold (rw absent at threshold.is-given.ensures))
+    (field-bit absent_gate.tests g.tests (rw absent at tests.is-given2.ensures) g.tests _)
+    (field-bit absent_gate.gates g.gates (rw absent at c.before.is-given3.ensures) g.gates _)
 
 pub gate-map-spec : {M : Type 1} → statement M
 gate-map-spec =

@@ -3,8 +3,8 @@ use Prim.Native.Nat.{ℕ}
 use mathlib.Core.List.{List, ◌∷◌}
 use native.Mathlib.Omega.{arith}
 use Rattle.text.proofs.Pieces.{Pieces, pieces_room, pieces_more}
-use Rattle.study_bytes.specs.Written.{byte_of, gateFields}
-use Rattle.writing.proofs.Parts.{Spell, record-start, record-done, gateParts, gate-spelt}
+use Rattle.study_bytes.specs.Written.{byte_of, gate_fields}
+use Rattle.writing.proofs.Parts.{Spell, record-start, record-done, gate_parts, gate-spelt}
 use borrow.Author.Rules.{rules}
 use Rattle.writing.proofs.gates.write_gate.Statement.{statement}
 use Rattle.writing.proofs.gates.write_gate.Tie as tie
@@ -32,13 +32,13 @@ numbered c = c.before.before.before.before
 -- ---- the pieces below k are written
 
 -- what the code takes for absent is
-same : (c : tie.After-gate-map) → Spell (gateParts c.before.before.absent-gate.result (start c).args.g) (gateFields (start c).args.g)
+same : (c : tie.After-gate-map) → Spell (gate_parts c.before.before.absent-gate.result (start c).args.g) (gate_fields (start c).args.g)
 same c = gate-spelt _ (start c).args.g c.before.before.absent-gate.ensures
 
 abbrev Written : tie.After-gate-map → ℕ → List ℕ → ℕ → Type 0
 Written c k d p =
     let args = (start c).args in
-    Pieces (byte_of c.gate-map.result ∷ gateParts c.before.before.absent-gate.result args.g) args.out.now args.at k d p
+    Pieces (byte_of c.gate-map.result ∷ gate_parts c.before.before.absent-gate.result args.g) args.out.now args.at k d p
 
 none : (c : tie.After-gate-map) → Written c 0 (start c).args.out.now (start c).args.at
 none c = record-start c.gate-map.ensures (same c) (start c).requires.1.1

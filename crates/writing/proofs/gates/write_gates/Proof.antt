@@ -1,16 +1,16 @@
 -- `writing::gates::write_gates` meets its contract. The records of the gates below i are written (`Tabled`), and the gates left fall.
 use Prim.Native.Nat.{ℕ, ◌-◌}
 use native.Mathlib.Omega.{arith}
-use Rattle.study.specs.Places.{gateAt}
+use Rattle.study.specs.Places.{gate_at}
 use Rattle.soundness.proofs.Ranges.{gates-most, tests-most, gate-inputs-most}
 use Rattle.text.proofs.Pieces.{Tabled, tabled_start, tabled-room, tabled-more, tabled-size, tabled-done}
-use Rattle.study_bytes.specs.Written.{gateBytes}
+use Rattle.study_bytes.specs.Written.{gate_bytes}
 use borrow.Author.Rules.{rules}
 use Rattle.writing.proofs.gates.write_gates.Statement.{statement}
 use Rattle.writing.proofs.gates.write_gates.Tie as tie
 
 abbrev invariant-loop : tie.invariant-loop
-invariant-loop out₀ at t n place₀ i₀ out place i = Tabled (λ (k : ℕ). gateBytes (gateAt t k)) n out₀ at i out place
+invariant-loop out₀ at t n place₀ i₀ out place i = Tabled (λ (k : ℕ). gate_bytes (gate_at t k)) n out₀ at i out place
 
 abbrev decreases-loop : tie.decreases-loop
 decreases-loop out₀ at t n place₀ i₀ out place i = n - i

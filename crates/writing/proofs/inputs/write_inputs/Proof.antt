@@ -4,7 +4,7 @@ use native.Mathlib.Omega.{arith}
 use lib.ListN.{length}
 use lib.Seq.{length-take-le}
 use Rattle.lists.proofs.Joined.{joined-ones}
-use Rattle.rules.specs.Limits.{mostGateInputs}
+use Rattle.rules.specs.Limits.{most_gate_inputs}
 use borrow.Author.Rules.{rules}
 use Rattle.writing.proofs.inputs.write_inputs.Statement.{statement}
 use Rattle.writing.proofs.inputs.write_inputs.Tie as tie
@@ -12,7 +12,7 @@ use Rattle.writing.proofs.inputs.write_inputs.Tie as tie
 array-share-prefix-input : tie.Need-array-share-prefix-input
 array-share-prefix-input c =
     let start = c.before.before.before.before in
-    let places : length start.args.g.input ≡ mostGateInputs = search rules in
+    let places : length start.args.g.input ≡ most_gate_inputs = search rules in
     omega (arith, places, start.requires.0)
 
 slice-aggregate-copy : tie.Need-slice-aggregate-copy

@@ -2,13 +2,13 @@
 use Prim.Native.Nat.{◌-◌}
 use native.Mathlib.Omega.{arith}
 use Rattle.text.proofs.Pieces.{Tabled, tabled_start, tabled-room, tabled-more, tabled-size, tabled-done}
-use Rattle.study_bytes.specs.Written.{testBytes}
+use Rattle.study_bytes.specs.Written.{test_bytes}
 use borrow.Author.Rules.{rules}
 use Rattle.writing.proofs.inputs.write_tests.Statement.{statement}
 use Rattle.writing.proofs.inputs.write_tests.Tie as tie
 
 abbrev invariant-loop : tie.invariant-loop
-invariant-loop out₀ at g n place₀ j₀ out place j = Tabled (testBytes g) n out₀ at j out place
+invariant-loop out₀ at g n place₀ j₀ out place j = Tabled (test_bytes g) n out₀ at j out place
 
 abbrev decreases-loop : tie.decreases-loop
 decreases-loop out₀ at g n place₀ j₀ out place j = n - j

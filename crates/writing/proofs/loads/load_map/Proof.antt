@@ -1,6 +1,6 @@
 -- `writing::loads::load_map` meets its contract: a bit stands where its field is given.
 use mathlib.Core.Path.{◌∙◌}
-use Rattle.study.specs.Absent.{absentLoad}
+use Rattle.study.specs.Absent.{absent_load}
 use Rattle.study_bytes.proofs.Fields.{byte-bit, number_bit}
 use Rattle.writing.proofs.Maps.{map-of-three}
 use borrow.Author.Rules.{rules}
@@ -20,9 +20,9 @@ returns c =
     let l = (start (origin gate)).args.l in
     c.map_of.ensures
     ∙ map-of-three
-    (byte-bit absentLoad.gate l.gate (rw absent at gate.is-given.ensures))
-    (number_bit absentLoad.customers l.customers (rw absent at c.before.before.is-given2.ensures))
-    (number_bit absentLoad.minutes l.minutes (rw absent at c.before.is-given3.ensures))
+    (byte-bit absent_load.gate l.gate (rw absent at gate.is-given.ensures))
+    (number_bit absent_load.customers l.customers (rw absent at c.before.before.is-given2.ensures))
+    (number_bit absent_load.minutes l.minutes (rw absent at c.before.is-given3.ensures))
 
 pub load-map-spec : {M : Type 1} → statement M
 load-map-spec =

@@ -6,7 +6,7 @@ use native.Mathlib.Omega.{arith}
 use Rattle.study.specs.declared.Load.{Load}
 use Rattle.lists.specs.Rows.{joined}
 use Rattle.text.proofs.Pieces.{Pieces, pieces_room, pieces_more}
-use Rattle.study_bytes.specs.Written.{byte_of, fourBytesOf, field, loadFields}
+use Rattle.study_bytes.specs.Written.{byte_of, four_bytes_of, field, load_fields}
 use Rattle.writing.proofs.Parts.{Spell, record-start, record-done}
 use borrow.Author.Rules.{rules}
 use Rattle.writing.proofs.loads.write_load.Statement.{statement}
@@ -32,11 +32,11 @@ counted c = c.before.before.before.before
 abbrev fields : Load → Load → List (List ℕ)
 fields absent l =
     field absent.gate l.gate (byte_of l.gate)
-    ∷ field absent.customers l.customers (fourBytesOf l.customers)
-    ∷ field absent.minutes l.minutes (fourBytesOf l.minutes)
+    ∷ field absent.customers l.customers (four_bytes_of l.customers)
+    ∷ field absent.minutes l.minutes (four_bytes_of l.minutes)
     ∷ []
 
-same : (c : tie.After-load-map) → Spell (fields c.before.before.absent-load.result (start c).args.l) (loadFields (start c).args.l)
+same : (c : tie.After-load-map) → Spell (fields c.before.before.absent-load.result (start c).args.l) (load_fields (start c).args.l)
 same c = record { same = ap (λ (absent : Load). joined (fields absent (start c).args.l)) c.before.before.absent-load.ensures }
 
 abbrev Written : tie.After-load-map → ℕ → List ℕ → ℕ → Type 0

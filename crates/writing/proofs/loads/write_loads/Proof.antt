@@ -1,16 +1,16 @@
 -- `writing::loads::write_loads` meets its contract. The records of the loads below j are written (`Tabled`), and the loads left fall.
 use Prim.Native.Nat.{ℕ, ◌-◌}
 use native.Mathlib.Omega.{arith}
-use Rattle.study.specs.Places.{loadAt}
+use Rattle.study.specs.Places.{load_at}
 use Rattle.soundness.proofs.Ranges.{loads-most}
 use Rattle.text.proofs.Pieces.{Tabled, tabled_start, tabled-room, tabled-more, tabled-size, tabled-done}
-use Rattle.study_bytes.specs.Written.{loadBytes}
+use Rattle.study_bytes.specs.Written.{load_bytes}
 use borrow.Author.Rules.{rules}
 use Rattle.writing.proofs.loads.write_loads.Statement.{statement}
 use Rattle.writing.proofs.loads.write_loads.Tie as tie
 
 abbrev invariant-loop : tie.invariant-loop
-invariant-loop out₀ at t n place₀ j₀ out place j = Tabled (λ (k : ℕ). loadBytes (loadAt t k)) n out₀ at j out place
+invariant-loop out₀ at t n place₀ j₀ out place j = Tabled (λ (k : ℕ). load_bytes (load_at t k)) n out₀ at j out place
 
 abbrev decreases-loop : tie.decreases-loop
 decreases-loop out₀ at t n place₀ j₀ out place j = n - j

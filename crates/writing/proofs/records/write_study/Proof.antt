@@ -3,7 +3,7 @@ use Prim.Native.Nat.{ℕ}
 use mathlib.Core.List.{List}
 use native.Mathlib.Omega.{arith}
 use Rattle.text.proofs.Pieces.{Pieces, pieces_room, pieces_more}
-use Rattle.writing.proofs.Parts.{studyParts, study-start, study-done}
+use Rattle.writing.proofs.Parts.{study_parts, study-start, study-done}
 use borrow.Author.Rules.{rules}
 use Rattle.writing.proofs.records.write_study.Statement.{statement}
 use Rattle.writing.proofs.records.write_study.Tie as tie
@@ -22,7 +22,7 @@ components c = c.before.before.before.before
 -- ---- the parts below k are written
 
 abbrev Written : tie.Start → ℕ → List ℕ → ℕ → Type 0
-Written s k d p = Pieces (studyParts s.args.t) s.args.out.now 0 k d p
+Written s k d p = Pieces (study_parts s.args.t) s.args.out.now 0 k d p
 
 none : (s : tie.Start) → Written s 0 s.args.out.now 0
 none s = study-start s.args.t s.requires.1

@@ -1,6 +1,6 @@
 -- `writing::saving::write_sound` meets its contract: the page has room for any sound study (`study-size`), and what was written on it is handed over.
 use native.Mathlib.Omega.{arith}
-use Rattle.rules.specs.Limits.{longestStudy}
+use Rattle.rules.specs.Limits.{longest_study}
 use Rattle.lent_text.proofs.Whole.{whole-front, whole-inside, front-counts, front-short}
 use Rattle.writing.proofs.Longest.{study-size}
 use borrow.Author.Rules.{rules}
@@ -19,7 +19,7 @@ slice-aggregate-hand-over : tie.Need-slice-aggregate-hand-over
 slice-aggregate-hand-over c = front-counts c.before.before.write-study.ensures
 
 hand-over-requires : tie.Need-hand-over-requires
-hand-over-requires c κs = front-short c.before.before.before.write-study.ensures longestStudy (search rules) (omega arith)
+hand-over-requires c κs = front-short c.before.before.before.write-study.ensures longest_study (search rules) (omega arith)
 
 returns : tie.Need-returns
 returns c =
