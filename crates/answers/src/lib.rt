@@ -1,5 +1,7 @@
 // What the calls hand back: the outcome of a call that makes a study, counts, bounds, figures and chances, each replaced by the number of the refusal table
 // where the call is refused.
+#![tactic(auto)]
+
 mod bounds;
 mod chances;
 mod counts;

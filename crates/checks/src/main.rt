@@ -1,6 +1,8 @@
 // Runs the script on standard input against the library and writes what each call answers. The script's own lines say which numbers
 // are right; `stdout` holds them, worked out by hand or, for lists and bounds, by a second program from all joint states, and for chances with several
 // factors, by multiplying those of the table in turn.
+#![tactic(auto)]
+
 mod commands;
 mod filled;
 mod overwritten;

@@ -1,4 +1,6 @@
 // Reads one component record. Not for callers from outside.
+#![tactic(auto)]
+
 ghost use Rattle.std.specs.Prelude.{◌≡◌, cond, ◌<◌};
 ghost use Rattle.reading.specs.Reader.{ReadsAt};
 ghost use Rattle.rules.specs.Limits.{component_maps};

@@ -7,6 +7,8 @@
 // is then the tree's: where two branches part, their marks differ in the component asked there, so that no joint state fits both, and the one that
 // has a state for it fits the branch of that state. Below a node, once the subtrees of the states below s are read, the table holds the tree's classes at the
 // joint states of the branch that have such a state; behind the last, at all of the branch. At the root nothing is asked, and all joint states fit.
+#![tactic(auto)]
+
 mod branch;
 mod classes;
 mod tree;

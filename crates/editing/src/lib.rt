@@ -1,4 +1,6 @@
 // The edits of an opened study, each of one field. A refused edit hands the study back as it was.
+#![tactic(auto)]
+
 ghost use Rattle.std.specs.Prelude.{◌≡◌};
 ghost use Rattle.editing.specs.Edits.{edited, component_edit_fault, probabilities_set, load_edit_fault, customers_set, minutes_set};
 

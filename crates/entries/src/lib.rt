@@ -1,6 +1,8 @@
 // What an entry of a list of paths is: a mark for each component, then the class of the path. Its bytes and those of a
 // class, reading and writing them, rows of classes, and the room that the longest list takes. Not for callers from
 // outside: those call `planning`.
+#![tactic(auto)]
+
 mod class;
 mod layout;
 mod list;

@@ -1,5 +1,7 @@
 // What is worked out of a model in hand and a class table: bounds of its paths, classes and loads, and the figures.
 // Classes and loads need no list of paths. Not for callers from outside: those call `planning`.
+#![tactic(auto)]
+
 mod classes;
 mod figures;
 mod losses;

@@ -1,5 +1,7 @@
 // Bounds for the exponential of minus an exponent: a product of a factor for each bit of the exponent, the lower
 // bound rounded down and the upper one up.
+#![tactic(auto)]
+
 ghost use Rattle.std.specs.Prelude.{◌<◌, ◌≡◌};
 ghost use Rattle.units.specs.One.{one};
 ghost use Rattle.exponential.specs.Worked.{grain, factors, raised, line as line_of, Units, times as times_of, survival_of};

@@ -1,4 +1,6 @@
 // What a call answers in C: a count or 0, or the number of its refusal below 0; and a pair of bounds in two numbers.
+#![tactic(auto)]
+
 ghost use Rattle.std.specs.Prelude.{◌≡◌, pos};
 ghost use Rattle.answers.specs.Told.{outcome_told, listing_told, count_told};
 ghost use Rattle.export_answers.specs.Answers.{below, answered_by, done, count, two};

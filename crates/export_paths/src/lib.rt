@@ -1,5 +1,7 @@
 // The paths and classes of an opened study for C, by its gates or by a drawn tree: the list of its paths, and bounds
 // for each path and class. Gates look at no tree.
+#![tactic(auto)]
+
 ghost use Rattle.meaning.specs.Sources.{meaning_of};
 ghost use Rattle.export_paths.specs.Paths.{ListsPaths, BoundsPaths, BoundsClasses};
 

@@ -1,4 +1,6 @@
 // Opening, the edits and saving for C: a study is kept by its caller as an image in a lent slice.
+#![tactic(auto)]
+
 mod edits;
 mod images;
 mod saving;

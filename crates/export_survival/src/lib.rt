@@ -1,4 +1,6 @@
 // The chances of surviving and of failure for C, each in two numbers.
+#![tactic(auto)]
+
 ghost use Rattle.export_answers.specs.Answers.{two};
 ghost use Rattle.export_survival.specs.Chances.{GivesChances};
 

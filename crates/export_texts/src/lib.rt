@@ -1,4 +1,6 @@
 // Texts for C: the report of a study's bytes, and the word of a refusal.
+#![tactic(auto)]
+
 ghost use Rattle.export_texts.specs.Texts.{Reports, Words};
 
 use export_answers::answer_count;

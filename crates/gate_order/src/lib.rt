@@ -1,4 +1,6 @@
 // Puts the inputs of gates in order, tells whether they are, and finds the distinct ones. Not for callers from outside.
+#![tactic(auto)]
+
 mod gate_inputs;
 mod tests;
 

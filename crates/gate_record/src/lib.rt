@@ -1,4 +1,6 @@
 // Reads one gate record, and puts the inputs of the gate in order. Not for callers from outside.
+#![tactic(auto)]
+
 mod inputs;
 mod tests;
 

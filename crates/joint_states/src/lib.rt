@@ -1,4 +1,6 @@
 // Joint states: a state for each component, in order, component 0 varying slowest. Not for callers from outside: those call `planning`.
+#![tactic(auto)]
+
 ghost use Rattle.std.specs.Prelude.{◌+◌, ◌%◌, ◌≤◌, ◌≡◌};
 ghost use Rattle.lists.specs.Product.{product};
 ghost use Rattle.joint_states.specs.JointStates.{JointState, number_of, most_numbered};

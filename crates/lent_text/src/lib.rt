@@ -1,4 +1,6 @@
 // A text that is written whole before any of it is handed over, so that a buffer which is too short for it stays as it was.
+#![tactic(auto)]
+
 ghost use Rattle.std.specs.Prelude.{◌<◌, ◌^◌, ◌≡◌, length};
 ghost use Rattle.lent_text.specs.Lent.{reported, written};
 

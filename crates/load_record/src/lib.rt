@@ -1,4 +1,6 @@
 // Reads one load record. Not for callers from outside.
+#![tactic(auto)]
+
 ghost use Rattle.std.specs.Prelude.{◌<◌};
 ghost use Rattle.reading.specs.Reader.{ReadsAt};
 ghost use Rattle.rules.specs.Limits.{load_maps};

@@ -1,5 +1,7 @@
 // The calls for the losses of a study, by its gates or by a drawn tree: bounds for the loss of a load, and the
 // interruption figures. Each is here by gates, by a tree, and by a source that says which of the two.
+#![tactic(auto)]
+
 mod interruptions;
 mod loads;
 

@@ -1,5 +1,7 @@
 // What a call on a study is about: its own gates, or a tree that is drawn beside it. The class table is filled from either here, and nothing behind
 // the table knows from which. Not for callers from outside: those call `planning`.
+#![tactic(auto)]
+
 mod drawn;
 
 ghost use Rattle.std.specs.Prelude.{◌≤◌, length};

@@ -1,6 +1,8 @@
 // The model: what a call is about once its refusals are past. Everything behind the class table is said of a model and
 // not of a study, so that a table of classes which comes from elsewhere has the same paths, bounds and figures. What
 // the code holds of a model; the rest is definitions and laws.
+#![tactic(auto)]
+
 use rules::{COMPONENT_PLACES, LOAD_PLACES};
 use study::Load;
 

@@ -1,5 +1,7 @@
 // Opens a study: bytes to a study, refused with the number of the first breach. Not for callers from outside: those
 // call `planning`.
+#![tactic(auto)]
+
 mod components;
 mod gates;
 mod loads;

@@ -1,5 +1,7 @@
 // The calls for the paths and classes of a study, by its gates or by a drawn tree: the list of its paths, and bounds in
 // two lent slices. Each is here by gates, by a tree, and by a source that says which of the two.
+#![tactic(auto)]
+
 mod classes;
 mod listing;
 mod paths;

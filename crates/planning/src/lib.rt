@@ -1,5 +1,7 @@
 // The calls of the planning package. None asks anything of its caller: what is wrong is refused, with the number of the first breach met, and
 // nothing that was lent or handed in is changed then. Each is passed on from the crate that does it.
+#![tactic(auto)]
+
 pub use answers::{
     BoundsAnswer, Caidi, Chances, CountAnswer, Enclosure, Figures, FiguresAnswer, Listing, Outcome,
     PathCount, StudyAnswer, SurvivalAnswer,

@@ -1,5 +1,7 @@
 // Bounds of paths, from a list of them and a table of probabilities, the factor that each component brings, and what
 // one class comes to. Gates and studies are not known here. Not for callers from outside: those call `planning`.
+#![tactic(auto)]
+
 mod classes;
 mod path;
 mod probabilities;

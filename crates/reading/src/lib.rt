@@ -1,5 +1,7 @@
 // Reading bytes at a place: a byte, a number of four bytes, and the bits of a record's map.
 // A reading holds its refusal (0: none), the place of the next byte and the value. Not for callers from outside.
+#![tactic(auto)]
+
 ghost use Rattle.std.specs.Prelude.{◌≡◌, ◌+◌, ◌-◌, ◌<◌, ◌≤◌, length};
 ghost use Rattle.std.specs.Int.Count.{ones};
 ghost use Rattle.lists.specs.Bits.{digit};

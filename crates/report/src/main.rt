@@ -1,4 +1,6 @@
 // The report program: reads a study from standard input and prints its report.
+#![tactic(auto)]
+
 ghost use Rattle.std.specs.Prelude.{◌+◌, ◌≡◌, length};
 ghost use Rattle.rules.specs.Limits.{longest_study};
 ghost use Rattle.entries.specs.Entries.{class_places};

@@ -1,4 +1,6 @@
 // The report of a study as text in a lent buffer, beside the bounds of its classes in two lent slices.
+#![tactic(auto)]
+
 mod buffer;
 mod measuring;
 mod model_text;

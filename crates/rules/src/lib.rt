@@ -1,6 +1,8 @@
 // The refusal table in code: each rule of studies, drawn trees and exponents once, as the number of its row where it
 // is broken and 0 where it is kept. Opening, the soundness check and the edits all refuse by these. Beside the table,
 // which losses are momentary. Not for callers from outside: those call `planning`.
+#![tactic(auto)]
+
 mod breach;
 mod limits;
 mod table;

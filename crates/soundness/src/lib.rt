@@ -1,5 +1,7 @@
 // The soundness check of a study: whether it keeps every rule of the format and holds 0 in every place that no record uses.
 // Not for callers from outside: those call `planning`.
+#![tactic(auto)]
+
 mod components;
 mod gates;
 mod inputs;

@@ -1,4 +1,6 @@
 // The study: its components, gates and loads, as an opened study holds them. Structs, their zero and absent values, and state counts.
+#![tactic(auto)]
+
 ghost use Rattle.std.specs.Prelude.{ℕ, ◌≤◌, ◌<◌, ◌≡◌, length, get_or};
 ghost use Rattle.rules.specs.Limits.{most_components, most_states};
 ghost use Rattle.lists.specs.Product.{product};

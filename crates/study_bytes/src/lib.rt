@@ -1,1 +1,2 @@
 // What bytes a study is written to: definitions and their laws, and no code.
+#![tactic(auto)]

@@ -1,5 +1,7 @@
 // The image of a study: the fixed bytes by which programs in other languages hold an opened study. Any slice of so many bytes holds some study;
 // whether it is sound is for the calls of `planning` to tell.
+#![tactic(auto)]
+
 mod components;
 mod fields;
 mod gates;

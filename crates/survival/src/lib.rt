@@ -1,4 +1,6 @@
 // The chances of surviving and of failure, from a failure rate and hours.
+#![tactic(auto)]
+
 ghost use Rattle.std.specs.Prelude.{◌≡◌};
 ghost use Rattle.exponential.specs.Worked.{Units};
 ghost use Rattle.survival.specs.Chances.{exponent_of, chances_by};

@@ -1,5 +1,7 @@
 // Text in a lent buffer: bytes, decimal numbers and lines. Each function writes from a place on and answers the place behind what it wrote; who
 // calls it has the room. Grids are not known here.
+#![tactic(auto)]
+
 mod bytes;
 mod lines;
 mod numbers;

@@ -1,4 +1,6 @@
 // Fixed-point probability: whole billionths, how many of them make certainty, and products and quotients that are rounded down or up.
+#![tactic(auto)]
+
 ghost use Rattle.std.specs.Prelude.{◌<◌, ◌≤◌, ◌≡◌};
 ghost use Rattle.units.specs.One.{one};
 ghost use Rattle.units.specs.Rounding.{up, scale as rounding_scale, quotient_down, quotient_up};

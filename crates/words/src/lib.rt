@@ -1,4 +1,6 @@
 // The words of the refusal table.
+#![tactic(auto)]
+
 ghost use Rattle.std.specs.Prelude.{◌≡◌};
 ghost use Rattle.lists.specs.Cleared.{Cleared};
 ghost use Rattle.text.specs.Writing.{Room, Wrote};

@@ -1,5 +1,7 @@
 // Writes a study as bytes that open to it, at the front of a lent buffer.
 // Not for callers from outside: those call `planning`.
+#![tactic(auto)]
+
 mod components;
 mod fields;
 mod gates;
