@@ -1,0 +1,7 @@
+-- `rules::table::input_count_fault` meets its contract: the row's breach, unless the field is absent.
+use borrow.Author.Rules.{rules}
+use Rattle.rules.proofs.table.input_count_fault.Goals as goal
+
+pub returns : goal.returns
+returns c =
+    cc
