@@ -2,14 +2,14 @@
 use crate::bounds::Enclosure;
 
 // Bounds, in units, for the chance of surviving and for that of failure.
-#[derive(Drop)]
+#[derive(Clone, Copy)]
 pub struct Chances {
     pub survival: Enclosure,
     pub failure: Enclosure,
 }
 
 // The chances, or the refusal.
-#[derive(Drop)]
+#[derive(Clone, Copy)]
 pub enum SurvivalAnswer {
     Chances(Chances),
     Refused(u8),

@@ -2,14 +2,14 @@
 use crate::bounds::Enclosure;
 
 // CAIDI in whole minutes: a pair of bounds, or not stated.
-#[derive(Drop)]
+#[derive(Clone, Copy)]
 pub enum Caidi {
     Bounds(Enclosure),
     NotStated,
 }
 
 // SAIFI in units, SAIDI in billionths of a minute, CAIDI, MAIFI in units.
-#[derive(Drop)]
+#[derive(Clone, Copy)]
 pub struct Figures {
     pub saifi: Enclosure,
     pub saidi: Enclosure,
@@ -18,7 +18,7 @@ pub struct Figures {
 }
 
 // The figures, or the refusal.
-#[derive(Drop)]
+#[derive(Clone, Copy)]
 pub enum FiguresAnswer {
     Figures(Figures),
     Refused(u8),

@@ -2,14 +2,14 @@
 use study::Study;
 
 // Whether a call was done, or the number of the refusal table by which it was refused.
-#[derive(Drop)]
+#[derive(Clone, Copy)]
 pub enum Outcome {
     Done,
     Refused(u8),
 }
 
 // What a call that makes a study answers: the outcome beside the study.
-#[derive(Drop)]
+#[derive(Clone, Copy)]
 pub struct StudyAnswer {
     pub outcome: Outcome,
     pub study: Study,

@@ -10,7 +10,7 @@ use planning::{CountAnswer, Listing, Outcome};
 use study::Study;
 
 // The refusal, 0 for none, and how many paths, classes or bytes were written, 0 where refused.
-#[derive(Drop)]
+#[derive(Clone, Copy)]
 struct Filled {
     refusal: u8,
     count: u32,

@@ -12,7 +12,7 @@ use reading::{byte_at, field_count, fields_behind, map_at, map_digit, word_at};
 use rules::{COMPONENT_MAPS, first, no_state_fault, states_fault, sum_fault};
 use study::{Component, absent_component};
 
-#[derive(Drop)]
+#[derive(Clone, Copy)]
 pub struct ComponentRead {
     pub refusal: u8,
     pub next: usize,

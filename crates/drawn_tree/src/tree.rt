@@ -15,7 +15,7 @@ use rules::{BAD_END, COMPONENT_PLACES, first, leaf_fault, node_fault};
 const LEAF: u8 = 255;
 
 // Where reading stands: its refusal (0: none), and the place of the next byte.
-#[derive(Drop)]
+#[derive(Clone, Copy)]
 pub struct Place {
     pub refusal: u8,
     pub next: usize,

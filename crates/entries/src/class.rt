@@ -27,7 +27,7 @@ pub fn class_from(bytes: &[u8], at: usize) -> Class
 }
 
 // A class that is read among other fields: its refusal (0: none), the place of the next byte and the value.
-#[derive(Drop)]
+#[derive(Clone, Copy)]
 pub struct ClassRead {
     pub refusal: u8,
     pub next: usize,

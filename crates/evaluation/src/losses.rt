@@ -9,7 +9,7 @@ use study_model::add_paths;
 use totals::no_totals;
 
 // The bounds of all load places.
-#[derive(Drop)]
+#[derive(Clone, Copy)]
 pub struct Losses {
     pub lower: [u64; LOAD_PLACES],
     pub upper: [u64; LOAD_PLACES],

@@ -8,7 +8,7 @@ ghost use Rattle.paths.specs.Ways.{ways};
 use entries::{Class, classes_from, same_classes};
 
 // The ways at a component: whether it is blank, their number, and how many classes the part of each has.
-#[derive(Drop)]
+#[derive(Clone, Copy)]
 pub struct Ways {
     pub blank: bool,
     pub number: u8,

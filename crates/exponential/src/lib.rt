@@ -22,7 +22,7 @@ const FACTORS: [u64; POWERS] = [
 ];
 
 // A lower and an upper bound, in units.
-#[derive(Drop)]
+#[derive(Clone, Copy)]
 pub struct Bounds {
     pub lower: u64,
     pub upper: u64,

@@ -52,7 +52,7 @@ pub fn put_in_order(
 
 // What the inputs of a gate were found to be: 16 where they are out of order, and otherwise how many are distinct,
 // tests and gates together.
-#[derive(Drop)]
+#[derive(Clone, Copy)]
 pub struct InputsJudged {
     pub refusal: u8,
     pub distinct: u32,

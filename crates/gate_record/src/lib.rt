@@ -22,7 +22,7 @@ use study::absent_gate;
 use tests::read_tests;
 
 // What is known of a gate once it is read; its inputs stand in lent places.
-#[derive(Drop)]
+#[derive(Clone, Copy)]
 pub struct GateRead {
     pub refusal: u8,
     pub next: usize,
@@ -32,7 +32,7 @@ pub struct GateRead {
 }
 
 // What is known of a row once it is read.
-#[derive(Drop)]
+#[derive(Clone, Copy)]
 pub struct RowRead {
     pub refusal: u8,
     pub next: usize,

@@ -14,7 +14,7 @@ use rules::{MOST_TESTS, first, mask_fault, no_component_fault};
 use study::states_of;
 
 // What is read of a test.
-#[derive(Drop)]
+#[derive(Clone, Copy)]
 struct TestRead {
     refusal: u8,
     next: usize,

@@ -28,7 +28,7 @@ pub fn customers_sum(load: [Load; LOAD_PLACES], n: u8) -> u64
 }
 
 // The sums over P: of P × C and of P × C × M over the loads that are not short, and of P × C over those that are.
-#[derive(Drop)]
+#[derive(Clone, Copy)]
 pub struct Sums {
     pub loss: u64,
     pub minutes: u64,

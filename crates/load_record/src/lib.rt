@@ -12,7 +12,7 @@ use reading::{WordRead, byte_at, field_count, fields_behind, map_at, map_digit, 
 use rules::{LOAD_MAPS, MOST_CUSTOMERS, MOST_MINUTES, first, no_gate_fault, size_fault};
 use study::{Load, absent_load, with_customers, with_minutes};
 
-#[derive(Drop)]
+#[derive(Clone, Copy)]
 pub struct LoadRead {
     pub refusal: u8,
     pub next: usize,

@@ -17,7 +17,7 @@ use soundness::is_sound;
 use study::Study;
 
 // Where the classes of a call come from.
-#[derive(Drop)]
+#[derive(Clone, Copy)]
 pub enum Source {
     Gates,
     Tree,

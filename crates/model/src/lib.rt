@@ -11,7 +11,7 @@ pub const PROBABILITY_PLACES: usize = 48;
 
 // A model in hand, but for its classes, which stand in a table beside it. What is in use stands in front of arrays
 // that have room for any model.
-#[derive(Drop)]
+#[derive(Clone, Copy)]
 pub struct HeldModel {
     pub components: u8,
     pub counts: [u8; COMPONENT_PLACES],

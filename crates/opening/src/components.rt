@@ -10,7 +10,7 @@ use component_record::{ComponentRead, read_component};
 use rules::{COMPONENT_PLACES, first, width_fault};
 use study::{Component, no_components};
 
-#[derive(Drop)]
+#[derive(Clone, Copy)]
 pub struct ComponentsRead {
     pub refusal: u8,
     pub next: usize,

@@ -10,7 +10,7 @@ use gate_record::read_gate;
 use rules::{GATE_PLACES, INPUT_PLACES, TEST_PLACES};
 use study::{Gate, no_gates};
 
-#[derive(Drop)]
+#[derive(Clone, Copy)]
 pub struct GatesRead {
     pub refusal: u8,
     pub next: usize,

@@ -22,7 +22,7 @@ use rules::{
 use study::{Study, zero_study};
 
 // What is known of a study once its counts are read.
-#[derive(Drop)]
+#[derive(Clone, Copy)]
 struct CountsRead {
     refusal: u8,
     next: usize,

@@ -9,7 +9,7 @@ use load_record::read_load;
 use rules::LOAD_PLACES;
 use study::{Load, no_loads};
 
-#[derive(Drop)]
+#[derive(Clone, Copy)]
 pub struct LoadsRead {
     pub refusal: u8,
     pub next: usize,

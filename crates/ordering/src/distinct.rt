@@ -20,7 +20,7 @@ fn stands_next(number: &[u8], mask: &[u8], at: usize) -> bool
 }
 
 // What a row was found to be: whether it is in order, and how many distinct inputs it then has.
-#[derive(Drop)]
+#[derive(Clone, Copy)]
 pub struct Counted {
     pub ascends: bool,
     pub distinct: u8,

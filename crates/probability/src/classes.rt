@@ -10,7 +10,7 @@ use entries::{Class, class_at};
 use units::{DOWN, ONE, UP};
 
 // How many paths bear a class, and its bounds.
-#[derive(Drop)]
+#[derive(Clone, Copy)]
 pub struct ClassTotal {
     pub paths: u32,
     pub lower: u64,

@@ -8,14 +8,14 @@ ghost use Rattle.lists.specs.Bits.{digit};
 ghost use Rattle.reading.specs.Fields.{map_bits, BitLeft, map_byte};
 ghost use Rattle.reading.specs.Reader.{ReadsAt, ReadsWith, byte_or, byte, word, number as reader_number, number_at};
 
-#[derive(Drop)]
+#[derive(Clone, Copy)]
 pub struct ByteRead {
     pub refusal: u8,
     pub next: usize,
     pub value: u8,
 }
 
-#[derive(Drop)]
+#[derive(Clone, Copy)]
 pub struct WordRead {
     pub refusal: u8,
     pub next: usize,

@@ -13,7 +13,7 @@ ghost use Rattle.study.specs.Absent.{absent_component, absent_gate, absent_load}
 use rules::{COMPONENT_PLACES, GATE_PLACES, INPUT_PLACES, LOAD_PLACES, TEST_PLACES};
 
 // A component: its state count, and the probabilities of states 1 to 3 in units. State 0, "up", has the rest of one.
-#[derive(Drop)]
+#[derive(Clone, Copy)]
 pub struct Component {
     pub states: u8,
     pub p1: u32,
@@ -23,7 +23,7 @@ pub struct Component {
 
 // A voting gate: true when at least `threshold` of its distinct inputs are. Its tests are pairs of a component and a mask of its states; its
 // gate inputs are numbers of lower gates.
-#[derive(Drop)]
+#[derive(Clone, Copy)]
 pub struct Gate {
     pub threshold: u8,
     pub tests: u8,
@@ -34,7 +34,7 @@ pub struct Gate {
 }
 
 // A load point: its loss gate (`rules::NEVER`: it is never lost), its customers and its restore time in minutes.
-#[derive(Drop)]
+#[derive(Clone, Copy)]
 pub struct Load {
     pub gate: u8,
     pub customers: u32,
@@ -42,7 +42,7 @@ pub struct Load {
 }
 
 // A study: the number of records of each kind, and the places for them. Places that no record uses hold 0.
-#[derive(Drop)]
+#[derive(Clone, Copy)]
 pub struct Study {
     pub components: u8,
     pub gates: u8,

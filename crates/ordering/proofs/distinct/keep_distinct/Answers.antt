@@ -13,7 +13,7 @@ use Rattle.ordering.specs.Inputs.{Input, paired}
 use Rattle.ordering.proofs.Pairs.{paired_long}
 use Rattle.ordering.proofs.Thinned.{Thinning, thinning-start, thinning-again, thinning-more, thinning-done, thinned-most, thinned-distinct}
 use Rattle.ordering.proofs.distinct.keep_distinct.Goals as goal
-use Rattle.ordering.proofs.distinct.keep_distinct.Goals.{In-loop-at}
+use Rattle.ordering.proofs.distinct.keep_distinct.Goals.{then-not-stands_next, else-not-stands_next, In-loop-at}
 
 put-inside : (c : In-loop-at) → c.loop-at.kept < length c.loop-at.number
 put-inside c =
@@ -55,7 +55,7 @@ pub loop-at-preserved : goal.loop-at-preserved
 loop-at-preserved c =
     let thinning = c.loop-at.invariant in
     let tested = c.stands_next.ensures in
-    ?
+    elim c.if-not-stands_next.branch [ then-not-stands_next w ↦ rw (w.number-is, w.mask-is, w.kept-is) (thinning-more thinning c.loop-at-test.true (sym tested ∙ w.if-not-stands_next.true)) | else-not-stands_next w ↦ rw (w.number-is, w.mask-is, w.kept-is) (thinning-again thinning c.loop-at-test.true (sym tested ∙ w.if-not-stands_next.false)) ]
 
 pub loop-at-smaller : goal.loop-at-smaller
 loop-at-smaller c =
