@@ -6,14 +6,10 @@ use Rattle.reading.specs.Reader.{byte}
 use Rattle.reading.specs.Fields.{map_byte}
 use Rattle.reading.proofs.After.{kept-last}
 use Rattle.reading.proofs.Calls.{asks_nothing}
-use Rattle.reading.proofs.map_at.Statement.{statement}
-use Rattle.reading.proofs.map_at.Tie as tie
+use Rattle.reading.proofs.map_at.Goals as goal
 
-returns : tie.Need-returns
+pub returns : goal.returns
 unfolding map_byte
 returns c =
-    let read = c.before.before.byte_at.ensures in
-    kept-last byte (stray_fault _) (λ map kept. leb-false _ map (refuse-kept _ _ kept)) read c.before.stray-fault.ensures c.first.ensures
-
-pub map-at-spec : {M : Type 1} → statement M
-map-at-spec = tie.close (tie.spec asks_nothing asks_nothing asks_nothing returns)
+    let read = c.byte_at-b.ensures in
+    kept-last byte (stray_fault _) (λ map kept. leb-false _ map (refuse-kept _ _ kept)) read c.stray_fault.ensures c.first.ensures
