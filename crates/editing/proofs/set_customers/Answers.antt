@@ -1,0 +1,15 @@
+-- `editing::set_customers` meets its contract: the breach is judged, the study made anew, and the one or the other answered.
+use borrow.Author.Rules.{rules}
+use Rattle.study.specs.declared.Load.{Load}
+use Rattle.study.specs.Edits.{with_customers, with_load}
+use Rattle.editing.specs.Edits.{customers_set}
+use Rattle.editing.proofs.Edited.{record-edited}
+use Rattle.editing.proofs.set_customers.Goals as goal
+
+pub returns : goal.returns
+unfolding customers_set
+returns c =
+    let args = c.args in
+    record-edited args.study (λ (anew : Load). with_load args.load anew args.study) (with_customers _)
+    c.answer.ensures c.load_edit_fault-fault.ensures
+    c.load_at-l.ensures c.with_customers.ensures c.with_load-new.ensures

@@ -1,0 +1,34 @@
+-- `entries::row::same_classes` meets its contract. The places below i are compared (`SameLeft`).
+use Prim.Native.Nat.{◌-◌}
+use native.Mathlib.Omega.{arith}
+use lib.ListN.{length}
+use Rattle.lists.proofs.Same.{SameLeft, same_start, same_more, same-done}
+use Rattle.entries.proofs.row.same_classes.Goals as goal
+
+pub loop-i-init : goal.loop-i-init
+loop-i-init c =
+    same_start c.requires
+
+pub bounds-a-i : goal.bounds-a-i
+bounds-a-i c =
+    omega arith
+
+pub bounds-b-i : goal.bounds-b-i
+bounds-b-i c =
+    omega (arith, c.loop-i.invariant.even, c.loop-i-test.true)
+
+pub overflow_add-i : goal.overflow_add-i
+overflow_add-i c =
+    omega arith
+
+pub loop-i-smaller : goal.loop-i-smaller
+loop-i-smaller c =
+    omega arith
+
+pub loop-i-preserved : goal.loop-i-preserved
+loop-i-preserved c =
+    same_more c.loop-i.invariant c.loop-i-test.true
+
+pub returns : goal.returns
+returns c =
+    same-done c.loop-i.invariant c.loop-i-test.false

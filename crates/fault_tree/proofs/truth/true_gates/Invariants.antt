@@ -1,0 +1,18 @@
+-- `fault_tree::truth::true_gates` meets its contract. The gate inputs below j are counted (`Counted`) as the row has them; the inputs left fall.
+use Prim.Native.Nat.{ℕ, ◌+◌, ◌-◌}
+use mathlib.Core.Path.{refl}
+use mathlib.Core.Bool.{false}
+use native.Mathlib.Omega.{arith}
+use lib.ListN.{get_or}
+use Rattle.lists.proofs.Sums.{Counted, counted_start, counted-more, counted-most, counted-done}
+use Rattle.fault_tree.specs.Readable.{InputsReadable}
+use Rattle.fault_tree.specs.Rows.{gates_at, inputs_from, row_gates}
+use Rattle.fault_tree.proofs.truth.true_gates.Given as goal
+
+abbrev pub invariant-loop-j : goal.invariant-loop-j
+invariant-loop-j l =
+    Counted (λ (j' : ℕ). get_or l.truths (get_or l.rows (l.inputs + j') 0) false) l.gates l.j l.n
+
+abbrev pub decreases-loop-j : goal.decreases-loop-j
+decreases-loop-j l =
+    l.gates - l.j

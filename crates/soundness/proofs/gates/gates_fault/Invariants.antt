@@ -1,0 +1,18 @@
+-- `soundness::gates::gates_fault` meets its contract. Each turn judges one place, after the first breach so far (`FirstLeft`); the places left fall.
+use Prim.Native.Nat.{ℕ, ◌-◌}
+use native.Mathlib.Omega.{arith}
+use lib.ListN.{get_or}
+use borrow.Author.Rules.{rules}
+use Rattle.soundness.specs.Check.{gates_fault, gate_place_fault}
+use Rattle.rules.specs.Limits.{most_gates}
+use Rattle.rules.proofs.Firsts.{FirstLeft, first-start, first_more, first_done}
+use Rattle.study.specs.Places.{no_gate}
+use Rattle.soundness.proofs.gates.gates_fault.Given as goal
+
+abbrev pub invariant-loop-i : goal.invariant-loop-i
+invariant-loop-i l =
+    FirstLeft (λ (i' : ℕ). gate_place_fault l.counts l.n i' (get_or l.gate i' no_gate)) most_gates l.i l.fault
+
+abbrev pub decreases-loop-i : goal.decreases-loop-i
+decreases-loop-i l =
+    most_gates - l.i

@@ -1,0 +1,15 @@
+-- `writing::inputs::write_tests` meets its contract. The tests below j are written (`Tabled`), and the tests left fall.
+use Prim.Native.Nat.{◌-◌}
+use native.Mathlib.Omega.{arith}
+use Rattle.text.proofs.Pieces.{Tabled, tabled_start, tabled-room, tabled-more, tabled-size, tabled-done}
+use Rattle.study_bytes.specs.Written.{test_bytes}
+use borrow.Author.Rules.{rules}
+use Rattle.writing.proofs.inputs.write_tests.Given as goal
+
+abbrev pub invariant-loop-j : goal.invariant-loop-j
+invariant-loop-j l =
+    Tabled (test_bytes l.g) l.n l.initial.out l.at l.j l.out l.place
+
+abbrev pub decreases-loop-j : goal.decreases-loop-j
+decreases-loop-j l =
+    l.n - l.j
