@@ -1,0 +1,7 @@
+-- `event_tree::blank::part` meets its contract: the classes of the states below s stand in front of it.
+use borrow.Author.Rules.{rules}
+use Rattle.event_tree.proofs.blank.part.Goals as goal
+
+pub returns : goal.returns
+returns c =
+    c.classes_from.ensures

@@ -1,0 +1,10 @@
+-- `probability::probabilities::first_components` meets its contract: the part is as long as it should be.
+use mathlib.Core.Path.{sym}
+use native.Mathlib.Omega.{arith}
+use lib.Seq.{length-take-le}
+use borrow.Author.Rules.{rules}
+use Rattle.probability.proofs.probabilities.first_components.Goals as goal
+
+pub slice_bounds-result-end : goal.slice_bounds-result-end
+slice_bounds-result-end c =
+    sym (length-take-le _ _ (omega arith))
