@@ -103,7 +103,7 @@ loop-s-preserved t c =
     let marked : List ℕ = set c.loop-s.marks c.args.front c.mark.result in
     let marked-long : length marked ≡ length c.args.marks.now = length-set c.loop-s.marks c.args.front c.mark.result ∙ c.loop-s.invariant.marked.long in
     let handed : let a = c.args in Way a.block.now c.ways_at-way.result (take a.front a.marks.now) c.loop-s.s (take (a.front + 1) marked) c.part.result.now = listed-way c.loop-s.invariant c.loop-s-test.true c.mark.ensures c.part.ensures in
-    let long = c.list_block-place.auto.1.1.0 ∙ marked-long in
+    let long = c.list_block-place.auto.marks ∙ marked-long in
     listed_more c.loop-s.invariant handed c.list_block-place.ensures.marks_unchanged long c.list_block-place.ensures.value c.list_block-place.ensures.out_after
 
 pub returns : goal.returns
