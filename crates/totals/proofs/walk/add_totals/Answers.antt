@@ -1,0 +1,9 @@
+-- `totals::walk::add_totals` meets its contract: begun at component 0 with a bound of one, the walk adds what the list's entries would.
+use Rattle.totals.proofs.Added.{adds-alike}
+use Rattle.totals.proofs.Onward.{walk-adds-up}
+use borrow.Author.Rules.{rules}
+use Rattle.totals.proofs.walk.add_totals.Goals as goal
+
+pub returns : goal.returns
+returns c =
+    record { adds = adds-alike (λ p. walk-adds-up _ _ _ _ _ p) c.add_paths.ensures.adds; adds_2 = adds-alike (λ p. walk-adds-up _ _ _ _ _ p) c.add_paths.ensures.adds_2 }
