@@ -1,36 +1,29 @@
 -- `drawn_tree::branch::fill_branch` meets its contract. The components left fall at each call. Settled marks lead to the part that is left to fill (`Ahead`);
 -- at a blank one the parts of the states below s are filled (`Filled`).
-use Prim.Native.Nat.{ℕ, ◌+◌, ◌-◌, ◌*◌, ◌/◌, ◌<◌, ◌≤◌}
+use Prim.Native.Nat.{ℕ, ◌+◌, ◌*◌, ◌/◌, ◌<◌, ◌≤◌}
 use mathlib.Core.Path.{◌≡◌, ap, ◌∙◌}
 use native.Mathlib.Nat.{add-sub_cancel_left}
 use native.Mathlib.Omega.{arith}
-use lib.ListN.{length, get_or, length-set}
+use lib.ListN.{length, get_or}
 use borrow.Author.Rules.{rules}
 use Rattle.drawn_tree.specs.Filling.{branch_filled}
-use Rattle.drawn_tree.proofs.BranchFilled.{Filled, filled-most, filled-inside, filled-part, filled_more, filled-done}
-use Rattle.drawn_tree.proofs.BranchFilled.{Ahead, ahead-start, ahead-place, ahead-one, ahead-some, ahead-most, ahead-nowhere, ahead-inside}
+use Rattle.drawn_tree.proofs.BranchFilled.{filled-most, filled-inside, filled-part, filled_more, filled-done}
+use Rattle.drawn_tree.proofs.BranchFilled.{ahead-start, ahead-place, ahead-one, ahead-some, ahead-most, ahead-nowhere, ahead-inside}
 use Rattle.drawn_tree.proofs.BranchFilled.{ahead-settled, ahead-blank}
 use Rattle.drawn_tree.proofs.branch.+fill_branch.Goals as goal
 use Rattle.drawn_tree.proofs.branch.+fill_branch.Goals.{After-loop-s, Else-states-mark, In-loop-s}
 
--- a step or a need of the call with t components left
-abbrev here
-    : (lts.Claims → In 3 fill-branch-kinds.ps → Out 3 fill-branch-kinds.ps fill-branch-kinds.r → lts.invariant-loop2 → lts.decreases-loop2 → lts.invariant-loop
-    → lts.decreases-loop → Type 0)
-    → Type 0
-here of = of (claims t) (at t) fill-branch.Post invariant-loop2 decreases-loop2 invariant-loop decreases-loop
-
-inside : (c : In-loop-s) → let l = c.loop-next in c.loop-s.from + l.size / get_or c.args.counts.now l.next 0 ≤ length c.loop-s.block
+inside : {t : ℕ} (c : In-loop-s t) → let l = c.loop-next in c.loop-s.from + l.size / get_or c.args.counts.now l.next 0 ≤ length c.loop-s.block
 inside c =
     filled-inside c.loop-s.invariant c.loop-s-test.true
 
 -- behind the inner loop: nothing was written before it
-kept : (c : After-loop-s) → c.loop-next.block ≡ c.args.block.now
+kept : {t : ℕ} (c : After-loop-s t) → c.loop-next.block ≡ c.args.block.now
 kept c =
     c.loop-next.invariant.kept
 
 -- the mark is settled, and a state
-suited-inside : (c : Else-states-mark) → let l = c.loop-next in let args = c.args in let size = l.size / get_or args.counts.now l.next 0 in l.from + get_or args.marks.now l.next 0 * size + size ≤ length l.block
+suited-inside : {t : ℕ} (c : Else-states-mark t) → let l = c.loop-next in let args = c.args in let size = l.size / get_or args.counts.now l.next 0 in l.from + get_or args.marks.now l.next 0 * size + size ≤ length l.block
 suited-inside c =
     ahead-inside c.loop-next.invariant c.loop-next-test.true c.if-mark.false c.if-states-mark.false
 
@@ -84,7 +77,7 @@ fill_branch-requires t c =
 
 pub overflow_add-from-in-loop-s : goal.overflow_add-from-in-loop-s
 overflow_add-from-in-loop-s t c =
-    search ((inside (goal.at.overflow_add-from-in-loop-s c).In-loop-s), rules)
+    search ((inside (goal.at.overflow_add-from-in-loop-s t c).In-loop-s), rules)
 
 pub overflow_add-s : goal.overflow_add-s
 overflow_add-s t c =

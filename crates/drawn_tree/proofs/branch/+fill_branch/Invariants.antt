@@ -1,15 +1,9 @@
 -- `drawn_tree::branch::fill_branch` meets its contract. The components left fall at each call. Settled marks lead to the part that is left to fill (`Ahead`);
 -- at a blank one the parts of the states below s are filled (`Filled`).
-use Prim.Native.Nat.{ℕ, ◌+◌, ◌-◌, ◌*◌, ◌/◌, ◌<◌, ◌≤◌}
-use mathlib.Core.Path.{◌≡◌, ap, ◌∙◌}
-use native.Mathlib.Nat.{add-sub_cancel_left}
-use native.Mathlib.Omega.{arith}
-use lib.ListN.{length, get_or, length-set}
-use borrow.Author.Rules.{rules}
-use Rattle.drawn_tree.specs.Filling.{branch_filled}
-use Rattle.drawn_tree.proofs.BranchFilled.{Filled, filled-most, filled-inside, filled-part, filled_more, filled-done}
-use Rattle.drawn_tree.proofs.BranchFilled.{Ahead, ahead-start, ahead-place, ahead-one, ahead-some, ahead-most, ahead-nowhere, ahead-inside}
-use Rattle.drawn_tree.proofs.BranchFilled.{ahead-settled, ahead-blank}
+use Prim.Native.Nat.{◌-◌}
+use lib.ListN.{length}
+use Rattle.drawn_tree.proofs.BranchFilled.{Filled}
+use Rattle.drawn_tree.proofs.BranchFilled.{Ahead}
 use Rattle.drawn_tree.proofs.branch.+fill_branch.Given as goal
 
 abbrev pub invariant-loop-s : goal.invariant-loop-s

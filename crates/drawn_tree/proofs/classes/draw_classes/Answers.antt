@@ -1,5 +1,4 @@
 -- `drawn_tree::classes::draw_classes` meets its contract: the tree is read with nothing asked, and then the bytes behind it are judged (`drawn-whole`).
-use borrow.Author.Rules.{rules}
 use Rattle.drawn_tree.proofs.Whole.{drawn-whole}
 use Rattle.drawn_tree.proofs.classes.draw_classes.Goals as goal
 

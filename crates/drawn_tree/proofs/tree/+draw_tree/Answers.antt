@@ -1,20 +1,17 @@
 -- `drawn_tree::tree::draw_tree` meets its contract. The components left to ask fall at each call; the subtrees of the states below s are drawn
 -- (`Drawing`).
-use Prim.Native.Nat.{ℕ, ◌-◌, ◌<◌}
+use Prim.Native.Nat.{◌<◌}
 use mathlib.Core.Path.{◌≡◌, refl, sym, ◌∙◌}
 use native.Mathlib.Omega.{arith}
 use lib.ListN.{length}
 use borrow.Author.Rules.{rules}
 use Rattle.rules.specs.Table.{node_fault}
 use Rattle.reading.proofs.After.{as_read_lem, stopped}
-use Rattle.drawn_tree.specs.Filling.{unasked}
 use Rattle.drawn_tree.specs.Reading.{asked as reading_asked}
 use Rattle.drawn_tree.proofs.Asked.{free-kept}
 use Rattle.drawn_tree.proofs.Steps.{drawn-short, drawn-leaf, drawn-refused, drawn-node, AtNode, at_node, fewer-left}
-use Rattle.drawn_tree.proofs.Steps.{Drawing, drawing-start, drawing-more, drawing-done}
+use Rattle.drawn_tree.proofs.Steps.{drawing-start, drawing-more, drawing-done}
 use Rattle.drawn_tree.proofs.tree.+draw_tree.Goals as goal
-
-)
 
 pub returns-then-from-ne0 : goal.returns-then-from-ne0
 returns-then-from-ne0 t c =
@@ -26,7 +23,7 @@ returns-then-b-ne0 t c =
 
 pub draw_leaf-requires : goal.draw_leaf-requires
 draw_leaf-requires t c =
-    let all = c.requires in record { block = all.0; counts_len_bound = all.1.0; loads_le_most_loads = all.1.1 }
+    c.requires
 
 pub returns-then-b : goal.returns-then-b
 returns-then-b t c =
@@ -73,7 +70,7 @@ pub draw_tree-place-requires : goal.draw_tree-place-requires
 draw_tree-place-requires t c =
     let drawing = c.loop-s.invariant in
     let fewer = fewer-left drawing.node drawing.marked (omega (arith, c.loop-s-test.true)) in
-    (omega (arith, fewer, c.decreases), (drawing.whole, c.requires.1))
+    (omega (arith, fewer, c.decreases), (drawing.whole, (c.requires.counts_len_bound, c.requires.loads_le_most_loads)))
 
 pub overflow_add-s : goal.overflow_add-s
 overflow_add-s t c =

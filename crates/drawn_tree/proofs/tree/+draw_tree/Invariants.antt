@@ -1,17 +1,8 @@
 -- `drawn_tree::tree::draw_tree` meets its contract. The components left to ask fall at each call; the subtrees of the states below s are drawn
 -- (`Drawing`).
-use Prim.Native.Nat.{ℕ, ◌-◌, ◌<◌}
-use mathlib.Core.Path.{◌≡◌, refl, sym, ◌∙◌}
-use native.Mathlib.Omega.{arith}
-use lib.ListN.{length}
-use borrow.Author.Rules.{rules}
-use Rattle.rules.specs.Table.{node_fault}
-use Rattle.reading.proofs.After.{as_read_lem, stopped}
+use Prim.Native.Nat.{◌-◌}
 use Rattle.drawn_tree.specs.Filling.{unasked}
-use Rattle.drawn_tree.specs.Reading.{asked as reading_asked}
-use Rattle.drawn_tree.proofs.Asked.{free-kept}
-use Rattle.drawn_tree.proofs.Steps.{drawn-short, drawn-leaf, drawn-refused, drawn-node, AtNode, at_node, fewer-left}
-use Rattle.drawn_tree.proofs.Steps.{Drawing, drawing-start, drawing-more, drawing-done}
+use Rattle.drawn_tree.proofs.Steps.{Drawing}
 use Rattle.drawn_tree.proofs.tree.+draw_tree.Given as goal
 
 abbrev pub invariant-loop-s : goal.invariant-loop-s

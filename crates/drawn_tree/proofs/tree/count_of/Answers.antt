@@ -1,7 +1,6 @@
 -- `drawn_tree::tree::count_of` meets its contract: past the last component nothing is counted.
 use mathlib.Core.Path.{sym}
 use lib.ListN.{get_or-eq_default}
-use borrow.Author.Rules.{rules}
 use Rattle.drawn_tree.proofs.tree.count_of.Goals as goal
 
 pub returns : goal.returns

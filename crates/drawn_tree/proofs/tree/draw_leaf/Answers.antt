@@ -1,7 +1,6 @@
 -- `drawn_tree::tree::draw_leaf` meets its contract: the class is read, then its rule is judged, and what is read is the branch filled (`read`).
 use Prim.Native.Nat.{ℕ}
 use mathlib.Core.List.{List}
-use borrow.Author.Rules.{rules}
 use Rattle.reading.specs.Reader.{ReadsAt}
 use Rattle.reading.proofs.After.{refused-any, kept-as, after, judged-last}
 use Rattle.drawn_tree.specs.Filling.{branch_filled, leaf_drawn}
