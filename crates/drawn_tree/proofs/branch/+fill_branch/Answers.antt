@@ -7,7 +7,7 @@ use native.Mathlib.Omega.{arith}
 use lib.ListN.{length, get_or}
 use borrow.Author.Rules.{rules}
 use Rattle.drawn_tree.specs.Filling.{branch_filled}
-use Rattle.drawn_tree.proofs.BranchFilled.{filled-most, filled-inside, filled-part, filled_more, filled-done}
+use Rattle.drawn_tree.proofs.BranchFilled.{filled-inside, filled-part, filled_more, filled-done}
 use Rattle.drawn_tree.proofs.BranchFilled.{ahead-start, ahead-place, ahead-one, ahead-some, ahead-most, ahead-nowhere, ahead-inside}
 use Rattle.drawn_tree.proofs.BranchFilled.{ahead-settled, ahead-blank}
 use Rattle.drawn_tree.proofs.branch.+fill_branch.Goals as goal
@@ -78,10 +78,6 @@ fill_branch-requires t c =
 pub overflow_add-from-in-loop-s : goal.overflow_add-from-in-loop-s
 overflow_add-from-in-loop-s t c =
     search ((inside (goal.at.overflow_add-from-in-loop-s t c).In-loop-s), rules)
-
-pub overflow_add-s : goal.overflow_add-s
-overflow_add-s t c =
-    omega (arith, filled-most c.loop-s.invariant c.loop-s-test.true)
 
 pub loop-s-smaller : goal.loop-s-smaller
 loop-s-smaller t c =

@@ -55,10 +55,6 @@ loop-s-init t c =
     let node-is : let a = c.args in AtNode a.counts.now a.marks c.byte_or-b.result.value c.count_of-states.result = at_node c.requires.block (free-kept _ _ _ (sym fault-is ∙ c.if-fault-ne0.false)) c.count_of-states.ensures in
     drawing-start node-is c.requires.block refl
 
-pub overflow_add-next : goal.overflow_add-next
-overflow_add-next t c =
-    omega (arith, c.loop-s-test.true, c.loop-s.invariant.node.few)
-
 pub bounds-next-c : goal.bounds-next-c
 bounds-next-c t c =
     let fault-is : let a = c.args in c.node_fault-fault.result ≡ node_fault (length a.counts.now) c.byte_or-b.result.value (reading_asked a.marks c.byte_or-b.result.value) = rw (← c.asked.ensures) c.node_fault-fault.ensures in
@@ -71,10 +67,6 @@ draw_tree-place-requires t c =
     let drawing = c.loop-s.invariant in
     let fewer = fewer-left drawing.node drawing.marked (omega (arith, c.loop-s-test.true)) in
     (omega (arith, fewer, c.decreases), (drawing.whole, (c.requires.counts_len_bound, c.requires.loads_le_most_loads)))
-
-pub overflow_add-s : goal.overflow_add-s
-overflow_add-s t c =
-    omega (arith, c.loop-s-test.true, c.loop-s.invariant.node.few)
 
 pub loop-s-smaller : goal.loop-s-smaller
 loop-s-smaller t c =
