@@ -105,7 +105,12 @@ module _ (counts : List ℕ) (loads : ℕ) where
   ends-drawn n =
       ends-then (ends-tree (suc most_components) nothing_asked n)
       (λ tree left bounded.
-      record { ends = λ rest e. (ends-judge {P = λ tree left. Bounded loads tree} (behind_fault (length rest)) (behind-broken (length rest)) (λ kept. ends_return bounded)).ends rest e })
+      record {
+        ends =
+            λ rest e.
+            (ends-judge {P = λ tree left. Bounded loads tree} (behind_fault (length rest)) (behind-broken (length rest)) (λ kept. ends_return bounded)).ends
+            rest e;
+      })
 
 -- ---- the laws
 

@@ -13,7 +13,10 @@ use Rattle.drawn_tree.proofs.BranchFilled.{ahead-settled, ahead-blank}
 use Rattle.drawn_tree.proofs.branch.+fill_branch.Goals as goal
 use Rattle.drawn_tree.proofs.branch.+fill_branch.Goals.{After-loop-s, Else-states-mark, In-loop-s}
 
-inside : {t : ℕ} (c : In-loop-s t) → let l = c.loop-next in c.loop-s.from + l.size / get_or c.args.counts.now l.next 0 ≤ length c.loop-s.block
+-- a turn of the inner loop
+inside : {t : ℕ} (c : In-loop-s t)
+    → let l = c.loop-next in
+    c.loop-s.from + l.size / get_or c.args.counts.now l.next 0 ≤ length c.loop-s.block
 inside c =
     filled-inside c.loop-s.invariant c.loop-s-test.true
 
@@ -23,7 +26,11 @@ kept c =
     c.loop-next.invariant.kept
 
 -- the mark is settled, and a state
-suited-inside : {t : ℕ} (c : Else-states-mark t) → let l = c.loop-next in let args = c.args in let size = l.size / get_or args.counts.now l.next 0 in l.from + get_or args.marks.now l.next 0 * size + size ≤ length l.block
+suited-inside : {t : ℕ} (c : Else-states-mark t)
+    → let l = c.loop-next in
+    let args = c.args in
+    let size = l.size / get_or args.counts.now l.next 0 in
+    l.from + get_or args.marks.now l.next 0 * size + size ≤ length l.block
 suited-inside c =
     ahead-inside c.loop-next.invariant c.loop-next-test.true c.if-mark.false c.if-states-mark.false
 
@@ -59,15 +66,15 @@ loop-s-init t c =
 
 pub overflow_add-from : goal.overflow_add-from
 overflow_add-from t c =
-    search ((inside c), rules)
+    search (inside c, rules)
 
 pub slice_bounds-fill_branch-start : goal.slice_bounds-fill_branch-start
 slice_bounds-fill_branch-start t c =
-    search ((inside c), rules)
+    search (inside c, rules)
 
 pub slice_bounds-fill_branch-end : goal.slice_bounds-fill_branch-end
 slice_bounds-fill_branch-end t c =
-    (inside c)
+    inside c
 
 pub fill_branch-requires : goal.fill_branch-requires
 fill_branch-requires t c =
@@ -77,7 +84,7 @@ fill_branch-requires t c =
 
 pub overflow_add-from-in-loop-s : goal.overflow_add-from-in-loop-s
 overflow_add-from-in-loop-s t c =
-    search ((inside (goal.at.overflow_add-from-in-loop-s t c).In-loop-s), rules)
+    search (inside (goal.at.overflow_add-from-in-loop-s t c).In-loop-s, rules)
 
 pub loop-s-smaller : goal.loop-s-smaller
 loop-s-smaller t c =
@@ -103,11 +110,11 @@ overflow_cast-from t c =
 
 pub overflow_mul-from : goal.overflow_mul-from
 overflow_mul-from t c =
-    search ((suited-inside c), rules)
+    search (suited-inside c, rules)
 
 pub overflow_add-from-in-loop-next : goal.overflow_add-from-in-loop-next
 overflow_add-from-in-loop-next t c =
-    search ((suited-inside c), rules)
+    search (suited-inside c, rules)
 
 pub loop-next-smaller : goal.loop-next-smaller
 loop-next-smaller t c =
