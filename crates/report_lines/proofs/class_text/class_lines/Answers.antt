@@ -1,0 +1,25 @@
+-- `report_lines::class_text::class_lines` meets its contract. The lines of the classes below i of the list are written (`Tabled`).
+use Prim.Native.Nat.{◌-◌}
+use lib.ListN.{length}
+use Rattle.text.proofs.Pieces.{Tabled, tabled_start, tabled-room, tabled-more, tabled-size, tabled-done}
+use Rattle.report_lines.proofs.Listed.{class_line_at, class-lines-at}
+use borrow.Author.Rules.{rules}
+use Rattle.report_lines.proofs.class_text.class_lines.Goals as goal
+
+pub loop-i-init : goal.loop-i-init
+loop-i-init c =
+    let args = c.args in
+    tabled_start _ _ (rw (class-lines-at args.classes.now args.lower.now args.upper.now) at c.requires.room)
+
+pub class_line-place-requires : goal.class_line-place-requires
+class_line-place-requires c =
+    record { class_places_in_bounds = c.requires.class_places_in_bounds; class_places_in_bounds_2 = c.requires.class_places_in_bounds_2; room = tabled-room c.loop-i.invariant c.loop-i-test.true }
+
+pub loop-i-preserved : goal.loop-i-preserved
+loop-i-preserved c =
+    tabled-more c.loop-i.invariant c.loop-i-test.true c.class_line-place.ensures
+
+pub returns : goal.returns
+returns c =
+    let args = c.args in
+    rw (class-lines-at args.classes.now args.lower.now args.upper.now) (tabled-done c.loop-i.invariant c.loop-i-test.false)

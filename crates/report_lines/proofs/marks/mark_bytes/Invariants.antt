@@ -1,0 +1,17 @@
+-- `report_lines::marks::mark_bytes` meets its contract. The marks below i are written (`Writing`).
+use Prim.Native.Nat.{◌-◌, ◌<◌, ◌≤◌}
+use native.Mathlib.Omega.{arith}
+use lib.ListN.{length}
+use Rattle.lists.proofs.Writing.{Writing, writing_start, writing_more, writing-room, writing-done, writing-end}
+use Rattle.report_lines.specs.Paths.{mark_bytes}
+use Rattle.report_lines.proofs.Marked.{marks-long, mark-is}
+use borrow.Author.Rules.{rules}
+use Rattle.report_lines.proofs.marks.mark_bytes.Given as goal
+
+abbrev pub invariant-loop-i : goal.invariant-loop-i
+invariant-loop-i l =
+    Writing (mark_bytes l.n l.entry) l.initial.out l.at l.i l.out l.place
+
+abbrev pub decreases-loop-i : goal.decreases-loop-i
+decreases-loop-i l =
+    l.n - l.i
