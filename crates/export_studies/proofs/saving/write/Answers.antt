@@ -1,0 +1,11 @@
+-- `export_studies::saving::write` meets its contract: the call's own, for the study that the image holds.
+use Rattle.export_answers.proofs.Signed.{handed-on}
+use Rattle.export_studies.specs.Saving.{Saves}
+use borrow.Author.Rules.{rules}
+use Rattle.export_studies.proofs.saving.write.Goals as goal
+
+pub returns : goal.returns
+returns c =
+    let wrote = rw c.read_image.ensures at c.write.ensures in
+    handed-on (Saves _ _ _) c.answer_count.type_inv
+    (record { answered = rw wrote.0 at c.answer_count.ensures; written = wrote.1 })
