@@ -6,6 +6,8 @@ use Rattle.export_studies.proofs.saving.write.Goals as goal
 
 pub returns : goal.returns
 returns c =
-    let wrote = rw c.read_image.ensures at c.write.ensures in
     handed-on (Saves _ _ _) c.answer_count.type_inv
-    (record { answered = rw wrote.0 at c.answer_count.ensures; written = wrote.1 })
+    (record {
+      answered = rw (rw c.read_image.ensures at c.write.ensures.answer) at c.answer_count.ensures;
+      written = rw c.read_image.ensures at c.write.ensures.buffer;
+    })

@@ -24,7 +24,7 @@ hold-requires c =
 
 pub bound_classes-requires : goal.bound_classes-requires
 bound_classes-requires c =
-    in-hand _ (hold-requires (goal.at.bound_classes-requires c).Else-fault-ne0 tt) c.hold.ensures (search rules)
+    in-hand _ (hold-requires (goal.at.bound_classes-requires c).Else-fault-ne0) c.hold.ensures (search rules)
 
 pub returns : goal.returns
 unfolding pair_breach classes_bounded

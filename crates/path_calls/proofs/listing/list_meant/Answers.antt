@@ -22,7 +22,7 @@ hold-requires c =
 
 pub list_lent-requires : goal.list_lent-requires
 list_lent-requires c =
-    in-hand _ (hold-requires (goal.at.list_lent-requires c).Else-fault-ne0 tt) c.hold.ensures (search rules)
+    in-hand _ (hold-requires (goal.at.list_lent-requires c).Else-fault-ne0) c.hold.ensures (search rules)
 
 pub returns : goal.returns
 unfolding list_fault paths_listed buffer_listed

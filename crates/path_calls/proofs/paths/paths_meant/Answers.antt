@@ -24,7 +24,7 @@ hold-requires c =
 
 pub bound_paths-requires : goal.bound_paths-requires
 bound_paths-requires c =
-    in-hand _ (hold-requires (goal.at.bound_paths-requires c).Else-fault-ne0 tt) c.hold.ensures (search rules)
+    in-hand _ (hold-requires (goal.at.bound_paths-requires c).Else-fault-ne0) c.hold.ensures (search rules)
 
 pub returns : goal.returns
 unfolding pair_breach paths_bounded
