@@ -66,6 +66,7 @@ not-both n drawn other = omega (arith, least n drawn, most n other)
     least n (inl e) = omega (arith, e)
     least n (inr (inl e)) = omega (arith, e)
     least n (inr (inr (inl e))) = omega (arith, e)
+    least n (inr (inr (inr other))) = elim other [ ]
 
     most : (n : ℕ) → NoneOr others n → n ≤ 19
     most n (inl e) = omega (arith, e)
@@ -73,6 +74,7 @@ not-both n drawn other = omega (arith, least n drawn, most n other)
     most n (inr (inr (inl e))) = omega (arith, e)
     most n (inr (inr (inr (inl e)))) = omega (arith, e)
     most n (inr (inr (inr (inr (inl e))))) = omega (arith, e)
+    most n (inr (inr (inr (inr (inr other))))) = elim other [ ]
 
 -- without a breach of its meaning a call is refused by one of them, or by none
 module _ (m : Meaning) (t : Study) (kept : meaning_fault m t ≡ 0) where

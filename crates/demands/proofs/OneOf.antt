@@ -48,11 +48,13 @@ among [] n = false
 among (k ∷ ks) n = eqb n k || among ks n
 
 pub one-among : (numbers : List ℕ) (n : ℕ) → OneOf numbers n → among numbers n ≡ true
+one-among [] n here = elim here [ ]
 one-among (k ∷ ks) n (inl here) = rw (eq-eqb n k here)
 one-among (k ∷ ks) n (inr there) = rw (one-among ks n there) (or-true (eqb n k))
 
 -- one of the numbers of a part is one of all
 pub one_left : (front behind : List ℕ) (n : ℕ) → OneOf front n → OneOf (front ++ behind) n
+one_left [] behind n here = elim here [ ]
 one_left (k ∷ ks) behind n (inl here) = inl here
 one_left (k ∷ ks) behind n (inr there) = inr (one_left ks behind n there)
 

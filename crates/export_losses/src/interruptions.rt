@@ -1,6 +1,6 @@
 // The interruption figures of an opened study for C, by its gates or by a drawn tree, each in two numbers.
 ghost use Rattle.std.specs.Prelude.{◌+◌, ◌≡◌};
-ghost use Rattle.answers.specs.Told.{result, caidi_values};
+ghost use Rattle.answers.specs.Told.{result as result_told, caidi_values};
 ghost use Rattle.meaning.specs.Sources.{meaning_of};
 ghost use Rattle.export_answers.specs.Answers.{pairs, two, left_by};
 ghost use Rattle.export_losses.specs.Figures.{TakesFigures, GivesFigures};
@@ -12,9 +12,9 @@ use study_image::read_image;
 
 // Hands CAIDI over where it is stated; answers how many figures are stated, the three others among them.
 fn hand_caidi(caidi: Caidi, lower: &mut u64, upper: &mut u64) -> u32
-    ensures* r_value { λ r. ⌜ r ≡ 3 + pairs (caidi_values caidi) ⌝ }
-    ensures* upper_after { λ r. ⌜ two lower.new upper.new
-        ≡ left_by (result (caidi_values caidi)) (two lower.old upper.old) ⌝ }
+    ensures stated { result ≡ 3 + pairs (caidi_values caidi) }
+    ensures left { two lower.new upper.new
+        ≡ left_by (result_told (caidi_values caidi)) (two lower.old upper.old) }
 {
     match caidi {
         Caidi::Bounds(pair) => {
@@ -37,7 +37,7 @@ fn hand_figures(
     maifi_lower: &mut u64,
     maifi_upper: &mut u64,
 ) -> i64
-    ensures* { λ r. ⌜ TakesFigures answer
+    ensures { TakesFigures answer
         (two saifi_lower.old saifi_upper.old)
         (two saidi_lower.old saidi_upper.old)
         (two caidi_lower.old caidi_upper.old)
@@ -45,7 +45,7 @@ fn hand_figures(
         (two saifi_lower.new saifi_upper.new)
         (two saidi_lower.new saidi_upper.new)
         (two caidi_lower.new caidi_upper.new)
-        (two maifi_lower.new maifi_upper.new) r ⌝ }
+        (two maifi_lower.new maifi_upper.new) result }
 {
     match answer {
         FiguresAnswer::Figures(figures) => {
@@ -74,7 +74,7 @@ pub fn figures(
     maifi_lower: &mut u64,
     maifi_upper: &mut u64,
 ) -> i64
-    ensures* { λ r. ⌜ GivesFigures (meaning_of source tree.now) study.now
+    ensures { GivesFigures (meaning_of source tree.now) study.now
         (two saifi_lower.old saifi_upper.old)
         (two saidi_lower.old saidi_upper.old)
         (two caidi_lower.old caidi_upper.old)
@@ -82,7 +82,7 @@ pub fn figures(
         (two saifi_lower.new saifi_upper.new)
         (two saidi_lower.new saidi_upper.new)
         (two caidi_lower.new caidi_upper.new)
-        (two maifi_lower.new maifi_upper.new) r ⌝ }
+        (two maifi_lower.new maifi_upper.new) result }
 {
     hand_figures(
         loss_calls::figures_meant(source, read_image(study), tree),

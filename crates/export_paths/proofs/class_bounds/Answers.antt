@@ -1,0 +1,13 @@
+-- `export_paths::class_bounds` meets its contract: the call's own, for the study that the image holds.
+use mathlib.Core.Path.{◌∙◌}
+use Rattle.export_answers.proofs.Signed.{handed}
+use borrow.Author.Rules.{rules}
+use Rattle.export_paths.proofs.class_bounds.Goals as goal
+
+pub returns : goal.returns
+returns c =
+    record {
+      answered = handed _ c.answer_outcome.type_inv ∙ rw (rw c.read_image.ensures at c.classes_meant.ensures.answer) at c.answer_outcome.ensures;
+      lower_left = (rw c.read_image.ensures at c.classes_meant.ensures.lower);
+      upper_left = (rw c.read_image.ensures at c.classes_meant.ensures.upper);
+    }
