@@ -23,8 +23,8 @@ ASIDE = [
 ]
 # Members that would fall together with a definition by the rule.
 MEMBERS = {"no-gates": "without_gates", "no-gate": "no_gate_behind", "first-breach": "is_first_breach", "as-given": "is_as_given"}
-# What stands in a page or a comment in this form and is no name of a definition.
-NOT_OURS = {"getD"}
+# A word of the older library in the names of lemmas about it, as today's library calls it.
+OLDER = re.compile(r"\bgetD[-_](?=\w)")
 
 
 def files():
@@ -51,6 +51,7 @@ def snake(word):
 
 
 def turned(word):
+    word = OLDER.sub("get_or-", word)
     if "·" in word:
         return "_".join(snake(p[0].lower() + p[1:]) for p in word.split("·"))
     return "-".join(snake(p) if p else p for p in word.split("-"))
@@ -84,7 +85,7 @@ def main():
         if is_proof_text(path):
             words |= set(re.findall(WORD, bare(text)))
             members |= dashed_members(bare(text)) if path.endswith(".antt") else set()
-    lower = {w for w in words if re.search(r"(?:^|-)[a-z]\w*[a-z0-9][A-Z]", w) and not re.search(r"[/=<>]", w)} - NOT_OURS
+    lower = {w for w in words if re.search(r"(?:^|-)[a-z]\w*[a-z0-9][A-Z]", w) and not re.search(r"[/=<>]", w)}
     dotted = {w for w in words if re.fullmatch(r"[A-Z]\w*·[a-z]\w*", w)}
     new = {w: turned(w) for w in lower | dotted}
     new |= {w: MEMBERS.get(w, turned(w).replace("-", "_")) for w in members}

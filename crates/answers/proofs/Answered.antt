@@ -8,7 +8,7 @@ use lib.Dec.{eqb}
 use lib.ListN.{length, get_or, take}
 use borrow.Author.Tests.{eq-eqb, ne_eqb, eqb-true}
 use Rattle.lists.specs.Rows.{put}
-use Rattle.lists.proofs.Fronts.{put-behind, put-taken, get_d-put}
+use Rattle.lists.proofs.Fronts.{put-behind, put-taken, get_or-put}
 use Rattle.answers.specs.Answered.{answered, filled}
 use Rattle.answers.specs.Told.{Told, result, refusal, number_told, tells}
 
@@ -78,7 +78,7 @@ module _ (breach : ℕ) (values slice : List ℕ) where
   filled-taken none = ap (take (length values)) (filled-done none) ∙ put-taken slice values refl
 
   pub filled-front : breach ≡ 0 → (k : ℕ) → k < length values → get_or (filled breach values slice) k 0 ≡ get_or values k 0
-  filled-front none k h = ap (λ (s : List ℕ). get_or s k 0) (filled-done none) ∙ get_d-put slice values k 0 h
+  filled-front none k h = ap (λ (s : List ℕ). get_or s k 0) (filled-done none) ∙ get_or-put slice values k 0 h
 
   pub filled-behind : (k : ℕ) → length values ≤ k → get_or (filled breach values slice) k 0 ≡ get_or slice k 0
   unfolding filled answered

@@ -7,8 +7,8 @@ use native.Mathlib.Omega.{arith}
 use lib.Dec.{eqb}
 use lib.ListN.{length, get_or, length-map}
 use Rattle.lists.specs.Bits.{bit}
-use Rattle.lists.proofs.Maps.{get_d-map-inside}
-use Rattle.lists.proofs.Tabulated.{get_d_tabulate, length-tabulate}
+use Rattle.lists.proofs.Maps.{get_or-map-inside}
+use Rattle.lists.proofs.Tabulated.{get_or-tabulate, length-tabulate}
 use Rattle.units.specs.Rounding.{down, up}
 use Rattle.study.specs.declared.Study.{Study}
 use Rattle.answers.specs.Told.{result, pair_values}
@@ -37,16 +37,16 @@ pub paths-within : PathsWithin
 unfolding path_bounds
 paths-within m good i h =
     rw (
-      get_d-map-inside (path_bound down (probability_table m) (components m)) (paths_of m) i [] 0 h,
-      get_d-map-inside (path_bound up (probability_table m) (components m)) (paths_of m) i [] 0 h,
+      get_or-map-inside (path_bound down (probability_table m) (components m)) (paths_of m) i [] 0 h,
+      get_or-map-inside (path_bound up (probability_table m) (components m)) (paths_of m) i [] 0 h,
     )
     (path-within m good i h)
 
 pub classes-within : ClassesWithin
 classes-within m good c h =
     rw (
-      get_d_tabulate (λ (c : ℕ). lower_of m (λ (class : ℕ). eqb class c)) class_places c 0 h,
-      get_d_tabulate (λ (c : ℕ). upper_of m (λ (class : ℕ). eqb class c)) class_places c 0 h,
+      get_or-tabulate (λ (c : ℕ). lower_of m (λ (class : ℕ). eqb class c)) class_places c 0 h,
+      get_or-tabulate (λ (c : ℕ). upper_of m (λ (class : ℕ). eqb class c)) class_places c 0 h,
     )
     (total-within m good (λ (class : ℕ). eqb class c))
 

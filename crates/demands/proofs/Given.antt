@@ -5,7 +5,7 @@ use mathlib.Core.List.{List, [], ◌∷◌}
 use lib.ListN.{length}
 use Rattle.lists.specs.Rows.{joined}
 use Rattle.lists.specs.Tabulate.{tabulate}
-use Rattle.lists.proofs.Tabulated.{get_d_tabulate, length-tabulate}
+use Rattle.lists.proofs.Tabulated.{get_or-tabulate, length-tabulate}
 use Rattle.rules.specs.Breach.{first_breach}
 use Rattle.rules.specs.Table.{unsound_fault}
 use Rattle.rules.proofs.Kept.{list-none, none-none, front_kept, list-last}
@@ -105,7 +105,7 @@ module _ (m : Meaning) (t : Study) (s : Sound t) (kept : meaning_fault m t ≡ 0
         list = the-list;
         paths = the-paths;
         classes = the-classes;
-        loads = λ j below. a-load j below ∙ ap Bounded (sym (get_d_tabulate (loss_of (model_of m t)) (length (model_of m t).loads) j _ (rw number below)));
+        loads = λ j below. a-load j below ∙ ap Bounded (sym (get_or-tabulate (loss_of (model_of m t)) (length (model_of m t).loads) j _ (rw number below)));
         each_load = length-tabulate (loss_of (model_of m t)) (length (model_of m t).loads) ∙ number;
         figures = the-figures;
       })

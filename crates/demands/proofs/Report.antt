@@ -9,8 +9,8 @@ use lib.ListN.{length, get_or, length-map}
 use lib.Seq.{length-take-le}
 use Rattle.lists.specs.Rows.{joined}
 use Rattle.lists.specs.Tabulate.{tabulate}
-use Rattle.lists.proofs.Maps.{get_d-map-inside}
-use Rattle.lists.proofs.Tabulated.{get_d_tabulate, length-tabulate, tabulated, tabulate-alike}
+use Rattle.lists.proofs.Maps.{get_or-map-inside}
+use Rattle.lists.proofs.Tabulated.{get_or-tabulate, length-tabulate, tabulated, tabulate-alike}
 use Rattle.text.specs.Letters.{letters}
 use Rattle.text.specs.Lines.{number_line, item_line}
 use Rattle.units.specs.Rounding.{down, up}
@@ -72,10 +72,10 @@ module _ (t : Study) (is_sound : Sound t) (shaped : Shaped t) (p : ℕ) (lent : 
       let entry = ap (λ (l : List (List ℕ)). get_or l k []) same-paths in
       let low =
       filled-front _ (path_lowers m) lent.lower none k (omega (arith, lowers-long m, inside))
-      ∙ get_d-map-inside (path_bound down (probability_table m) (components m)) (paths_of m) k [] 0 inside in
+      ∙ get_or-map-inside (path_bound down (probability_table m) (components m)) (paths_of m) k [] 0 inside in
       let high =
       filled-front _ (path_uppers m) lent.upper none k (omega (arith, uppers-long m, inside))
-      ∙ get_d-map-inside (path_bound up (probability_table m) (components m)) (paths_of m) k [] 0 inside in
+      ∙ get_or-map-inside (path_bound up (probability_table m) (components m)) (paths_of m) k [] 0 inside in
       λ i. entry_line (components m) (entry i) (class_borne (components m) (entry i)) (sym low i) (sym high i)
 
   paths-said : path_lines (probability_table m) (components m) (paths_of m) ≡ joined (tabulate (path_said t p lent) p)
@@ -84,7 +84,7 @@ module _ (t : Study) (is_sound : Sound t) (shaped : Shaped t) (p : ℕ) (lent : 
       let line = path_line (probability_table m) (components m) in
       ap joined
       (tabulated (path_said t p lent) p (map line (paths_of m)) [] (length-map (paths_of m) line ∙ sym number)
-      (λ k h. get_d-map-inside line (paths_of m) k [] [] (omega (arith, number)) ∙ path-line k h))
+      (λ k h. get_or-map-inside line (paths_of m) k [] [] (omega (arith, number)) ∙ path-line k h))
 
   classes-said : classes_text m ≡ classes_said t p lent
   unfolding classes_text model_of
@@ -99,8 +99,8 @@ module _ (t : Study) (is_sound : Sound t) (shaped : Shaped t) (p : ℕ) (lent : 
   unfolding load_line load_said
   load_line_lem j h =
       let inside : j < most_loads = omega (arith, h, loads-most t is_sound) in
-      let low = get_d_tabulate (lower_loss (probability_table m) (components m) (paths_of m)) most_loads j 0 inside in
-      let high = get_d_tabulate (upper_loss (probability_table m) (components m) (paths_of m)) most_loads j 0 inside in
+      let low = get_or-tabulate (lower_loss (probability_table m) (components m) (paths_of m)) most_loads j 0 inside in
+      let high = get_or-tabulate (upper_loss (probability_table m) (components m) (paths_of m)) most_loads j 0 inside in
       (λ i. item_line (letters "L") j (low i) (high i))
       ∙ ap (λ (answer : BoundsAnswer). load_said j (bounds_told answer)) (sym (a-load by_gates t is_sound refl j h))
 

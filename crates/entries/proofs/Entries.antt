@@ -11,7 +11,7 @@ use Rattle.lists.specs.Rows.{put, joined}
 use Rattle.lists.proofs.Elements.{Every}
 use Rattle.lists.proofs.Joined.{joined-long}
 use Rattle.lists.proofs.Rows.{row-at}
-use Rattle.lists.proofs.Tabulated.{length-tabulate, get_d_tabulate, tabulated}
+use Rattle.lists.proofs.Tabulated.{length-tabulate, get_or-tabulate, tabulated}
 use Rattle.entries.specs.Entries.{class_code, class_read, entry_bytes, entry, class_borne, entry_at, entries_of}
 use Rattle.entries.specs.Lists.{EntryIn, PathList}
 use Rattle.entries.proofs.ClassBytes.{code-long, code_read}
@@ -54,7 +54,7 @@ entries-long n paths list = length-tabulate (entry_at n list) paths
 
 pub entry-is : (n paths : ℕ) (list : List ℕ) (k : ℕ) → k < paths → get_or (entries_of n paths list) k [] ≡ entry_at n list k
 unfolding entries_of
-entry-is n paths list k h = get_d_tabulate (entry_at n list) paths k [] h
+entry-is n paths list k h = get_or-tabulate (entry_at n list) paths k [] h
 
 -- ---- entries put at the front of a buffer
 

@@ -7,7 +7,7 @@ use native.Mathlib.Nat.{one-le-pow, min-le_left, le_trans, le_of_mul-le-mul_righ
 use native.Mathlib.Omega.{arith}
 use lib.ListN.{get_or}
 use Rattle.lists.specs.Bits.{bit}
-use Rattle.lists.proofs.Tabulated.{get_d_tabulate}
+use Rattle.lists.proofs.Tabulated.{get_or-tabulate}
 use Rattle.units.specs.One.{one}
 use Rattle.units.specs.Rounding.{up}
 use Rattle.rules.specs.Limits.{most_loads}
@@ -21,10 +21,10 @@ use Rattle.evaluation.specs.Losses.{LossesOf}
 
 -- the pair of a load among those of all
 pub lower-at : (m : Model) (j : ℕ) → j < most_loads → get_or (load_lowers m) j 0 ≡ lower_of m (λ (class : ℕ). bit class j)
-lower-at m j h = get_d_tabulate (λ (j : ℕ). lower_of m (λ (class : ℕ). bit class j)) most_loads j 0 h
+lower-at m j h = get_or-tabulate (λ (j : ℕ). lower_of m (λ (class : ℕ). bit class j)) most_loads j 0 h
 
 pub upper-at : (m : Model) (j : ℕ) → j < most_loads → get_or (load_uppers m) j 0 ≡ upper_of m (λ (class : ℕ). bit class j)
-upper-at m j h = get_d_tabulate (λ (j : ℕ). upper_of m (λ (class : ℕ). bit class j)) most_loads j 0 h
+upper-at m j h = get_or-tabulate (λ (j : ℕ). upper_of m (λ (class : ℕ). bit class j)) most_loads j 0 h
 
 module _ (m : Model) (good : Good m) where
   lower-below : (j : ℕ) → lower_of m (λ (class : ℕ). bit class j) ≤ upper_of m (λ (class : ℕ). bit class j)

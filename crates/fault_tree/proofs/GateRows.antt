@@ -12,7 +12,7 @@ use lib.Seq.{get_or-append-add}
 use borrow.Author.Tests.{eqb-true, eqb-false}
 use Rattle.lists.specs.Bits.{bit}
 use Rattle.lists.specs.Counting.{truth, count_true, sum_over}
-use Rattle.lists.proofs.Puts.{put-size, get_d-put-before, get_d-put-at}
+use Rattle.lists.proofs.Puts.{put-size, get_or-put-before, get_or-put-at}
 use Rattle.lists.proofs.Sums.{count-alike}
 use Rattle.ordering.specs.Inputs.{Input}
 use Rattle.rules.specs.Limits.{most_gates}
@@ -53,11 +53,11 @@ module _ {g : Gate} {rows rows' : List ℕ} {at : ℕ} (wrote : RowPut g rows at
   row-size = put-size rows rows' at (gate_row g) fits wrote.holds
 
   row_before : (k : ℕ) → k < at → get_or rows' k 0 ≡ get_or rows k 0
-  row_before k h = rw wrote.holds (get_d-put-before rows at (gate_row g) k fits h)
+  row_before k h = rw wrote.holds (get_or-put-before rows at (gate_row g) k fits h)
 
   -- place k of the row
   row-at : (k : ℕ) → k < row_places → get_or rows' (at + k) 0 ≡ get_or (gate_row g) k 0
-  row-at k h = rw wrote.holds (get_d-put-at rows at (gate_row g) k fits (omega (arith, h, row_long)))
+  row-at k h = rw wrote.holds (get_or-put-at rows at (gate_row g) k fits (omega (arith, h, row_long)))
 
   -- a part of the row, behind another
   part_at : (front part rest : List ℕ) (from : ℕ) → gate_row g ≡ front ++ (part ++ rest) → length front ≡ from → (j : ℕ) → j < length part

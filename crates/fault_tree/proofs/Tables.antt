@@ -7,7 +7,7 @@ use native.Mathlib.Omega.{arith}
 use lib.ListN.{length, get_or, set, length-map}
 use Rattle.lists.specs.Product.{product}
 use Rattle.lists.specs.Rows.{put}
-use Rattle.lists.proofs.Maps.{get_d-map-inside}
+use Rattle.lists.proofs.Maps.{get_or-map-inside}
 use Rattle.lists.proofs.Writing.{Writing, writing_start, writing_more, writing-room, writing-done}
 use Rattle.rules.specs.Limits.{most_joint_states}
 use Rattle.joint_states.specs.JointStates.{JointState, joint_states, number_of}
@@ -29,7 +29,7 @@ pub class-at : (t : Study) (counts x : List ℕ) → counts ≡ state_counts t �
 unfolding classes
 class-at t counts x same j k e =
     let inside : k < length (joint_states counts) = omega (arith, e, number-below counts x j, length-joint_states counts) in
-    rw (sym same) (get_d-map-inside (class_of t) (joint_states counts) k [] 0 inside ∙ ap (class_of t) (rw e at (numbered counts x j)))
+    rw (sym same) (get_or-map-inside (class_of t) (joint_states counts) k [] 0 inside ∙ ap (class_of t) (rw e at (numbered counts x j)))
 
 pub record Tabled (t : Study) (counts table₀ : List ℕ) (all k : ℕ) (x table : List ℕ) : Type 0 where
   pub sound : Sound t

@@ -7,9 +7,9 @@ use lib.ListN.{length, get_or, length-map, length-take}
 use lib.Seq.{get_or-take}
 use Rattle.lists.proofs.Elements.{Every}
 use Rattle.lists.proofs.Fronts.{put-behind}
-use Rattle.lists.proofs.Maps.{get_d-map-inside}
+use Rattle.lists.proofs.Maps.{get_or-map-inside}
 use Rattle.ordering.specs.Inputs.{Input, no_input, paired, numbers, masks, sorted}
-use Rattle.ordering.proofs.Pairs.{get_d-paired}
+use Rattle.ordering.proofs.Pairs.{get_or-paired}
 use Rattle.ordering.proofs.Sorted.{sorted-long, sorted-every}
 use Rattle.study.specs.declared.Gate.{Gate}
 use Rattle.gate_order.specs.Inputs.{unmasked, tests_of, gate_inputs_of}
@@ -24,12 +24,12 @@ module _ (g : Gate) (fits : Fits g) (j : ℕ) where
   pub test_at_lem : j < g.tests → get_or (tests_of g) j no_input ≡ test_at g j
   test_at_lem below =
       get_or-take g.tests (paired g.component g.mask) j no_input below
-      ∙ get_d-paired g.component g.mask j (fits.shaped.component ∙ sym fits.shaped.mask)
+      ∙ get_or-paired g.component g.mask j (fits.shaped.component ∙ sym fits.shaped.mask)
 
   pub gate-input-at : j < g.gates → get_or (gate_inputs_of g) j no_input ≡ unmasked (get_or g.input j 0)
   gate-input-at below =
       get_or-take g.gates (map unmasked g.input) j no_input below
-      ∙ get_d-map-inside unmasked g.input j 0 no_input (omega (arith, fits.shaped.input, fits.gates))
+      ∙ get_or-map-inside unmasked g.input j 0 no_input (omega (arith, fits.shaped.input, fits.gates))
 
 -- what holds of each input, place by place, holds of the row, and the other way
 pub gate-inputs-as-row : (P : Input → Type 0) (g : Gate) → ((j : ℕ) → j < g.gates → P (unmasked (get_or g.input j 0))) → Every P no_input (gate_inputs_of g)
@@ -37,7 +37,7 @@ gate-inputs-as-row P g each k inside =
     let row = map unmasked g.input in
     let within : k < min g.gates (length g.input) = omega (arith, inside, length-take g.gates row, length-map g.input unmasked) in
     let below : k < g.gates = omega (arith, within) in
-    let is = get_or-take g.gates row k no_input below ∙ get_d-map-inside unmasked g.input k 0 no_input (omega (arith, within)) in
+    let is = get_or-take g.gates row k no_input below ∙ get_or-map-inside unmasked g.input k 0 no_input (omega (arith, within)) in
     subst P (sym is) (each k below)
 
 module _ (P : Input → Type 0) (g : Gate) (fits : Fits g) where

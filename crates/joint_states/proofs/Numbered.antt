@@ -8,7 +8,7 @@ use lib.ListN.{length, get_or, length-append, length-map, get_or-append}
 use lib.Seq.{get_or-append-add}
 use Rattle.lists.specs.Product.{product}
 use Rattle.lists.proofs.Elements.{Every}
-use Rattle.lists.proofs.Maps.{get_d-map-inside}
+use Rattle.lists.proofs.Maps.{get_or-map-inside}
 use Rattle.joint_states.specs.JointStates.{JointState, divided, joint_states, number_of}
 use Rattle.joint_states.specs.Laws.{JointStatesListed}
 
@@ -79,23 +79,23 @@ number_up (c ∷ cs) (s ∷ x) up = rw (up 0, zero-mul, zero-add) (number_up cs 
 
 module _ (mark : ℕ → ℕ) (rows : ℕ → List (List ℕ)) (m : ℕ) (long : (s : ℕ) → length (rows s) ≡ m) where
   -- row k of the i-th state's
-  pub get_d-divided : (s n i k : ℕ) → i < n → k < m → get_or (divided mark rows s n) (i * m + k) [] ≡ mark (s + i) ∷ get_or (rows (s + i)) k []
+  pub get_or-divided : (s n i k : ℕ) → i < n → k < m → get_or (divided mark rows s n) (i * m + k) [] ≡ mark (s + i) ∷ get_or (rows (s + i)) k []
   unfolding divided
-  get_d-divided s zero i k h less = absurd (not-suc-le-zero h)
-  get_d-divided s (suc n) zero k h less =
+  get_or-divided s zero i k h less = absurd (not-suc-le-zero h)
+  get_or-divided s (suc n) zero k h less =
       let rest = divided mark rows (s + 1) n in
       let inside : k < length (rows s) = rw (long s) less in
       let heads : k < length (map (λ (row : List ℕ). mark s ∷ row) (rows s)) = rw (length-map (rows s) (λ (row : List ℕ). mark s ∷ row)) inside in
       rw (zero-mul, zero-add, add-zero)
-      (get_or-append (map (λ (row : List ℕ). mark s ∷ row) (rows s)) rest [] k heads ∙ get_d-map-inside (λ (row : List ℕ). mark s ∷ row) (rows s) k [] [] inside)
-  get_d-divided s (suc n) (suc i) k h less =
+      (get_or-append (map (λ (row : List ℕ). mark s ∷ row) (rows s)) rest [] k heads ∙ get_or-map-inside (λ (row : List ℕ). mark s ∷ row) (rows s) k [] [] inside)
+  get_or-divided s (suc n) (suc i) k h less =
       let rest = divided mark rows (s + 1) n in
       let heads = map (λ (row : List ℕ). mark s ∷ row) (rows s) in
       let place : suc i * m + k ≡ length heads + (i * m + k) = rw (length-map (rows s) (λ (row : List ℕ). mark s ∷ row), long s) (omega arith) in
       let state : s + 1 + i ≡ s + suc i = omega arith in
       ap (λ (p : ℕ). get_or (heads ++ rest) p []) place
       ∙ get_or-append-add heads rest (i * m + k) []
-      ∙ get_d-divided (s + 1) n i k (omega arith) less
+      ∙ get_or-divided (s + 1) n i k (omega arith) less
       ∙ ap (λ (z : ℕ). mark z ∷ get_or (rows z) k []) state
 
   pub length-divided : (s n : ℕ) → length (divided mark rows s n) ≡ n * m
@@ -119,7 +119,7 @@ numbered [] (s ∷ x) j = absurd (omega (arith, j.long))
 numbered (c ∷ cs) [] j = absurd (joint-none j)
 numbered (c ∷ cs) (s ∷ x) j =
     let all = length-joint_states cs in
-    get_d-divided (λ s. s) (λ s. joint_states cs) (product cs) (λ s. all) 0 c s (number_of cs x) (joint-head j) (number-below cs x (joint-tail j))
+    get_or-divided (λ s. s) (λ s. joint_states cs) (product cs) (λ s. all) 0 c s (number_of cs x) (joint-head j) (number-below cs x (joint-tail j))
     ∙ ap (λ (z : ℕ). z ∷ get_or (joint_states cs) (number_of cs x) []) (zero-add s)
     ∙ ap (λ (y : List ℕ). s ∷ y) (numbered cs x (joint-tail j))
 

@@ -5,7 +5,7 @@ use mathlib.Core.List.{List, [], ◌∷◌}
 use native.Mathlib.Nat.{not-suc-le-zero, le_of_suc-le-suc}
 use lib.ListN.{length, get_or}
 
-pub get_d-inside : {A : Type 0} (l : List A) (k : ℕ) (a b : A) → k < length l → get_or l k a ≡ get_or l k b
-get_d-inside [] k a b h = absurd (not-suc-le-zero h)
-get_d-inside (x ∷ l) zero a b h = refl
-get_d-inside (x ∷ l) (suc k) a b h = get_d-inside l k a b (le_of_suc-le-suc h)
+pub get_or-inside : {A : Type 0} (l : List A) (k : ℕ) (a b : A) → k < length l → get_or l k a ≡ get_or l k b
+get_or-inside [] k a b h = absurd (not-suc-le-zero h)
+get_or-inside (x ∷ l) zero a b h = refl
+get_or-inside (x ∷ l) (suc k) a b h = get_or-inside l k a b (le_of_suc-le-suc h)

@@ -19,9 +19,9 @@ put-behind d x k h =
     ∙ get_or-drop (0 + length x) d (k - length x) 0
     ∙ ap (λ (n : ℕ). get_or d n 0) same
 
-pub get_d-put : (d x : List ℕ) (i n : ℕ) → i < length x → get_or (put d 0 x) i n ≡ get_or x i n
+pub get_or-put : (d x : List ℕ) (i n : ℕ) → i < length x → get_or (put d 0 x) i n ≡ get_or x i n
 unfolding put
-get_d-put d x i n h = get_or-append x (drop (0 + length x) d) n i h
+get_or-put d x i n h = get_or-append x (drop (0 + length x) d) n i h
 
 -- a front that is cut off, written over and put back
 pub put_front : (d x : List ℕ) {n : ℕ} → length x ≡ n → x ++ drop n d ≡ put d 0 x

@@ -6,10 +6,10 @@ use native.Mathlib.Nat.{not-suc-le-zero, le_of_suc-le-suc}
 use lib.ListN.{length, get_or, take, length-map}
 
 -- an element inside, whatever would stand past the end
-pub get_d-map-inside : {A B : Type 0} (f : A → B) (l : List A) (k : ℕ) (a : A) (b : B) → k < length l → get_or (map f l) k b ≡ f (get_or l k a)
-get_d-map-inside f [] k a b h = absurd (not-suc-le-zero h)
-get_d-map-inside f (x ∷ l) zero a b h = refl
-get_d-map-inside f (x ∷ l) (suc k) a b h = get_d-map-inside f l k a b (le_of_suc-le-suc h)
+pub get_or-map-inside : {A B : Type 0} (f : A → B) (l : List A) (k : ℕ) (a : A) (b : B) → k < length l → get_or (map f l) k b ≡ f (get_or l k a)
+get_or-map-inside f [] k a b h = absurd (not-suc-le-zero h)
+get_or-map-inside f (x ∷ l) zero a b h = refl
+get_or-map-inside f (x ∷ l) (suc k) a b h = get_or-map-inside f l k a b (le_of_suc-le-suc h)
 
 -- the first elements
 pub take-map : {A B : Type 0} (f : A → B) (n : ℕ) (l : List A) → take n (map f l) ≡ map f (take n l)

@@ -22,18 +22,18 @@ pub put-size : (d d' : List ℕ) (at : ℕ) (x : List ℕ) → at + length x ≤
 put-size d d' at x h e = ap length e ∙ length-put d at x h
 
 -- what stands in front of it is as it was
-pub get_d-put-before : (d : List ℕ) (at : ℕ) (x : List ℕ) (k : ℕ) → at + length x ≤ length d → k < at → get_or (put d at x) k 0 ≡ get_or d k 0
+pub get_or-put-before : (d : List ℕ) (at : ℕ) (x : List ℕ) (k : ℕ) → at + length x ≤ length d → k < at → get_or (put d at x) k 0 ≡ get_or d k 0
 unfolding put
-get_d-put-before d at x k h less =
+get_or-put-before d at x k h less =
     let front = length-take-le at d (omega (arith, h)) in
     get_or-append (take at d ++ x) (drop (at + length x) d) 0 k (omega (arith, length_front d at x h, less))
     ∙ get_or-append (take at d) x 0 k (omega (arith, front, less))
     ∙ get_or-take at d k 0 less
 
 -- and it stands there
-pub get_d-put-at : (d : List ℕ) (at : ℕ) (x : List ℕ) (j : ℕ) → at + length x ≤ length d → j < length x → get_or (put d at x) (at + j) 0 ≡ get_or x j 0
+pub get_or-put-at : (d : List ℕ) (at : ℕ) (x : List ℕ) (j : ℕ) → at + length x ≤ length d → j < length x → get_or (put d at x) (at + j) 0 ≡ get_or x j 0
 unfolding put
-get_d-put-at d at x j h less =
+get_or-put-at d at x j h less =
     let front = length-take-le at d (omega (arith, h)) in
     get_or-append (take at d ++ x) (drop (at + length x) d) 0 (at + j) (omega (arith, length_front d at x h, less))
     ∙ ap (λ (n : ℕ). get_or (take at d ++ x) (n + j) 0) (sym front)

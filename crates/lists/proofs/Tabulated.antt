@@ -16,20 +16,20 @@ module _ {A : Type 0} where
   length-tabulate f zero = refl
   length-tabulate f (suc n) = length-append (tabulate f n) (f n ∷ []) ∙ ap (λ (k : ℕ). k + 1) (length-tabulate f n) ∙ add-one n
 
-  pub get_d_tabulate : (f : ℕ → A) (n k : ℕ) (d : A) → k < n → get_or (tabulate f n) k d ≡ f k
+  pub get_or-tabulate : (f : ℕ → A) (n k : ℕ) (d : A) → k < n → get_or (tabulate f n) k d ≡ f k
   unfolding tabulate
-  get_d_tabulate f zero k d h = absurd (not-suc-le-zero h)
-  get_d_tabulate f (suc n) k d h =
+  get_or-tabulate f zero k d h = absurd (not-suc-le-zero h)
+  get_or-tabulate f (suc n) k d h =
       ⊎_elim
       (λ (last : k ≡ n). rw last (get_or_at (tabulate f n) (f n) [] d n (length-tabulate f n)))
-      (λ (lower : k < n). get_or-append (tabulate f n) (f n ∷ []) d k (rw (length-tabulate f n) lower) ∙ get_d_tabulate f n k d lower)
+      (λ (lower : k < n). get_or-append (tabulate f n) (f n ∷ []) d k (rw (length-tabulate f n) lower) ∙ get_or-tabulate f n k d lower)
       (eq-or-lt_of_le (le_of_suc-le-suc h))
 
   -- a list that has f's value at each place
   pub tabulated : (f : ℕ → A) (n : ℕ) (l : List A) (d : A) → length l ≡ n → ((k : ℕ) → k < n → get_or l k d ≡ f k) → l ≡ tabulate f n
   tabulated f n l d long at =
       ext_get_or d l (tabulate f n) (long ∙ sym (length-tabulate f n))
-      (λ k h. at k (rw long at h) ∙ sym (get_d_tabulate f n k d (rw long at h)))
+      (λ k h. at k (rw long at h) ∙ sym (get_or-tabulate f n k d (rw long at h)))
 
   -- two functions that agree below n
   pub tabulate-alike : (f g : ℕ → A) (n : ℕ) → ((k : ℕ) → k < n → f k ≡ g k) → tabulate f n ≡ tabulate g n

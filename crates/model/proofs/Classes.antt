@@ -5,7 +5,7 @@ use mathlib.Core.List.{List, []}
 use native.Mathlib.Omega.{arith}
 use lib.ListN.{length, length-map}
 use Rattle.lists.specs.Product.{product}
-use Rattle.lists.proofs.Maps.{get_d-map-inside}
+use Rattle.lists.proofs.Maps.{get_or-map-inside}
 use Rattle.joint_states.specs.JointStates.{JointState, joint_states, number_of}
 use Rattle.joint_states.proofs.Numbered.{number-below, length-joint_states, numbered}
 use Rattle.paths.specs.Blocks.{Block, Listable, class_at}
@@ -22,7 +22,7 @@ module _ (m : Model) where
   class-at x j =
       let k = number_of m.counts x in
       let inside : k < length (joint_states m.counts) = omega (arith, number-below m.counts x j, length-joint_states m.counts) in
-      get_d-map-inside m.class (joint_states m.counts) k [] 0 inside ∙ ap m.class (numbered m.counts x j)
+      get_or-map-inside m.class (joint_states m.counts) k [] 0 inside ∙ ap m.class (numbered m.counts x j)
 
   pub good-block : Good m → Block m.counts (classes_of m)
   good-block good =

@@ -16,7 +16,7 @@ use Rattle.ordering.specs.Distinct.{same_input, distinct}
 use Rattle.ordering.specs.Thinning.{stands_next, thinned, Counts}
 use Rattle.ordering.specs.Inputs.{Input, no_input, mask_values, ByteMask, rank, paired}
 use Rattle.ordering.specs.Sorting.{ascends}
-use Rattle.ordering.proofs.Pairs.{paired_long, get_d-paired}
+use Rattle.ordering.proofs.Pairs.{paired_long, get_or-paired}
 use Rattle.ordering.proofs.Rises.{ascends-kept}
 use Rattle.ordering.proofs.Sets.{same-told, same_self}
 use Rattle.ordering.proofs.Thinned.{thinned-distinct}
@@ -62,7 +62,7 @@ pub record Along (ns ms : List ℕ) (n at here : ℕ) : Type 0 where
 
 module _ (ns ms : List ℕ) (rows : length ns ≡ length ms) where
   rank-at : (k : ℕ) → mask_values * get_or ns k 0 + get_or ms k 0 ≡ rank (get_or (paired ns ms) k no_input)
-  rank-at k = sym (ap rank (get_d-paired ns ms k rows))
+  rank-at k = sym (ap rank (get_or-paired ns ms k rows))
 
   pub along-start : (here : ℕ) → 0 < length ns → here ≡ mask_values * get_or ns 0 0 + get_or ms 0 0 → Along ns ms 1 0 here
   along-start here some is = record { inside = some; few = omega arith; at_hand = is ∙ rank-at 0; order = refl; due = omega arith }
@@ -93,7 +93,7 @@ module _ (ns ms : List ℕ) (rows : length ns ≡ length ms) where
 
     pub along-more : ((k : ℕ) → get_or ms k 0 < mask_values) → here ≤ next → Along ns ms (n + truth (ltb here next)) (at + 1) next
     along-more bytes most =
-        let byte : (k : ℕ) → ByteMask (get_or (paired ns ms) k no_input) = λ k. rw (get_d-paired ns ms k rows) (bytes k) in
+        let byte : (k : ℕ) → ByteMask (get_or (paired ns ms) k no_input) = λ k. rw (get_or-paired ns ms k rows) (bytes k) in
         let ranks : rank a ≤ rank b = omega (arith, most, along.at_hand, next-at) in
         let one = thinned-two a b (drop (suc (suc at)) (paired ns ms)) (byte at) (byte (suc at)) ranks in
         let from = ap (λ (row : List Input). length (thinned row)) both in

@@ -17,7 +17,7 @@ use Rattle.ordering.specs.Thinning.{stands_next, thinned, Fronted}
 use Rattle.ordering.specs.Inputs.{Input, no_input, mask_values, ByteMask, rank, paired, numbers, masks, Ascending}
 use Rattle.ordering.specs.Laws.{EnoughToLookNext}
 use Rattle.ordering.proofs.Sets.{same-told, same_self, first-most}
-use Rattle.ordering.proofs.Pairs.{paired_long, get_d-paired}
+use Rattle.ordering.proofs.Pairs.{paired_long, get_or-paired}
 use Rattle.ordering.proofs.Rises.{Rises, rises}
 use Rattle.ordering.proofs.Unique.{same-input}
 
@@ -63,7 +63,7 @@ enough-to-look-next row bytes up = risen-enough row (rises row up) bytes
 -- rows of bytes, side by side
 pub thinned-distinct : (ns ms : List ℕ) → length ns ≡ length ms → ((k : ℕ) → get_or ms k 0 < mask_values) → Ascending (paired ns ms)
     → thinned (paired ns ms) ≡ distinct (paired ns ms)
-thinned-distinct ns ms rows bytes up = enough-to-look-next (paired ns ms) (λ k inside. rw (get_d-paired ns ms k rows) (bytes k)) up
+thinned-distinct ns ms rows bytes up = enough-to-look-next (paired ns ms) (λ k inside. rw (get_or-paired ns ms k rows) (bytes k)) up
 
 -- ---- the first input of what is left
 
@@ -94,7 +94,7 @@ pub next-told : (ns ms : List ℕ) (at : ℕ) → length ns ≡ length ms → su
 unfolding stands_next same_input
 next-told ns ms at rows two =
     let inside : suc at < length (paired ns ms) = omega (arith, two, paired_long ns ms rows) in
-    rw (drop-cons (paired ns ms) (suc at) no_input inside, get_d-paired ns ms at rows, get_d-paired ns ms (suc at) rows) refl
+    rw (drop-cons (paired ns ms) (suc at) no_input inside, get_or-paired ns ms at rows, get_or-paired ns ms (suc at) rows) refl
 
 -- ---- those that count, put at the front
 
@@ -152,7 +152,7 @@ module _ {ns₀ ms₀ ns ms : List ℕ} {kept at : ℕ} (thinning : Thinning ns�
   thinning-more inside last =
       let n = get_or ns at 0 in
       let m = get_or ms at 0 in
-      let here : get_or (paired ns ms) at no_input ≡ record { number = n; mask = m } = get_d-paired ns ms at thinning.rows in
+      let here : get_or (paired ns ms) at no_input ≡ record { number = n; mask = m } = get_or-paired ns ms at thinning.rows in
       let first = thinned-more (paired ns ms) at (inside-row inside) last ∙ ap (λ (a : Input). a ∷ thinned (drop (suc at) (paired ns ms))) here in
       let before : kept < suc at = omega (arith, thinning.few) in
       let left : drop (suc at) (paired ns ms) ≡ drop (suc at) (paired (set ns kept n) (set ms kept m)) =

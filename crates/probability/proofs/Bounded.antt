@@ -5,7 +5,7 @@ use mathlib.Core.List.{List, []}
 use native.Mathlib.Omega.{arith}
 use lib.ListN.{length, get_or, set, length-map}
 use Rattle.lists.specs.Rows.{put}
-use Rattle.lists.proofs.Maps.{get_d-map-inside}
+use Rattle.lists.proofs.Maps.{get_or-map-inside}
 use Rattle.lists.proofs.Writing.{Writing, writing_start, writing_more, writing-room, writing-done}
 use Rattle.probability.specs.Bounded.{Boundable, Bounded}
 use Rattle.probability.specs.Bounds.{path_bound}
@@ -29,7 +29,7 @@ module _ (rounding : ℕ) (probabilities : List ℕ) (n : ℕ) (list : List ℕ)
   bound-is {k} {bound} h bounded =
       bounded.is
       ∙ ap (path_bound rounding probabilities n) (sym (entry-is n paths list k h))
-      ∙ sym (get_d-map-inside (path_bound rounding probabilities n) (entries_of n paths list) k [] 0 (rw (entries-long n paths list) h))
+      ∙ sym (get_or-map-inside (path_bound rounding probabilities n) (entries_of n paths list) k [] 0 (rw (entries-long n paths list) h))
 
 pub record Bounding (rounding : ℕ) (probabilities : List ℕ) (n : ℕ) (list : List ℕ) (paths : ℕ) (d₀ : List ℕ) (k : ℕ) (d : List ℕ) : Type 0 where
   pub rounds : rounding ≤ up

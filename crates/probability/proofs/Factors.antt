@@ -6,7 +6,7 @@ use native.Mathlib.Numerals.{add-one}
 use native.Mathlib.Omega.{arith}
 use lib.ListN.{length, get_or}
 use borrow.Author.Tests.{eq-eqb, ne_eqb}
-use Rattle.lists.proofs.Defaults.{get_d-inside}
+use Rattle.lists.proofs.Defaults.{get_or-inside}
 use Rattle.units.specs.One.{one}
 use Rattle.units.specs.Rounding.{scale}
 use Rattle.entries.specs.Entries.{blank_mark}
@@ -39,7 +39,7 @@ module _ {rounding : ℕ} {probabilities entry : List ℕ} {n : ℕ} where
       → r ≡ factored rounding probabilities i (get_or entry i 0) bound → r ≤ one → Factored rounding probabilities entry n (i + 1) r
   unfolding path_bound
   factors-more {i} {bound} {r} f h long e most =
-      let own = get_d-inside entry i blank_mark 0 (omega (arith, h, long)) in
+      let own = get_or-inside entry i blank_mark 0 (omega (arith, h, long)) in
       record { inside = omega arith; made = rw (add-one, ← f.made, own) e; most = most }
 
   pub factors-done : {i bound : ℕ} → Factored rounding probabilities entry n i bound → n ≤ i → bound ≡ path_bound rounding probabilities n entry

@@ -11,7 +11,7 @@ use borrow.Author.Tests.{eq-eqb}
 use Rattle.lists.specs.Rows.{joined}
 use Rattle.lists.specs.Tabulate.{tabulate}
 use Rattle.lists.proofs.Joined.{joined-next}
-use Rattle.lists.proofs.Tabulated.{length-tabulate, get_d_tabulate}
+use Rattle.lists.proofs.Tabulated.{length-tabulate, get_or-tabulate}
 use Rattle.lists.proofs.Turns.{Turns, turns-start, turns_more, turns-done}
 use Rattle.reading.specs.Reader.{Read, Reader, got, and_then, return, judge, byte, word, number, turn, repeat, ◌>>=◌, ◌>>◌}
 
@@ -105,5 +105,5 @@ pub back-pieces : {A : Type 0} (step : ℕ → A → Reader A) (value : ℕ → 
     → ((k : ℕ) → k < n → Back (step k (value k)) (piece k) (value (k + 1))) → Back (repeat step n (value 0)) (joined (tabulate piece n)) (value n)
 back-pieces step value piece n read =
     back-repeat step value (tabulate piece n) n
-    (λ k less. subst (λ (x : List ℕ). Back (step k (value k)) x (value (k + 1))) (sym (get_d_tabulate piece n k [] less)) (read k less))
+    (λ k less. subst (λ (x : List ℕ). Back (step k (value k)) x (value (k + 1))) (sym (get_or-tabulate piece n k [] less)) (read k less))
     (omega (arith, length-tabulate piece n))

@@ -11,7 +11,7 @@ use Rattle.lists.specs.Rows.{joined}
 use Rattle.lists.specs.Tabulate.{tabulate}
 use Rattle.lists.proofs.Elements.{Every}
 use Rattle.lists.proofs.Joined.{joined-last}
-use Rattle.lists.proofs.Tabulated.{length-tabulate, get_d_tabulate}
+use Rattle.lists.proofs.Tabulated.{length-tabulate, get_or-tabulate}
 use Rattle.lists.proofs.Those.{those-alike}
 
 module _ {A : Type 0} (takes_part : A → Bool) where
@@ -46,7 +46,7 @@ pub below-every : (takes_part : ℕ → Bool) (n : ℕ) → Every (λ (c : ℕ).
 below-every takes_part n = those-every takes_part (λ (c : ℕ). c < n) 0 (below n) all
   where
     all : Every (λ (c : ℕ). c < n) 0 (below n)
-    all i h = let inside : i < n = rw (length-tabulate (λ (c : ℕ). c) n) at h in rw (get_d_tabulate (λ (c : ℕ). c) n i 0 inside) inside
+    all i h = let inside : i < n = rw (length-tabulate (λ (c : ℕ). c) n) at h in rw (get_or-tabulate (λ (c : ℕ). c) n i 0 inside) inside
 
 row_last : (f : ℕ → List ℕ) (l : List ℕ) (n : ℕ) (b : Bool) → joined (map f (l ++ cond b (n ∷ []) [])) ≡ joined (map f l) ++ cond b (f n) []
 unfolding joined
@@ -93,4 +93,4 @@ pub below_alike : (f g : ℕ → Bool) (n : ℕ) → ((c : ℕ) → c < n → f 
 below_alike f g n agree = those-alike f g 0 (below n) all
   where
     all : Every (λ (c : ℕ). f c ≡ g c) 0 (below n)
-    all i h = let inside : i < n = rw (length-tabulate (λ (c : ℕ). c) n) at h in rw (get_d_tabulate (λ (c : ℕ). c) n i 0 inside) (agree i inside)
+    all i h = let inside : i < n = rw (length-tabulate (λ (c : ℕ). c) n) at h in rw (get_or-tabulate (λ (c : ℕ). c) n i 0 inside) (agree i inside)

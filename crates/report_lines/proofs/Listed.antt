@@ -6,7 +6,7 @@ use lib.ListN.{length, get_or, length-map}
 use Rattle.lists.specs.Rows.{joined}
 use Rattle.lists.specs.Tabulate.{tabulate}
 use Rattle.lists.proofs.Elements.{Every}
-use Rattle.lists.proofs.Maps.{get_d-map-inside}
+use Rattle.lists.proofs.Maps.{get_or-map-inside}
 use Rattle.lists.proofs.Tabulated.{tabulated, tabulate-alike}
 use Rattle.text.specs.Letters.{letters}
 use Rattle.text.specs.Lines.{item_line}
@@ -29,7 +29,7 @@ lines_at probabilities n list paths =
     let long = length-map entries (path_line probabilities n) ∙ entries-long n paths list in
     let line = path_line probabilities n in
     ap joined (tabulated (line_at probabilities n list) paths (map line entries) [] long
-    (λ k h. get_d-map-inside line entries k [] [] (rw (entries-long n paths list) h) ∙ ap line (entry-is n paths list k h)))
+    (λ k h. get_or-map-inside line entries k [] [] (rw (entries-long n paths list) h) ∙ ap line (entry-is n paths list k h)))
 
 -- ---- classes
 
@@ -43,7 +43,7 @@ unfolding class_lines
 class-lines-at classes lower upper =
     let line = class_line lower upper in
     ap joined (tabulated (class_line_at classes lower upper) (length classes) (map line classes) [] (length-map classes line)
-    (λ k h. get_d-map-inside line classes k 0 [] h))
+    (λ k h. get_or-map-inside line classes k 0 [] h))
 
 -- what stands behind the places of classes does not matter
 pub class-lines-alike : (classes lower upper lower' upper' : List ℕ) → Every (λ (c : ℕ). c < class_places) 0 classes

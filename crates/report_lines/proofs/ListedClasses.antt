@@ -8,7 +8,7 @@ use lib.Dec.{eqb, ltb}
 use borrow.Author.Tests.{lt-ltb, le-ltb}
 use Rattle.lists.specs.Rows.{joined}
 use Rattle.lists.specs.Tabulate.{tabulate}
-use Rattle.lists.proofs.Tabulated.{get_d_tabulate, tabulate-alike}
+use Rattle.lists.proofs.Tabulated.{get_or-tabulate, tabulate-alike}
 use Rattle.text.specs.Letters.{letters}
 use Rattle.text.specs.Lines.{item_line}
 use Rattle.entries.specs.Entries.{class_places}
@@ -48,4 +48,4 @@ listed-lines probabilities n entries =
     from-tables c = class_line (lower_classes probabilities n entries) (upper_classes probabilities n entries) c
 
     same : (c : ℕ) → c < class_places → cond (ltb 0 (bearing n entries c)) (from-tables c) [] ≡ listed_line probabilities n entries c
-    same c h = rw (get_d_tabulate lower class_places c 0 h, get_d_tabulate upper class_places c 0 h) refl
+    same c h = rw (get_or-tabulate lower class_places c 0 h, get_or-tabulate upper class_places c 0 h) refl

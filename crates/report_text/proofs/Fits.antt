@@ -8,7 +8,7 @@ use lib.Dec.{eqb}
 use lib.ListN.{length, get_or}
 use Rattle.lists.specs.Counting.{sum_over}
 use Rattle.lists.proofs.Elements.{Every}
-use Rattle.lists.proofs.Tabulated.{get_d_tabulate}
+use Rattle.lists.proofs.Tabulated.{get_or-tabulate}
 use Rattle.text.specs.Letters.{letters}
 use Rattle.text.specs.Writing.{Room}
 use Rattle.text.proofs.Short.{joined_length, field-short, number_short}
@@ -69,12 +69,12 @@ module _ (m : Model) (good : Good m) (classes : (x : List ℕ) → m.class x < c
   lower-class : (c : ℕ) → c < class_places → get_or (class_lowers m) c 0 < 10 ^ 13
   lower-class c h =
       let most = total-most down (omega arith) (probability_table m) (model-table m good) (components m) (λ (class : ℕ). eqb class c) (paths_of m) in
-      rw (get_d_tabulate (λ (c : ℕ). lower_of m (λ (class : ℕ). eqb class c)) class_places c 0 h) (omega (arith, most, few))
+      rw (get_or-tabulate (λ (c : ℕ). lower_of m (λ (class : ℕ). eqb class c)) class_places c 0 h) (omega (arith, most, few))
 
   upper-class : (c : ℕ) → c < class_places → get_or (class_uppers m) c 0 < 10 ^ 13
   upper-class c h =
       let most = min-le_left one (total up (probability_table m) (components m) (λ (class : ℕ). eqb class c) (paths_of m)) in
-      rw (get_d_tabulate (λ (c : ℕ). upper_of m (λ (class : ℕ). eqb class c)) class_places c 0 h) (omega (arith, most))
+      rw (get_or-tabulate (λ (c : ℕ). upper_of m (λ (class : ℕ). eqb class c)) class_places c 0 h) (omega (arith, most))
 
   classes-short : length (classes_text m) ≤ class_places * 34
   unfolding classes_text

@@ -6,7 +6,7 @@ use native.Mathlib.Omega.{arith}
 use lib.ListN.{length, get_or, take}
 use lib.Seq.{length-take-le}
 use Rattle.lists.specs.Rows.{put}
-use Rattle.lists.proofs.Fronts.{get_d-put, put-taken}
+use Rattle.lists.proofs.Fronts.{get_or-put, put-taken}
 use Rattle.lists.proofs.Tabulated.{length-tabulate}
 use Rattle.text.specs.Writing.{Wrote}
 use Rattle.rules.specs.Limits.{most_loads}
@@ -44,8 +44,8 @@ module _ {m : Model} where
       let same = ap (λ (k : ℕ). classes_borne k (entries_of k paths list)) components-are ∙ ap (classes_borne (components m)) listed.entries in
       ap (λ (l : List ℕ). class_lines l lower upper) (front ∙ same)
       ∙ class-lines-alike all lower upper (class_lowers m) (class_uppers m) (borne-class (components m) (paths_of m))
-      (λ c h. ap (λ (l : List ℕ). get_or l c 0) low ∙ get_d-put e (class_lowers m) c 0 (rw (lowers-long m) h))
-      (λ c h. ap (λ (l : List ℕ). get_or l c 0) high ∙ get_d-put f (class_uppers m) c 0 (rw (uppers-long m) h))
+      (λ c h. ap (λ (l : List ℕ). get_or l c 0) low ∙ get_or-put e (class_lowers m) c 0 (rw (lowers-long m) h))
+      (λ c h. ap (λ (l : List ℕ). get_or l c 0) high ∙ get_or-put f (class_uppers m) c 0 (rw (uppers-long m) h))
 
   module _ {lower upper : List ℕ} (losses : LossesOf m lower upper) where
     pub loads-are : (load : List Load) (loads : ℕ) → length load ≡ most_loads → loads ≤ most_loads

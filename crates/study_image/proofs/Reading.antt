@@ -6,7 +6,7 @@ use native.Mathlib.Omega.{arith}
 use lib.ListN.{length, set}
 use Rattle.lists.specs.Tabulate.{tabulate}
 use Rattle.lists.proofs.Filling.{Filling, filling-start, filling-more, filling-done}
-use Rattle.lists.proofs.Tabulated.{length-tabulate, get_d_tabulate}
+use Rattle.lists.proofs.Tabulated.{length-tabulate, get_or-tabulate}
 
 pub record RecordsRead {A : Type 0} (f : ℕ → A) (n i : ℕ) (r : List A) : Type 0 where
   pub filling : Filling (tabulate f n) i r
@@ -19,7 +19,7 @@ module _ {A : Type 0} {f : ℕ → A} {n : ℕ} where
   records-more {i} {r} {a} s h e =
       record {
         filling =
-            subst (λ (x : A). Filling (tabulate f n) (i + 1) (set r i x)) (get_d_tabulate f n i a h ∙ sym e)
+            subst (λ (x : A). Filling (tabulate f n) (i + 1) (set r i x)) (get_or-tabulate f n i a h ∙ sym e)
             (filling-more a s.filling (omega (arith, length-tabulate f n)));
       }
 

@@ -10,7 +10,7 @@ use lib.Seq.{get_or-drop, drop-drop, drop-append-add, drop-cons, take_at, get_or
 use Rattle.lists.specs.Rows.{joined}
 use Rattle.lists.specs.Tabulate.{tabulate}
 use Rattle.lists.proofs.Joined.{joined-long}
-use Rattle.lists.proofs.Tabulated.{length-tabulate, get_d_tabulate, tabulated}
+use Rattle.lists.proofs.Tabulated.{length-tabulate, get_or-tabulate, tabulated}
 use Rattle.reading.specs.Reader.{number}
 use Rattle.study_image.specs.Image.{bytes_of, byte_in, number_in, bytes_in}
 use Rattle.study_image.specs.Fits.{NumberFits}
@@ -81,12 +81,12 @@ module _ {image : List ℕ} {at : ℕ} (row : ℕ → List ℕ) (width n : ℕ) 
       each : (i : ℕ) → i < length (take k (tabulate row n)) → length (get_or (take k (tabulate row n)) i []) ≡ width
       each i less =
           let below : i < k = omega (arith, length-take-le k (tabulate row n) (omega (arith, length-tabulate row n))) in
-          rw (get_or-take k (tabulate row n) i [] below, get_d_tabulate row n i [] (omega arith)) (wide i (omega arith))
+          rw (get_or-take k (tabulate row n) i [] below, get_or-tabulate row n i [] (omega arith)) (wide i (omega arith))
 
   stands-row : (k : ℕ) → k < n → Stands image (at + k * width) (row k ∷ drop (suc k) (tabulate row n))
   stands-row k h =
       let next : drop k (tabulate row n) ≡ row k ∷ drop (suc k) (tabulate row n) =
-      rw (get_d_tabulate row n k [] h) at (drop-cons (tabulate row n) k [] (omega (arith, length-tabulate row n))) in
+      rw (get_or-tabulate row n k [] h) at (drop-cons (tabulate row n) k [] (omega (arith, length-tabulate row n))) in
       rw next at (stands-behind s k (k * width) (first_rows k h))
 
   -- the records that rows hold

@@ -7,7 +7,7 @@ use lib.ListN.{length, get_or, length-append}
 use Rattle.lists.specs.Rows.{joined}
 use Rattle.lists.specs.Tabulate.{tabulate}
 use Rattle.lists.proofs.Joined.{joined-long}
-use Rattle.lists.proofs.Tabulated.{length-tabulate, get_d_tabulate}
+use Rattle.lists.proofs.Tabulated.{length-tabulate, get_or-tabulate}
 use Rattle.rules.specs.Limits.{most_components, most_gates, most_loads}
 use Rattle.study.specs.declared.Gate.{Gate}
 use Rattle.study.specs.declared.Study.{Study}
@@ -26,7 +26,7 @@ rows_long row width n wide = joined-long width (tabulate row n) each ∙ ap (λ 
     each : (k : ℕ) → k < length (tabulate row n) → length (get_or (tabulate row n) k []) ≡ width
     each k h =
         let less = rw (length-tabulate row n) at h in
-        rw (get_d_tabulate row n k [] less) (wide k less)
+        rw (get_or-tabulate row n k [] less) (wide k less)
 
 module _ (t : Study) (fits : StudyFits t) where
   pub components-long : length (component_rows t.component) ≡ most_components * component_bytes

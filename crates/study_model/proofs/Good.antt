@@ -8,7 +8,7 @@ use native.Mathlib.Omega.{arith}
 use lib.ListN.{length, get_or, take, length-take, length-map}
 use lib.Seq.{get_or-take}
 use Rattle.lists.specs.Counting.{sum}
-use Rattle.lists.proofs.Maps.{get_d-map-inside}
+use Rattle.lists.proofs.Maps.{get_or-map-inside}
 use Rattle.units.specs.One.{one}
 use Rattle.rules.specs.Limits.{fewest_states, most_states, most_customers, most_minutes}
 use Rattle.rules.proofs.Rows.{lacked-kept, size-kept}
@@ -79,7 +79,7 @@ module _ (t : Study) (s : Sound t) where
     where
       row : (k : ℕ) → k < length (state_counts t) → get_or (probabilities_of t) k [] ≡ state_probabilities (component_at t k)
       row k h =
-          get_d-map-inside state_probabilities in_use k zero_component [] (omega (arith, h, rows_long))
+          get_or-map-inside state_probabilities in_use k zero_component [] (omega (arith, h, rows_long))
           ∙ ap state_probabilities (get_or-take t.components t.component k zero_component (used k h))
 
       row-whole : (k : ℕ) → k < t.components → Whole (get_or (state_counts t) k 0) (state_probabilities (component_at t k))

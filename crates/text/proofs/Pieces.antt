@@ -7,7 +7,7 @@ use lib.ListN.{length, get_or, drop, set, drop_of_length-le}
 use Rattle.lists.specs.Rows.{joined}
 use Rattle.lists.specs.Tabulate.{tabulate}
 use Rattle.lists.proofs.Joined.{joined-next}
-use Rattle.lists.proofs.Tabulated.{length-tabulate, get_d_tabulate}
+use Rattle.lists.proofs.Tabulated.{length-tabulate, get_or-tabulate}
 use Rattle.lists.proofs.Puts.{Due, due-start, due-room, due-more, due-set, due-done, due-end}
 use Rattle.text.specs.Writing.{Room, Wrote}
 
@@ -57,10 +57,10 @@ tabled_start f n room = record { pieces = pieces-start (tabulate f n) room }
 
 module _ {f : ℕ → List ℕ} {n : ℕ} {d₀ : List ℕ} {at k p : ℕ} {d : List ℕ} where
   pub tabled-room : Tabled f n d₀ at k d p → k < n → Room d p (f k)
-  tabled-room w h = piece-room w.pieces (rw (length-tabulate f n) h) (get_d_tabulate f n k [] h)
+  tabled-room w h = piece-room w.pieces (rw (length-tabulate f n) h) (get_or-tabulate f n k [] h)
 
   pub tabled-more : {d' : List ℕ} {q : ℕ} → Tabled f n d₀ at k d p → k < n → Wrote d p (f k) d' q → Tabled f n d₀ at (k + 1) d' q
-  tabled-more w h wrote = record { pieces = piece-more w.pieces (rw (length-tabulate f n) h) (get_d_tabulate f n k [] h) wrote }
+  tabled-more w h wrote = record { pieces = piece-more w.pieces (rw (length-tabulate f n) h) (get_or-tabulate f n k [] h) wrote }
 
   pub tabled-size : Tabled f n d₀ at k d p → length d ≡ length d₀
   tabled-size w = w.pieces.due.size

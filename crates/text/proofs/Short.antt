@@ -8,7 +8,7 @@ use Rattle.lists.specs.Counting.{sum_over}
 use Rattle.lists.specs.Rows.{joined}
 use Rattle.lists.specs.Tabulate.{tabulate}
 use Rattle.lists.proofs.Joined.{joined-short}
-use Rattle.lists.proofs.Tabulated.{length-tabulate, get_d_tabulate}
+use Rattle.lists.proofs.Tabulated.{length-tabulate, get_or-tabulate}
 use Rattle.text.specs.Lines.{field, number_line, bounds_end, bounds_line, item_line}
 use Rattle.text.proofs.Decimals.{decimal-short}
 
@@ -45,5 +45,5 @@ module _ (w : ℕ) (some : 1 ≤ w) where
 pub lines-short : (f : ℕ → List ℕ) (n width : ℕ) → ((k : ℕ) → k < n → length (f k) ≤ width) → length (joined (tabulate f n)) ≤ n * width
 lines-short f n width each =
     let long = length-tabulate f n in
-    let short = joined-short width (tabulate f n) (λ k h. let below : k < n = rw long at h in rw (get_d_tabulate f n k [] below) (each k below)) in
+    let short = joined-short width (tabulate f n) (λ k h. let below : k < n = rw long at h in rw (get_or-tabulate f n k [] below) (each k below)) in
     rw long at short

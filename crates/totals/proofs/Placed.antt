@@ -11,9 +11,9 @@ use lib.Seq.{drop_at, get_or-set_same, get_or-set_other, ext_get_or}
 use borrow.Author.Tests.{eqb-true, eqb-false, ltb-true, ltb-false}
 use Rattle.lists.specs.Rows.{put}
 use Rattle.lists.specs.Tabulate.{tabulate}
-use Rattle.lists.proofs.Fronts.{get_d-put, put_front, put-behind}
+use Rattle.lists.proofs.Fronts.{get_or-put, put_front, put-behind}
 use Rattle.lists.proofs.Puts.{put-size}
-use Rattle.lists.proofs.Tabulated.{length-tabulate, get_d_tabulate}
+use Rattle.lists.proofs.Tabulated.{length-tabulate, get_or-tabulate}
 use Rattle.totals.specs.Places.{Placed, Cleared}
 
 -- ---- one place after the other
@@ -70,7 +70,7 @@ placed-put {places} {value} {d} {d'} a room =
     at : (k : ℕ) (b : Bool) → ltb k places ≡ b → get_or d' k 0 ≡ get_or (put d 0 (tabulate value places)) k 0
     at k true less =
         let inside = ltb-true k places less in
-        a.here k inside ∙ sym (get_d-put d (tabulate value places) k 0 (omega (arith, inside, long)) ∙ get_d_tabulate value places k 0 inside)
+        a.here k inside ∙ sym (get_or-put d (tabulate value places) k 0 (omega (arith, inside, long)) ∙ get_or-tabulate value places k 0 inside)
     at k false past =
         let behind = ltb-false k places past in
         a.behind k behind ∙ sym (put-behind d (tabulate value places) k (omega (arith, behind, long)))

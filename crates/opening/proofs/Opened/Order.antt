@@ -6,7 +6,7 @@ use mathlib.Core.List.{List}
 use native.Mathlib.Decide.{dec_lt}
 use native.Mathlib.Omega.{arith}
 use lib.ListN.{length, get_or, length-map}
-use Rattle.lists.proofs.Maps.{get_d-map-inside}
+use Rattle.lists.proofs.Maps.{get_or-map-inside}
 use Rattle.ordering.specs.Inputs.{Input}
 use Rattle.rules.specs.Limits.{most_gates, most_tests, most_gate_inputs}
 use Rattle.rules.specs.Table.{no_component_fault, mask_fault, ahead_fault, threshold_fault}
@@ -86,7 +86,7 @@ module _ (t : Study) (given : Given t) where
   -- what stands at a gate's place then
   pub ordered-gate : (i : ℕ) → i < most_gates → gate_at (ordered t) i ≡ in_order (gate_at t i)
   unfolding ordered
-  ordered-gate i inside = get_d-map-inside in_order t.gate i no_gate no_gate (omega (arith, given.shaped.gates))
+  ordered-gate i inside = get_or-map-inside in_order t.gate i no_gate no_gate (omega (arith, given.shaped.gates))
 
   pub ordered-rules : (i : ℕ) → i < t.gates → i < most_gates → SoundGate (state_counts t) i (gate_at (ordered t) i)
   ordered-rules i used inside =
