@@ -38,7 +38,7 @@ overflow_cast-add_bound t c =
 
 pub add_bound-requires-then-counts-eq0 : goal.add_bound-requires-then-counts-eq0
 add_bound-requires-then-counts-eq0 t c =
-    record { most_le_sums_most = omega arith; bound_le_one = c.requires.reached.high_most; totals = c.requires.totals_2 }
+    record { most_le_sums_most = omega arith; bound_le_one = omega (arith, c.requires.reached.low_most, c.requires.reached.high_most); totals = record { room = c.requires.totals_2.room; each = λ p inside. omega (arith, c.requires.totals_2.each p inside) } }
 
 pub returns-then-counts-eq0 : goal.returns-then-counts-eq0
 returns-then-counts-eq0 t c =
@@ -79,7 +79,7 @@ overflow_add-i t c =
 
 pub factored-requires : goal.factored-requires
 factored-requires t c =
-    record { rounding_le_up = omega arith; at_most_one = (reached t c).table; i_lt_most_components = (inside t c); bound_le_one = (reached t c).low_most }
+    record { rounding_le_up = omega arith; at_most_one = (reached t c).table; i_lt_most_components = omega (arith, inside t c); bound_le_one = (reached t c).low_most }
 
 pub factored-requires-in-loop-s : goal.factored-requires-in-loop-s
 factored-requires-in-loop-s t c =
