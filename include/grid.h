@@ -1,4 +1,4 @@
-/* The calls of the planning package for C. Link target/staticlib/libexports.a.
+/* The calls of the planning package for C. Link crates/exports/out/libexports.a.
  *
  * A slice is a pointer and its length in elements. Bounds of a load, of the figures and of the chances go to a number each, by its pointer; the calls at
  * the end, with `_of` behind their names, take a struct of these numbers. A call answers a count or 0, or a refusal as its number below 0; the numbers

@@ -1,65 +1,65 @@
 #!/bin/sh
-# Proves the named crates and what they depend on. Standard error says which crates are being proved and how many are done.
+# Carries out check, run or lib of `rt` in a crate's folder, as `prove.sh check editing`. What is below the crate is proved and built first, and
+# what has not changed is not proved again. Standard error says which crate is being proved, and how far that is.
 cd "$(dirname "$0")/.." || exit 1
+command=$1
+named=$2
+log=target/prove.log
 
-# The named crates and all that they depend on, a line each.
+# The named crate behind all that it depends on, a line each, lowest first.
 needed() {
-    awk -v named="$*" '
+    awk -v named="$named" '
         function visit(crate, each, n, k) {
             if (seen[crate]++) return
-            print crate
             n = split(known[crate], each, " ")
             for (k = 1; k <= n; k++) if (each[k] in known) visit(each[k])
+            print crate
         }
         { sub(/#.*/, "") }
-        split($0, part, ":") == 2 { known[part[1]] = part[2]; all = all " " part[1] }
+        split($0, part, ":") == 2 { split(part[1], word, " "); known[word[1]] = part[2]; all = all " " word[1] }
         END {
-            n = split(named, wanted, " ")
-            for (k = 1; k <= n; k++) {
-                if (!(wanted[k] in known)) { print "there is no crate " wanted[k] "; crates.txt has:" all > "/dev/stderr"; exit 2 }
-                visit(wanted[k])
-            }
+            if (!(named in known)) { print "there is no crate " named "; crates.txt has:" all > "/dev/stderr"; exit 2 }
+            visit(named)
         }' crates.txt
 }
 
-# Says what is being proved whenever that changes, as long as this script lives. A crate's log is written anew when its proof starts, and its
-# verdict is the log's last line.
+# Says what is being proved whenever that changes, as long as this script lives. Building a library empties its folder and puts the stamp there last;
+# what `rt check` says of the crate itself, it says function by function.
 say_progress() {
     said=''
     while kill -0 $$ 2> /dev/null; do
-        proving='' proved=0
+        at=0 below=0 line=''
         for crate in $crates; do
-            log=target/log/$crate.out
-            [ "$log" -nt "$started" ] || continue
-            if grep -q "^rt: $crate " "$log"; then
-                proved=$((proved + 1))
-            else
-                proving="$proving $crate"
-            fi
+            at=$((at + 1))
+            library=crates/$crate/out/rlib
+            [ "$crate" != "$named" ] && [ ! -e "$library/stamp" ] || continue
+            below=$((below + 1))
+            [ "$library" -nt "$started" ] && line="proving $crate (crate $at of $count)"
         done
-        line="proving$proving ($proved of $count proved)"
-        [ -z "$proving" ] || [ "$line" = "$said" ] || echo "$line" >&2
+        [ "$below" -gt 0 ] || line=$(grep '^checked ' "$log" | tail -n 1)
+        [ "$below" -gt 0 ] || [ -n "$line" ] || line="proving $named (crate $count of $count)"
+        [ -z "$line" ] || [ "$line" = "$said" ] || echo "$line" >&2
         said=$line
         sleep 1
     done
 }
 
 command -v rt > /dev/null || { echo "rt is not on the PATH: it is the Rattle toolchain's prover" >&2; exit 2; }
-crates=$(needed "$@") || exit 2
+crates=$(needed) || exit 2
 count=$(echo "$crates" | wc -l)
-mkdir -p target/log
+mkdir -p target
 started=$(mktemp)
-all=target/log/prove.log
+: > "$log"
 say_progress > /dev/null &
 watcher=$!
-rt check "$@" > "$all" 2>&1
+(cd "crates/$named" && exec rt "$command") > "$log" 2>&1
 status=$?
 kill "$watcher"
 rm -f "$started"
 if [ "$status" -ne 0 ]; then
     {
-        grep -E '^rt: .*(NOT PROVED|FAILED)' "$all" || tail -n 3 "$all"
-        echo "not proved. The whole log is $all, and a crate's own is target/log/NAME.out; 'rt dev NAME' shows its open needs in seconds (see CONTRIBUTING.md)."
+        grep -E ': no proof|^error|did not build' "$log" || tail -n 3 "$log"
+        echo "not proved. The whole log is $log; 'rt check' in the crate's folder shows its open goals in seconds (see CONTRIBUTING.md)."
     } >&2
     exit "$status"
 fi
