@@ -1,7 +1,7 @@
 # The commands of this repository; `make help` lists them. The toolchain's `rt` must be on the PATH; tests, benchmark and the measure of the stack also use `cargo` or `cc`.
 .PHONY: report check test bench stack fmt help
 
-# In memory a check takes up to a third less time. A TMPDIR that is set stays.
+# Temporary files lie in memory where that is fit for them. A TMPDIR that is set stays.
 export TMPDIR := $(shell scripts/temporary.sh)
 
 # The study whose report `make report` prints.

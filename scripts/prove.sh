@@ -58,7 +58,7 @@ kill "$watcher"
 rm -f "$started"
 if [ "$status" -ne 0 ]; then
     {
-        grep -E ': no proof|^error|did not build' "$log" || tail -n 3 "$log"
+        grep -m 20 -E ': no proof|: error|^error|did not build' "$log" || tail -n 3 "$log"
         echo "not proved. The whole log is $log; 'rt check' in the crate's folder shows its open goals in seconds (see CONTRIBUTING.md)."
     } >&2
     exit "$status"

@@ -1,11 +1,11 @@
 #!/bin/sh
 # Prints the folder for temporary files: TMPDIR where it is set, else memory where that is fit for it, else the usual folder.
 #
-# A check writes thousands of small files, some 370 MB, and deletes them at its end. That of a crate with much below it takes seven to nine seconds in
-# memory where it takes eleven or twelve on a disk, and `make test` makes hundreds. `rt` also runs the built programs from there, as another user: so
-# it is the folder itself, which all users may enter, and not one below it, and none from which nothing may be run.
+# `rt` keeps the work of checks in the crates' out/, and writes there what a must-fail edit changes and what is proved of it, some 30 MB each. It also
+# runs the built programs from there, as another user: so it is the folder itself, which all users may enter, and not one below it, and none from which
+# nothing may be run.
 memory=/dev/shm
-need=4000000 # KB: four checks at a time, and what each of them holds besides
+need=4000000 # KB: several checks at a time, and what each of them holds besides
 
 if [ -n "$TMPDIR" ]; then
     echo "$TMPDIR"
