@@ -3,7 +3,6 @@ use mathlib.Core.Path.{refl}
 use native.Mathlib.Omega.{arith}
 use Rattle.exponential.specs.Worked.{line}
 use Rattle.exponential.proofs.Enclosed.{raised-most}
-use borrow.Author.Rules.{rules}
 use Rattle.exponential.proofs.line.Goals as goal
 
 pub returns : goal.returns

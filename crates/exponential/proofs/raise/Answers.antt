@@ -3,7 +3,6 @@ use mathlib.Core.Path.{sym}
 use native.Mathlib.Nat.{min-eq_left, min-eq_right}
 use native.Mathlib.Omega.{arith}
 use Rattle.exponential.specs.Worked.{raised}
-use borrow.Author.Rules.{rules}
 use Rattle.exponential.proofs.raise.Goals as goal
 
 pub returns-then-bound : goal.returns-then-bound

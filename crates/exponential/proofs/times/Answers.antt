@@ -2,7 +2,6 @@
 use mathlib.Core.Path.{refl}
 use borrow.Author.Tests.{eq-eqb, ne_eqb}
 use Rattle.exponential.specs.Worked.{times}
-use borrow.Author.Rules.{rules}
 use Rattle.exponential.proofs.times.Goals as goal
 
 pub returns-then-bit-eq0 : goal.returns-then-bit-eq0

@@ -1,8 +1,5 @@
 -- `joint_states::next_joint_state` meets its contract. A carry goes from the last component towards component 0 (`Carried`).
-use Prim.Native.Nat.{◌-◌}
-use mathlib.Core.Path.{sym, ◌∙◌}
-use native.Mathlib.Omega.{arith}
-use Rattle.joint_states.proofs.Steps.{Carried, carry-start, carry-more, carry-stops, carry-ends}
+use Rattle.joint_states.proofs.Steps.{Carried}
 use Rattle.joint_states.proofs.next_joint_state.Given as goal
 
 abbrev pub invariant-loop-i : goal.invariant-loop-i

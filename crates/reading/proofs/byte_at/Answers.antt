@@ -1,6 +1,5 @@
 -- `reading::byte_at` meets its contract: a study that ends too soon is refused by row 1.
 use Rattle.reading.specs.Reader.{byte}
-use borrow.Author.Rules.{rules}
 use Rattle.reading.proofs.byte_at.Goals as goal
 
 pub returns : goal.returns

@@ -4,7 +4,6 @@ use native.Mathlib.Omega.{arith}
 use Rattle.reading.specs.Reader.{as_read}
 use Rattle.reading.proofs.After.{as_read-refused}
 use Rattle.reading.proofs.Bytes.{byte-or-got, byte-or-ended}
-use borrow.Author.Rules.{rules}
 use Rattle.reading.proofs.byte_or.Goals as goal
 
 pub returns-then-at-bytes : goal.returns-then-at-bytes

@@ -5,7 +5,6 @@ use borrow.Author.Tests.{leb-false}
 use Rattle.reading.specs.Reader.{byte}
 use Rattle.reading.specs.Fields.{map_byte}
 use Rattle.reading.proofs.After.{kept-last}
-use Rattle.reading.proofs.Calls.{asks_nothing}
 use Rattle.reading.proofs.map_at.Goals as goal
 
 pub returns : goal.returns

@@ -3,7 +3,6 @@ use mathlib.Core.Path.{sym}
 use native.Mathlib.Omega.{arith}
 use Rattle.reading.specs.Reader.{as_read}
 use Rattle.reading.proofs.Bytes.{word_got, word-short}
-use Rattle.reading.proofs.Calls.{asks_nothing}
 use Rattle.reading.proofs.word_at.Goals as goal
 
 pub returns-then-bytes_left-lt4 : goal.returns-then-bytes_left-lt4

@@ -1,5 +1,4 @@
 -- `study::absent_gate` meets its contract: `zero_gate`'s with another threshold.
-use borrow.Author.Rules.{rules}
 use Rattle.study.specs.Zero.{zero_gate}
 use Rattle.study.specs.Absent.{absent_gate}
 use Rattle.study.proofs.absent_gate.Goals as goal

@@ -1,6 +1,6 @@
 -- `study::joint_states` meets its contract. What is multiplied so far, times the product of the counts that are left, is the whole product; with
 -- each count at most 4 it is at most 4 to the number of counts passed, so that it fits. The counts left fall.
-use Prim.Native.Nat.{ℕ, suc, ◌+◌, ◌-◌, ◌*◌, ◌^◌, ◌≤◌, ◌<◌}
+use Prim.Native.Nat.{ℕ, suc, ◌+◌, ◌*◌, ◌^◌, ◌≤◌, ◌<◌}
 use mathlib.Core.Path.{◌≡◌, sym, ap, ◌∙◌}
 use mathlib.Core.List.{List}
 use native.Mathlib.Nat.{one-mul, mul-one, mul_assoc, mul-le-mul, pow-suc, le_trans, pow-le-pow_right}

@@ -1,15 +1,10 @@
 -- `study::joint_states` meets its contract. What is multiplied so far, times the product of the counts that are left, is the whole product; with
 -- each count at most 4 it is at most 4 to the number of counts passed, so that it fits. The counts left fall.
-use Prim.Native.Nat.{ℕ, suc, ◌+◌, ◌-◌, ◌*◌, ◌^◌, ◌≤◌, ◌<◌}
-use mathlib.Core.Path.{◌≡◌, sym, ap, ◌∙◌}
+use Prim.Native.Nat.{ℕ, ◌-◌, ◌*◌, ◌^◌, ◌≤◌}
+use mathlib.Core.Path.{◌≡◌}
 use mathlib.Core.List.{List}
-use native.Mathlib.Nat.{one-mul, mul-one, mul_assoc, mul-le-mul, pow-suc, le_trans, pow-le-pow_right}
-use native.Mathlib.Numerals.{add-one}
-use native.Mathlib.Omega.{arith}
-use lib.ListN.{length, get_or, drop, drop_of_length-le}
-use lib.Seq.{drop-cons}
-use lib.Dec.{lit<}
-use Rattle.rules.specs.Limits.{most_components, most_states}
+use lib.ListN.{length, drop}
+use Rattle.rules.specs.Limits.{most_states}
 use Rattle.lists.specs.Product.{product}
 use Rattle.study.proofs.joint_states.Given as goal
 

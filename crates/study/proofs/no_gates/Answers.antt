@@ -1,5 +1,4 @@
 -- `study::no_gates` meets its contract: what is repeated is `zero_gate`'s.
-use borrow.Author.Rules.{rules}
 use Rattle.study.specs.Zero.{no_gates}
 use Rattle.study.proofs.no_gates.Goals as goal
 

@@ -1,5 +1,5 @@
 -- `study::state_counts` meets its contract. The array is filled from the front with the state counts (`Filling`); the places left fall.
-use Prim.Native.Nat.{ℕ, ◌+◌, ◌-◌}
+use Prim.Native.Nat.{ℕ, ◌+◌}
 use mathlib.Core.Path.{◌≡◌, sym, subst, ◌∙◌}
 use mathlib.Core.List.{List}
 use native.Mathlib.Omega.{arith}

@@ -1,7 +1,6 @@
 -- `study::states_of` meets its contract: past the end of the counts the definition gives 0.
 use mathlib.Core.Path.{sym}
 use lib.ListN.{get_or-eq_default}
-use borrow.Author.Rules.{rules}
 use Rattle.study.proofs.states_of.Goals as goal
 
 pub returns : goal.returns

@@ -1,5 +1,4 @@
 -- `study::zero_study` meets its contract: its arrays are the callees'.
-use borrow.Author.Rules.{rules}
 use Rattle.study.specs.Zero.{zero_study}
 use Rattle.study.proofs.zero_study.Goals as goal
 

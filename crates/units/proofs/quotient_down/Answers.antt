@@ -1,6 +1,5 @@
 -- `units::quotient_down` meets its contract: the code divides as the definition does.
 use mathlib.Core.Path.{refl}
-use borrow.Author.Rules.{rules}
 use Rattle.units.specs.Rounding.{quotient_down}
 use Rattle.units.proofs.quotient_down.Goals as goal
 

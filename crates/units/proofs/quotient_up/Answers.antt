@@ -1,6 +1,5 @@
 -- `units::quotient_up` meets its contract: the code adds and divides as the definition does, and the limits let the sum fit.
 use mathlib.Core.Path.{refl}
-use borrow.Author.Rules.{rules}
 use Rattle.units.specs.Rounding.{quotient_up}
 use Rattle.units.proofs.quotient_up.Goals as goal
 

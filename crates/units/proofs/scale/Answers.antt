@@ -5,7 +5,6 @@ use native.Mathlib.Nat.{mul-le-mul}
 use native.Mathlib.Omega.{arith}
 use Rattle.units.specs.One.{one}
 use Rattle.units.specs.Rounding.{scale}
-use borrow.Author.Rules.{rules}
 use Rattle.units.proofs.scale.Goals as goal
 use Rattle.units.proofs.scale.Goals.{Start}
 

@@ -1,5 +1,4 @@
 -- `rules::breach::first_of_four` meets its contract: the front of the list is judged before the rest.
-use borrow.Author.Rules.{rules}
 use Rattle.rules.proofs.Kept.{list-more}
 use Rattle.rules.proofs.breach.first_of_four.Goals as goal
 

@@ -1,5 +1,4 @@
 -- `rules::breach::first_of_three` meets its contract: the front of the list is judged before the rest.
-use borrow.Author.Rules.{rules}
 use Rattle.rules.proofs.Kept.{list-more, list-last}
 use Rattle.rules.proofs.breach.first_of_three.Goals as goal
 

@@ -1,7 +1,6 @@
 -- `rules::breach::refuse_outside` meets its contract: below the range at once, above it by `refuse`.
 use borrow.Author.Tests.{le-ltb, lt-ltb}
 use Rattle.rules.specs.Breach.{outside, refuse}
-use borrow.Author.Rules.{rules}
 use Rattle.rules.proofs.breach.refuse_outside.Goals as goal
 
 pub returns-then-n-lowest : goal.returns-then-n-lowest

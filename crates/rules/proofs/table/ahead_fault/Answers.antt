@@ -1,5 +1,4 @@
 -- `rules::table::ahead_fault` meets its contract: an input is compared with the very number of its gate.
-use borrow.Author.Rules.{rules}
 use Rattle.rules.proofs.table.ahead_fault.Goals as goal
 
 pub returns : goal.returns

@@ -1,5 +1,4 @@
 -- `rules::table::far_fault` meets its contract: the limit of the code is that of the definitions.
-use borrow.Author.Rules.{rules}
 use Rattle.rules.proofs.table.far_fault.Goals as goal
 
 pub returns : goal.returns

@@ -1,5 +1,4 @@
 -- `rules::table::input_count_fault` meets its contract: the row's breach, unless the field is absent.
-use borrow.Author.Rules.{rules}
 use Rattle.rules.proofs.table.input_count_fault.Goals as goal
 
 pub returns : goal.returns

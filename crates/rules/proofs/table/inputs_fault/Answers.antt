@@ -1,5 +1,4 @@
 -- `rules::table::inputs_fault` meets its contract: the least count of the code is that of the definition.
-use borrow.Author.Rules.{rules}
 use Rattle.rules.proofs.table.inputs_fault.Goals as goal
 
 pub returns : goal.returns

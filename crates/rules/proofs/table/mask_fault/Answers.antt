@@ -7,10 +7,9 @@ use native.Mathlib.Nat.{le_trans, one-mul}
 use native.Mathlib.Omega.{arith}
 use lib.Pow.{pow_mono, pow_pos, shl_exact, le_ones}
 use lib.Dec.{lit<, ltb}
-use borrow.Author.Rules.{rules}
 use borrow.Author.Tests.{le-ltb}
 use Rattle.rules.specs.Limits.{mask_bits}
-use Rattle.rules.specs.Breach.{refuse, outside}
+use Rattle.rules.specs.Breach.{outside}
 use Rattle.rules.proofs.table.mask_fault.Goals as goal
 
 -- a byte's mask is not above 2 ^ states - 1

@@ -1,5 +1,4 @@
 -- `rules::table::no_gate_fault` meets its contract: a loss gate is compared with the very number of gates.
-use borrow.Author.Rules.{rules}
 use Rattle.rules.proofs.table.no_gate_fault.Goals as goal
 
 pub returns : goal.returns

@@ -1,5 +1,4 @@
 -- `rules::table::node_fault` meets its contract: whether the component is asked above matters only for one that is in the study.
-use borrow.Author.Rules.{rules}
 use borrow.Author.Tests.{le-leb, lt-leb}
 use Rattle.rules.proofs.table.node_fault.Goals as goal
 

@@ -1,5 +1,4 @@
 -- `rules::table::states_fault` meets its contract: the limits of the code are those of the definitions.
-use borrow.Author.Rules.{rules}
 use Rattle.rules.proofs.table.states_fault.Goals as goal
 
 pub returns : goal.returns

@@ -1,5 +1,4 @@
 -- `rules::table::stray_fault` meets its contract: a map is compared with the very number of maps that is handed in.
-use borrow.Author.Rules.{rules}
 use Rattle.rules.proofs.table.stray_fault.Goals as goal
 
 pub returns : goal.returns

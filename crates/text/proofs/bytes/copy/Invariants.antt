@@ -1,9 +1,7 @@
 -- `text::bytes::copy` meets its contract. The bytes below k are written (`Writing`), and those from k on are still to come: their number falls.
 use Prim.Native.Nat.{◌-◌}
-use mathlib.Core.Path.{refl}
 use lib.ListN.{length}
-use Rattle.lists.proofs.Writing.{Writing, writing_start, writing_more, writing-room, writing-done, writing-end}
-use borrow.Author.Rules.{rules}
+use Rattle.lists.proofs.Writing.{Writing}
 use Rattle.text.proofs.bytes.copy.Given as goal
 
 abbrev pub invariant-loop-k : goal.invariant-loop-k

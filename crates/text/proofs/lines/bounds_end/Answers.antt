@@ -5,7 +5,6 @@ use native.Mathlib.Omega.{arith}
 use Rattle.text.specs.Letters.{letters}
 use Rattle.text.specs.Lines.{field, bounds_end}
 use Rattle.text.proofs.Pieces.{Pieces, pieces-start, pieces_room, pieces_more, pieces-done}
-use borrow.Author.Rules.{rules}
 use Rattle.text.proofs.lines.bounds_end.Goals as goal
 
 pub field-first-requires : goal.field-first-requires

@@ -2,7 +2,6 @@
 use native.Mathlib.Omega.{arith}
 use Rattle.text.specs.Lines.{bounds_line}
 use Rattle.text.proofs.Pieces.{pieces-start, pieces_room, pieces_more, pieces-done}
-use borrow.Author.Rules.{rules}
 use Rattle.text.proofs.lines.bounds_line.Goals as goal
 
 pub copy-next-requires : goal.copy-next-requires

@@ -4,7 +4,6 @@ use mathlib.Core.List.{List, [], ◌∷◌}
 use native.Mathlib.Omega.{arith}
 use Rattle.text.specs.Lines.{field, bounds_end, item_line}
 use Rattle.text.proofs.Pieces.{Pieces, pieces-start, pieces_room, pieces_more, pieces-done}
-use borrow.Author.Rules.{rules}
 use Rattle.text.proofs.lines.item_line.Goals as goal
 
 pub copy-next-requires : goal.copy-next-requires

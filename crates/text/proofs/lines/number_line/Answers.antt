@@ -5,7 +5,6 @@ use native.Mathlib.Omega.{arith}
 use Rattle.text.specs.Letters.{letters}
 use Rattle.text.specs.Lines.{field, number_line}
 use Rattle.text.proofs.Pieces.{Pieces, pieces-start, pieces_room, pieces_more, pieces-done}
-use borrow.Author.Rules.{rules}
 use Rattle.text.proofs.lines.number_line.Goals as goal
 
 pub copy-first-requires : goal.copy-first-requires

@@ -5,8 +5,7 @@ use native.Mathlib.Omega.{arith}
 use mathlib.Core.List.{List}
 use Rattle.text.proofs.Decimals.{decimal-one, tens, decimal-tens}
 use Rattle.text.proofs.Pieces.{Pieces, pieces-start, pieces_room, pieces_more, pieces-done}
-use borrow.Author.Rules.{rules}
-use Prim.Native.Nat.{ℕ, ◌<◌}
+use Prim.Native.Nat.{ℕ}
 use Rattle.text.proofs.numbers.+decimal.Goals as goal
 
 pub digit-requires : goal.digit-requires

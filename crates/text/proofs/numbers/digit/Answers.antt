@@ -1,6 +1,5 @@
 -- `text::numbers::digit` meets its contract: it writes one byte.
 use Rattle.text.proofs.Pieces.{wrote_one}
-use borrow.Author.Rules.{rules}
 use Rattle.text.proofs.numbers.digit.Goals as goal
 
 pub returns : goal.returns
