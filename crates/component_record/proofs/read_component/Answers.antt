@@ -1,7 +1,6 @@
 -- `component_record::read_component` meets its contract: the map, its fields, then the sum is judged.
 use Rattle.study.specs.Absent.{absent_component}
 use Rattle.reading.proofs.After.{after, stopped, going, judged-last}
-use Rattle.reading.proofs.Calls.{asks_nothing}
 use Rattle.component_record.specs.Component.{component}
 use Rattle.component_record.proofs.read_component.Goals as goal
 

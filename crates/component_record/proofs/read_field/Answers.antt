@@ -3,7 +3,6 @@ use mathlib.Core.Path.{◌≡◌, sym, ◌∙◌}
 use borrow.Author.Tests.{eq-eqb, ne_eqb}
 use Rattle.lists.specs.Bits.{digit}
 use Rattle.reading.proofs.After.{returned}
-use Rattle.reading.proofs.Calls.{asks_nothing}
 use Rattle.component_record.specs.Component.{component_field}
 use Rattle.component_record.proofs.read_field.Goals as goal
 

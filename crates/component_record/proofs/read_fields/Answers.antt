@@ -7,7 +7,6 @@ use lib.ListN.{drop}
 use Rattle.lists.specs.Bits.{digit}
 use Rattle.reading.specs.Fields.{where_left, fields}
 use Rattle.reading.specs.Reader.{Read, Reads}
-use Rattle.reading.proofs.Calls.{asks_nothing}
 use Rattle.reading.proofs.MapBits.{first-left, second-left, third-bit, fourth-left, four-fields}
 use Rattle.study.specs.declared.Component.{Component}
 use Rattle.component_record.specs.Component.{probability, component_field}

@@ -1,7 +1,6 @@
 -- `component_record::read_last` meets its contract: the field is read where one is left.
 use borrow.Author.Tests.{ne_eqb}
 use Rattle.reading.proofs.After.{returned}
-use Rattle.reading.proofs.Calls.{asks_nothing}
 use Rattle.component_record.proofs.read_last.Goals as goal
 
 pub returns-then-left-ne1 : goal.returns-then-left-ne1

@@ -1,6 +1,5 @@
 -- `component_record::read_probability` meets its contract: refusal 5 is judged, then the number is read and stored.
 use Rattle.reading.proofs.After.{after, judged, finished}
-use Rattle.reading.proofs.Calls.{asks_nothing}
 use Rattle.component_record.specs.Component.{probability}
 use Rattle.component_record.proofs.read_probability.Goals as goal
 

@@ -1,6 +1,5 @@
 -- `component_record::read_state_count` meets its contract: the byte is read, then its rule is judged.
 use Rattle.reading.proofs.After.{after, judged-last}
-use Rattle.reading.proofs.Calls.{asks_nothing}
 use Rattle.component_record.specs.Component.{state_count}
 use Rattle.component_record.proofs.read_state_count.Goals as goal
 

@@ -1,5 +1,4 @@
 -- `component_record::with_probability` meets its contract: each probability is chosen by the same test as in the definition.
-use Rattle.reading.proofs.Calls.{asks_nothing}
 use Rattle.component_record.proofs.with_probability.Goals as goal
 
 pub returns : goal.returns

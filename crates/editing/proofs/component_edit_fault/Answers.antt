@@ -1,6 +1,5 @@
 -- `editing::component_edit_fault` meets its contract: the callees judge the rows of the definition.
 use mathlib.Core.Path.{ap, ◌∙◌}
-use borrow.Author.Rules.{rules}
 use Rattle.study.specs.declared.Component.{Component}
 use Rattle.soundness.specs.Check.{probabilities_fault}
 use Rattle.editing.specs.Edits.{component_edit_fault}

@@ -1,5 +1,4 @@
 -- `editing::load_edit_fault` meets its contract: the callees judge the rows of the definition.
-use borrow.Author.Rules.{rules}
 use Rattle.editing.specs.Edits.{load_edit_fault}
 use Rattle.editing.proofs.Edited.{edit-judged}
 use Rattle.editing.proofs.load_edit_fault.Goals as goal

@@ -1,5 +1,4 @@
 -- `editing::set_customers` meets its contract: the breach is judged, the study made anew, and the one or the other answered.
-use borrow.Author.Rules.{rules}
 use Rattle.study.specs.declared.Load.{Load}
 use Rattle.study.specs.Edits.{with_customers, with_load}
 use Rattle.editing.specs.Edits.{customers_set}

@@ -1,5 +1,4 @@
 -- `editing::set_minutes` meets its contract: the breach is judged, the study made anew, and the one or the other answered.
-use borrow.Author.Rules.{rules}
 use Rattle.study.specs.declared.Load.{Load}
 use Rattle.study.specs.Edits.{with_minutes, with_load}
 use Rattle.editing.specs.Edits.{minutes_set}

@@ -1,5 +1,4 @@
 -- `editing::set_probabilities` meets its contract: the breach is judged, the study made anew, and the one or the other answered.
-use borrow.Author.Rules.{rules}
 use Rattle.study.specs.declared.Component.{Component}
 use Rattle.study.specs.Edits.{with_probabilities, with_component}
 use Rattle.editing.specs.Edits.{probabilities_set}

@@ -1,6 +1,5 @@
 -- `export_answers::refused` meets its contract: a byte fits, and so does the number below 0.
 use Rattle.export_answers.proofs.Signed.{minus-fits, minus_is}
-use borrow.Author.Rules.{rules}
 use Rattle.export_answers.proofs.refused.Goals as goal
 
 pub overflow_sub-result : goal.overflow_sub-result

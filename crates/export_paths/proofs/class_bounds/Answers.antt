@@ -1,7 +1,6 @@
 -- `export_paths::class_bounds` meets its contract: the call's own, for the study that the image holds.
 use mathlib.Core.Path.{◌∙◌}
 use Rattle.export_answers.proofs.Signed.{handed}
-use borrow.Author.Rules.{rules}
 use Rattle.export_paths.proofs.class_bounds.Goals as goal
 
 pub returns : goal.returns

@@ -1,7 +1,6 @@
 -- `export_survival::survival` meets its contract: each kind of answer by its own clause.
 use mathlib.Core.Path.{refl, sym, ◌∙◌}
 use Rattle.export_answers.proofs.Signed.{handed}
-use borrow.Author.Rules.{rules}
 use Rattle.export_survival.proofs.survival.Goals as goal
 
 pub returns-in-Chances : goal.returns-in-Chances

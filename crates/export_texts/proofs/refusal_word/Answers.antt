@@ -1,6 +1,5 @@
 -- `export_texts::refusal_word` meets its contract: the call's own.
 use Rattle.export_texts.proofs.Texts.{word-written}
-use borrow.Author.Rules.{rules}
 use Rattle.export_texts.proofs.refusal_word.Goals as goal
 
 pub returns : goal.returns

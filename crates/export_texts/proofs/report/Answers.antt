@@ -1,6 +1,5 @@
 -- `export_texts::report` meets its contract: the call's own.
 use Rattle.export_texts.proofs.Texts.{report-written}
-use borrow.Author.Rules.{rules}
 use Rattle.export_texts.proofs.report.Goals as goal
 
 pub returns : goal.returns

@@ -1,7 +1,6 @@
 -- `gate_order::judge_inputs` meets its contract: both rows are gone along, the first breach of order is the answer, and where there is none both counts hold.
 use Prim.Native.Nat.{ℕ, ◌+◌}
 use mathlib.Core.Path.{ap, ap₂, ◌∙◌}
-use borrow.Author.Rules.{rules}
 use Rattle.rules.specs.Breach.{first}
 use Rattle.rules.specs.Table.{unsound_fault}
 use Rattle.rules.proofs.Kept.{first-kept}

@@ -1,7 +1,6 @@
 -- `gate_order::put_in_order` meets its contract: both rows are put in order in their places, and their distinct inputs are counted.
 use Prim.Native.Nat.{ℕ, ◌+◌}
 use mathlib.Core.Path.{ap₂}
-use borrow.Author.Rules.{rules}
 use Rattle.gate_order.specs.Inputs.{input_count}
 use Rattle.gate_order.specs.Order.{in_order}
 use Rattle.gate_order.proofs.put_in_order.Goals as goal

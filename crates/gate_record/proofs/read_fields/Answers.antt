@@ -3,11 +3,9 @@
 use Prim.Native.Nat.{ℕ}
 use mathlib.Core.Path.{◌≡◌, ap, subst}
 use lib.ListN.{drop}
-use borrow.Author.Rules.{rules}
 use Rattle.lists.specs.Bits.{digit}
 use Rattle.reading.specs.Fields.{where_left, fields}
 use Rattle.reading.specs.Reader.{Read, Reads}
-use Rattle.reading.proofs.Calls.{asks_nothing}
 use Rattle.reading.proofs.MapBits.{first-left, second-left, third-left, three-fields}
 use Rattle.study.specs.declared.Gate.{Gate}
 use Rattle.gate_record.specs.Gate.{with_threshold, inputs, gate_field}

@@ -7,7 +7,6 @@ use borrow.Author.Rules.{rules}
 use Rattle.reading.specs.Fields.{fields, fields_by_map}
 use Rattle.reading.specs.Reader.{Read, Reads}
 use Rattle.reading.proofs.After.{stopped, going, finished, judged-last}
-use Rattle.reading.proofs.Calls.{asks_nothing}
 use Rattle.rules.specs.Limits.{gate_maps, most_tests, most_gate_inputs}
 use Rattle.rules.specs.Table.{threshold_fault}
 use Rattle.study.specs.declared.Gate.{Gate}

@@ -1,9 +1,7 @@
 -- `gate_record::read_threshold` meets its contract: the byte is read where the bit stands, and otherwise the threshold is the absent one.
 use mathlib.Core.Path.{refl, sym, ◌∙◌}
 use borrow.Author.Tests.{ne_eqb}
-use borrow.Author.Rules.{rules}
 use Rattle.reading.proofs.After.{returned, finished}
-use Rattle.reading.proofs.Calls.{asks_nothing}
 use Rattle.gate_record.specs.Gate.{with_threshold, threshold}
 use Rattle.gate_record.proofs.read_threshold.Goals as goal
 

@@ -2,7 +2,6 @@
 use Prim.Native.Nat.{ℕ}
 use mathlib.Core.List.{List}
 use Rattle.lent_text.proofs.Handed.{refused_over, over-room, handed-over}
-use borrow.Author.Rules.{rules}
 use Rattle.lent_text.proofs.hand_over.Goals as goal
 
 pub returns-then-fault-ne0 : goal.returns-then-fault-ne0

@@ -1,6 +1,5 @@
 -- `load_record::read_customers` meets its contract: the number is read and stored.
 use Rattle.reading.proofs.After.{finished}
-use Rattle.reading.proofs.Calls.{asks_nothing}
 use Rattle.load_record.specs.Load.{customers}
 use Rattle.load_record.proofs.read_customers.Goals as goal
 

@@ -4,7 +4,6 @@ use native.Mathlib.Omega.{arith}
 use borrow.Author.Tests.{eq-eqb, ne_eqb}
 use Rattle.lists.specs.Bits.{digit}
 use Rattle.reading.proofs.After.{returned}
-use Rattle.reading.proofs.Calls.{asks_nothing}
 use Rattle.load_record.specs.Load.{load_field}
 use Rattle.load_record.proofs.read_field.Goals as goal
 

@@ -7,7 +7,6 @@ use lib.ListN.{drop}
 use Rattle.lists.specs.Bits.{digit}
 use Rattle.reading.specs.Fields.{where_left, fields}
 use Rattle.reading.specs.Reader.{Read, Reads}
-use Rattle.reading.proofs.Calls.{asks_nothing}
 use Rattle.reading.proofs.MapBits.{first-left, second-left, third-left, three-fields}
 use Rattle.study.specs.declared.Load.{Load}
 use Rattle.load_record.specs.Load.{minutes, load_field}

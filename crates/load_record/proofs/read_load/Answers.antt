@@ -1,6 +1,5 @@
 -- `load_record::read_load` meets its contract: the map, then its fields.
 use Rattle.reading.proofs.After.{stopped, going}
-use Rattle.reading.proofs.Calls.{asks_nothing}
 use Rattle.load_record.specs.Load.{load}
 use Rattle.load_record.proofs.read_load.Goals as goal
 

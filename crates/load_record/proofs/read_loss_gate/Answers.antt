@@ -1,6 +1,5 @@
 -- `load_record::read_loss_gate` meets its contract: the byte is read, then its rule is judged.
 use Rattle.reading.proofs.After.{after, judged-last}
-use Rattle.reading.proofs.Calls.{asks_nothing}
 use Rattle.load_record.specs.Load.{loss_gate}
 use Rattle.load_record.proofs.read_loss_gate.Goals as goal
 

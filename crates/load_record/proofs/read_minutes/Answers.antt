@@ -1,6 +1,5 @@
 -- `load_record::read_minutes` meets its contract: the number is read and stored.
 use Rattle.reading.proofs.After.{finished}
-use Rattle.reading.proofs.Calls.{asks_nothing}
 use Rattle.load_record.specs.Load.{minutes}
 use Rattle.load_record.proofs.read_minutes.Goals as goal
 

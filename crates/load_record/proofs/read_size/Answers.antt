@@ -1,6 +1,5 @@
 -- `load_record::read_size` meets its contract: the number is read, then its rule is judged.
 use Rattle.reading.proofs.After.{after, judged-last}
-use Rattle.reading.proofs.Calls.{asks_nothing}
 use Rattle.load_record.specs.Load.{size}
 use Rattle.load_record.proofs.read_size.Goals as goal
 

@@ -2,7 +2,6 @@
 use mathlib.Core.Path.{sym, ◌∙◌}
 use Rattle.soundness.specs.Sound.{Sound}
 use Rattle.soundness.proofs.Judged.{unsound-first, sound-behind, next-first}
-use borrow.Author.Rules.{rules}
 use Rattle.meaning.proofs.judged_classes.Goals as goal
 
 pub returns-then-unsound-ne0 : goal.returns-then-unsound-ne0

@@ -3,7 +3,6 @@ use mathlib.Core.Path.{refl}
 use Rattle.fault_tree.specs.Classes.{classes}
 use Rattle.model.specs.Model.{classes_of}
 use Rattle.meaning.specs.Meaning.{model_of}
-use borrow.Author.Rules.{rules}
 use Rattle.meaning.proofs.put_classes.Goals as goal
 
 pub returns-in-Gates : goal.returns-in-Gates

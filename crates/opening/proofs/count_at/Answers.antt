@@ -3,7 +3,6 @@ use Rattle.rules.specs.Table.{count_fault}
 use Rattle.rules.proofs.Kept.{range-kept}
 use Rattle.reading.specs.Reader.{byte}
 use Rattle.reading.proofs.After.{kept-last}
-use Rattle.reading.proofs.Calls.{asks_nothing}
 use Rattle.opening.specs.Opening.{count}
 use Rattle.opening.proofs.count_at.Goals as goal
 

@@ -7,7 +7,6 @@ use lib.Seq.{length-take-le}
 use borrow.Author.Rules.{rules}
 use Rattle.rules.specs.Limits.{most_components}
 use Rattle.rules.specs.Table.{left_fault}
-use Rattle.reading.proofs.Calls.{asks_nothing}
 use Rattle.reading.specs.Reader.{Read, Reads, got, repeat}
 use Rattle.study.specs.declared.Gate.{Gate}
 use Rattle.study.specs.declared.Study.{Study}

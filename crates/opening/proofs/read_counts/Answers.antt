@@ -2,7 +2,6 @@
 use Prim.Native.Nat.{ℕ}
 use mathlib.Core.Path.{ap, ◌∙◌}
 use Rattle.rules.specs.Breach.{first}
-use Rattle.reading.proofs.Calls.{asks_nothing}
 use Rattle.opening.proofs.Counts.{counts-ahead}
 use Rattle.opening.proofs.read_counts.Goals as goal
 

@@ -1,5 +1,4 @@
 -- `opening::refused_opening` meets its contract: the study is `zero_study`'s.
-use Rattle.reading.proofs.Calls.{asks_nothing}
 use Rattle.opening.specs.Opening.{refused_opening}
 use Rattle.opening.proofs.refused_opening.Goals as goal
 

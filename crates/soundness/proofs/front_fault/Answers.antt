@@ -1,5 +1,4 @@
 -- `soundness::front_fault` meets its contract: the callees judge the rows of the definition.
-use borrow.Author.Rules.{rules}
 use Rattle.soundness.specs.Check.{front_fault}
 use Rattle.soundness.proofs.front_fault.Goals as goal
 

@@ -1,5 +1,4 @@
 -- `study_image::read_image` meets its contract: each field is the one at its place, unless the slice is too short.
-use borrow.Author.Rules.{rules}
 use borrow.Author.Tests.{lt-ltb, le-ltb}
 use Rattle.study_image.specs.Image.{study_in}
 use Rattle.study_image.proofs.read_image.Goals as goal

@@ -7,7 +7,6 @@ use Rattle.study_image.specs.Image.{study_fields, image_of}
 use Rattle.study_image.specs.Fits.{StudyFits}
 use Rattle.study_image.proofs.Owned.{study-fits}
 use Rattle.study_image.proofs.Widths.{image-long}
-use borrow.Author.Rules.{rules}
 use Rattle.study_image.proofs.write_image.Goals as goal
 
 pub copy-components_at-requires : goal.copy-components_at-requires

@@ -1,6 +1,5 @@
 -- `survival::chances` meets its contract as it stands: no bound is above one.
 use mathlib.Core.Path.{refl}
-use borrow.Author.Rules.{rules}
 use Rattle.survival.proofs.chances.Goals as goal
 
 pub returns : goal.returns

@@ -11,7 +11,6 @@ use Rattle.exponential.specs.Worked.{survival_of}
 use Rattle.survival.specs.Chances.{survival_fault, chances_by, survival_given}
 use Rattle.survival.specs.Promise.{Answers}
 use Rattle.survival.proofs.Promise.{survival-promises}
-use borrow.Author.Rules.{rules}
 use Rattle.survival.proofs.survival.Goals as goal
 
 -- an answer that is the one worked out keeps the promise

@@ -1,7 +1,4 @@
 -- `check_tools::hexadecimal::decode` meets its contract: there are at most two digits for each byte of the buffer.
-use Prim.Native.Nat.{◌≤◌, ◌*◌, ◌-◌}
-use mathlib.Core.Path.{◌≡◌}
-use lib.ListN.{length}
 use borrow.Author.Rules.{rules}
 use Rattle.io.proofs.Counting.{prefix_len_of_le}
 use Rattle.check_tools.proofs.hexadecimal.decode.Goals as goal

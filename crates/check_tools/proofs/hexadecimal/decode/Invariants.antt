@@ -2,8 +2,6 @@
 use Prim.Native.Nat.{◌≤◌, ◌*◌, ◌-◌}
 use mathlib.Core.Path.{◌≡◌}
 use lib.ListN.{length}
-use borrow.Author.Rules.{rules}
-use Rattle.io.proofs.Counting.{prefix_len_of_le}
 use Rattle.check_tools.proofs.hexadecimal.decode.Given as goal
 
 abbrev pub invariant-loop-i : goal.invariant-loop-i

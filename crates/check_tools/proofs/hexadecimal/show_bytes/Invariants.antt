@@ -1,7 +1,6 @@
 -- `check_tools::hexadecimal::show_bytes` is safe and ends: each byte leaves fewer.
 use Prim.Native.Nat.{◌-◌}
 use lib.ListN.{length}
-use borrow.Author.Rules.{rules}
 use Rattle.check_tools.proofs.hexadecimal.show_bytes.Given as goal
 
 abbrev pub invariant-loop-i : goal.invariant-loop-i

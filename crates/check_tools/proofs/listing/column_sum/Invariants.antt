@@ -1,7 +1,6 @@
 -- `check_tools::listing::column_sum` is safe and ends: the sum is at most 255 for each place passed.
 use Prim.Native.Nat.{◌≤◌, ◌*◌, ◌-◌}
 use lib.ListN.{length}
-use borrow.Author.Rules.{rules}
 use Rattle.check_tools.proofs.listing.column_sum.Given as goal
 
 abbrev pub invariant-loop-at : goal.invariant-loop-at

@@ -1,6 +1,5 @@
 -- `check_tools::listing::show_entries` is safe and ends: each entry leaves fewer bytes.
 use lib.ListN.{length}
-use borrow.Author.Rules.{rules}
 use Rattle.check_tools.proofs.listing.show_entries.Given as goal
 
 abbrev pub invariant-loop-rest : goal.invariant-loop-rest

@@ -2,7 +2,6 @@
 use mathlib.Core.Path.{sym}
 use native.Mathlib.Omega.{arith}
 use lib.Seq.{length-take-le}
-use borrow.Author.Rules.{rules}
 use Rattle.check_tools.proofs.listing.show_entry.Goals as goal
 
 pub slice_bounds-show_marks-end : goal.slice_bounds-show_marks-end

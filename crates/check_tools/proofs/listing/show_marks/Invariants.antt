@@ -1,7 +1,6 @@
 -- `check_tools::listing::show_marks` is safe and ends: each mark leaves fewer.
 use Prim.Native.Nat.{◌-◌}
 use lib.ListN.{length}
-use borrow.Author.Rules.{rules}
 use Rattle.check_tools.proofs.listing.show_marks.Given as goal
 
 abbrev pub invariant-loop-i : goal.invariant-loop-i

@@ -1,6 +1,5 @@
 -- `check_tools::listing::show_sums` is safe and ends: each column leaves fewer.
 use Prim.Native.Nat.{◌-◌}
-use borrow.Author.Rules.{rules}
 use Rattle.check_tools.proofs.listing.show_sums.Given as goal
 
 abbrev pub invariant-loop-column : goal.invariant-loop-column

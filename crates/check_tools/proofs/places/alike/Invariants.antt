@@ -1,7 +1,6 @@
 -- `check_tools::places::alike` meets its contract: so far no more places count than were looked at.
 use Prim.Native.Nat.{◌≤◌, ◌-◌}
 use lib.ListN.{length}
-use borrow.Author.Rules.{rules}
 use Rattle.check_tools.proofs.places.alike.Given as goal
 
 abbrev pub invariant-loop-i : goal.invariant-loop-i

@@ -1,6 +1,5 @@
 -- `check_tools::places::show_bounds` is safe and ends: each place leaves fewer.
 use Prim.Native.Nat.{◌-◌}
-use borrow.Author.Rules.{rules}
 use Rattle.check_tools.proofs.places.show_bounds.Given as goal
 
 abbrev pub invariant-loop-i : goal.invariant-loop-i

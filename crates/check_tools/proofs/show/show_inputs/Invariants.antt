@@ -1,7 +1,6 @@
 -- `check_tools::show::show_inputs` is safe and ends: each place leaves fewer.
 use Prim.Native.Nat.{◌-◌}
 use Rattle.rules.specs.Limits.{most_gate_inputs}
-use borrow.Author.Rules.{rules}
 use Rattle.check_tools.proofs.show.show_inputs.Given as goal
 
 abbrev pub invariant-loop-j : goal.invariant-loop-j

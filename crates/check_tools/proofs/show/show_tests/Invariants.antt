@@ -1,7 +1,6 @@
 -- `check_tools::show::show_tests` is safe and ends: each place leaves fewer.
 use Prim.Native.Nat.{◌-◌}
 use Rattle.rules.specs.Limits.{most_tests}
-use borrow.Author.Rules.{rules}
 use Rattle.check_tools.proofs.show.show_tests.Given as goal
 
 abbrev pub invariant-loop-j : goal.invariant-loop-j

@@ -1,6 +1,5 @@
 -- `checks::commands::open_front_parts` is safe and ends: each size leaves fewer.
 use Prim.Native.Nat.{◌-◌}
-use lib.ListN.{length}
 use borrow.Author.Rules.{rules}
 use Rattle.io.proofs.Counting.{prefix_len_of_le}
 use Rattle.checks.proofs.commands.open_front_parts.Goals as goal

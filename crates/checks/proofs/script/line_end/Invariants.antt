@@ -1,7 +1,6 @@
 -- `checks::script::line_end` meets its contract: the end lies between the start and the script's end, and each character leaves fewer.
 use Prim.Native.Nat.{◌≤◌, ◌-◌}
 use lib.ListN.{length}
-use borrow.Author.Rules.{rules}
 use Rattle.checks.proofs.script.line_end.Given as goal
 
 abbrev pub invariant-loop-end : goal.invariant-loop-end

@@ -1,7 +1,6 @@
 -- `checks::script::run` is safe and ends: each line leaves less of the script.
 use Prim.Native.Nat.{◌-◌}
 use lib.ListN.{length}
-use borrow.Author.Rules.{rules}
 use Rattle.checks.proofs.script.run.Given as goal
 
 abbrev pub invariant-loop-start : goal.invariant-loop-start

@@ -1,5 +1,4 @@
 -- `entries::class::class_from` meets its contract: the bytes at the place are those of the class.
-use borrow.Author.Rules.{rules}
 use Rattle.entries.proofs.ClassBytes.{read_at}
 use Rattle.entries.proofs.class.class_from.Goals as goal
 

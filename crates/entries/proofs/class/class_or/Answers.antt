@@ -3,7 +3,6 @@ use Prim.Native.Nat.{◌+◌, ◌≤◌}
 use mathlib.Core.Path.{sym, ◌∙◌}
 use native.Mathlib.Omega.{arith}
 use lib.ListN.{length}
-use borrow.Author.Rules.{rules}
 use Rattle.reading.specs.Reader.{as_read}
 use Rattle.reading.proofs.After.{as_read-refused}
 use Rattle.entries.specs.Entries.{class_bytes}

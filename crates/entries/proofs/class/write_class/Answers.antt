@@ -1,6 +1,5 @@
 -- `entries::class::write_class` meets its contract: its bytes stand at the place, and nothing else changes.
 use native.Mathlib.Omega.{arith}
-use borrow.Author.Rules.{rules}
 use Rattle.entries.proofs.ClassBytes.{code-long, code-written}
 use Rattle.entries.proofs.class.write_class.Goals as goal
 

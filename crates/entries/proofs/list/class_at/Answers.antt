@@ -1,7 +1,6 @@
 -- `entries::list::class_at` meets its contract: the entry is as long as it should be.
 use mathlib.Core.Path.{ap, ◌∙◌}
 use native.Mathlib.Omega.{arith}
-use borrow.Author.Rules.{rules}
 use Rattle.entries.specs.Entries.{class_borne}
 use Rattle.entries.proofs.Entries.{entry-at-long}
 use Rattle.entries.proofs.list.class_at.Goals as goal

@@ -1,5 +1,4 @@
 -- `entries::list::class_of` meets its contract: the class ends the entry.
-use borrow.Author.Rules.{rules}
 use Rattle.entries.specs.Entries.{class_borne}
 use Rattle.entries.proofs.list.class_of.Goals as goal
 

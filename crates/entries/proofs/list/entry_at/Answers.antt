@@ -1,7 +1,6 @@
 -- `entries::list::entry_at` meets its contract: the entry ends `width` places behind its start.
 use mathlib.Core.Path.{refl}
 use native.Mathlib.Nat.{add-sub_cancel_left}
-use borrow.Author.Rules.{rules}
 use Rattle.entries.proofs.list.entry_at.Goals as goal
 
 pub returns : goal.returns

@@ -1,7 +1,6 @@
 -- `entries::list::list_need` meets its contract: the longest list fits in memory.
 use native.Mathlib.Nat.{mul-le-mul}
 use native.Mathlib.Omega.{arith}
-use borrow.Author.Rules.{rules}
 use Prim.Native.Nat.{◌*◌, ◌≤◌}
 use mathlib.Core.Path.{refl}
 use Rattle.rules.specs.Limits.{most_components}

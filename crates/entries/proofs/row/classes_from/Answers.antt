@@ -1,7 +1,6 @@
 -- `entries::row::classes_from` meets its contract: the part ends `size` places behind its start.
 use mathlib.Core.Path.{refl}
 use native.Mathlib.Nat.{add-sub_cancel_left}
-use borrow.Author.Rules.{rules}
 use Rattle.entries.proofs.row.classes_from.Goals as goal
 
 pub returns : goal.returns

@@ -1,8 +1,7 @@
 -- `entries::row::same_classes` meets its contract. The places below i are compared (`SameLeft`).
 use Prim.Native.Nat.{◌-◌}
 use native.Mathlib.Omega.{arith}
-use lib.ListN.{length}
-use Rattle.lists.proofs.Same.{SameLeft, same_start, same_more, same-done}
+use Rattle.lists.proofs.Same.{same_start, same_more, same-done}
 use Rattle.entries.proofs.row.same_classes.Goals as goal
 
 pub loop-i-init : goal.loop-i-init

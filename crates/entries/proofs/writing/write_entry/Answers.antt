@@ -1,5 +1,4 @@
 -- `entries::writing::write_entry` meets its contract: the bytes of the class stand behind the marks.
-use borrow.Author.Rules.{rules}
 use Rattle.entries.proofs.ClassBehind.{marks-room, class-room, class-written}
 use Rattle.entries.proofs.writing.write_entry.Goals as goal
 

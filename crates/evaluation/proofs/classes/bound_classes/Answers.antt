@@ -2,7 +2,6 @@
 use mathlib.Core.Path.{sym, ◌∙◌}
 use Rattle.answers.specs.declared.outcome.Outcome.TheVariants.{Done, Refused}
 use Rattle.evaluation.proofs.PairPut.{pair-room, pair-refused, pair-done}
-use borrow.Author.Rules.{rules}
 use Rattle.evaluation.proofs.classes.bound_classes.Goals as goal
 
 pub returns-then-fault-ne0 : goal.returns-then-fault-ne0

@@ -1,7 +1,6 @@
 -- `evaluation::classes::write_classes` meets its contract: what is added stands at places that were cleared first.
 use Rattle.totals.proofs.Added.{cleared-totals}
 use Rattle.evaluation.proofs.Bounding.{lower-totals, upper-totals}
-use borrow.Author.Rules.{rules}
 use Rattle.evaluation.proofs.classes.write_classes.Goals as goal
 
 pub add_paths-requires : goal.add_paths-requires

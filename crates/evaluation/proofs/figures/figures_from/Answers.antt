@@ -11,7 +11,6 @@ use Rattle.answers.specs.declared.figures.FiguresAnswer.TheVariants.{Figures, Re
 use Rattle.answers.proofs.Answered.{answered-done, answered-refused}
 use Rattle.indices.specs.Figures.{customers_sum, figures_of}
 use Rattle.evaluation.specs.Figures.{figures_by}
-use borrow.Author.Rules.{rules}
 use Rattle.evaluation.proofs.figures.figures_from.Goals as goal
 
 -- with customers, the answer is the figures by them

@@ -1,7 +1,6 @@
 -- `evaluation::figures::figures_in` meets its contract: the losses are those of the model, whose loads are within their limits.
 use Rattle.model.specs.InHand.{model_held}
 use Rattle.evaluation.proofs.LossOrder.{fewer-losses}
-use borrow.Author.Rules.{rules}
 use Rattle.evaluation.proofs.figures.figures_in.Goals as goal
 
 pub figures_from-requires : goal.figures_from-requires

@@ -11,7 +11,6 @@ use Rattle.probability.specs.Totals.{lower_bounds, upper_bounds}
 use Rattle.evaluation.specs.Rooms.{pair_fault, paths_room}
 use Rattle.evaluation.proofs.Bounding.{hand-boundable}
 use Rattle.evaluation.proofs.PairPut.{pair-room, pair-refused, pair-done}
-use borrow.Author.Rules.{rules}
 use Rattle.evaluation.proofs.paths.bound_paths.Goals as goal
 
 pub returns-then-fault-ne0 : goal.returns-then-fault-ne0

@@ -1,5 +1,4 @@
 -- `evaluation::paths::write_paths` meets its contract: lower bounds go to the first slice, upper ones to the second.
-use borrow.Author.Rules.{rules}
 use Rattle.evaluation.proofs.paths.write_paths.Goals as goal
 
 pub returns : goal.returns

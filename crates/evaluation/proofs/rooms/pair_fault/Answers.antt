@@ -1,7 +1,6 @@
 -- `evaluation::rooms::pair_fault` meets its contract: the room of the lower slice is judged first.
 use Rattle.rules.proofs.Kept.{two-judged}
 use Rattle.evaluation.specs.Rooms.{pair_fault}
-use borrow.Author.Rules.{rules}
 use Rattle.evaluation.proofs.rooms.pair_fault.Goals as goal
 
 pub returns : goal.returns

@@ -2,7 +2,7 @@
 use Prim.Native.Nat.{◌-◌}
 use native.Mathlib.Omega.{arith}
 use Rattle.paths.proofs.Sizes.{part-inside}
-use Rattle.event_tree.proofs.Compared.{Compared, compared-start, compared-even, compared-more, compared-done}
+use Rattle.event_tree.proofs.Compared.{compared-start, compared-even, compared-more, compared-done}
 use Rattle.event_tree.proofs.blank.is_blank.Goals as goal
 
 pub part-first-requires : goal.part-first-requires

@@ -1,8 +1,6 @@
 -- `event_tree::blank::is_blank` meets its contract. The parts of the states below s are compared with that of state 0 (`Compared`).
 use Prim.Native.Nat.{◌-◌}
-use native.Mathlib.Omega.{arith}
-use Rattle.paths.proofs.Sizes.{part-inside}
-use Rattle.event_tree.proofs.Compared.{Compared, compared-start, compared-even, compared-more, compared-done}
+use Rattle.event_tree.proofs.Compared.{Compared}
 use Rattle.event_tree.proofs.blank.is_blank.Given as goal
 
 abbrev pub invariant-loop-s : goal.invariant-loop-s

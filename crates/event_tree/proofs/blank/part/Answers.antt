@@ -1,5 +1,4 @@
 -- `event_tree::blank::part` meets its contract: the classes of the states below s stand in front of it.
-use borrow.Author.Rules.{rules}
 use Rattle.event_tree.proofs.blank.part.Goals as goal
 
 pub returns : goal.returns

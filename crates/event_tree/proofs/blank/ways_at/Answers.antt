@@ -1,7 +1,6 @@
 -- `event_tree::blank::ways_at` meets its contract: each state has the same share of the block.
 use native.Mathlib.Omega.{arith}
 use Rattle.paths.proofs.Sizes.{states-some, part-size, whole_parts}
-use borrow.Author.Rules.{rules}
 use Rattle.event_tree.proofs.blank.ways_at.Goals as goal
 
 pub overflow_cast-size : goal.overflow_cast-size

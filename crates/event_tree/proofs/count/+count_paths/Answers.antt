@@ -5,7 +5,6 @@ use native.Mathlib.Omega.{arith}
 use lib.ListN.{length, take, drop}
 use Rattle.event_tree.proofs.Fork.{no-fork, fork, fork-fewer, fork-most, fork-inside, fork-block, fork-smaller}
 use Rattle.event_tree.proofs.Counted.{Counted, counted_start, counted-more, counted-most, counted-done}
-use Prim.Native.Nat.{ℕ, ◌<◌}
 use Rattle.event_tree.proofs.count.+count_paths.Goals as goal
 
 pub returns-then-counts-eq0 : goal.returns-then-counts-eq0

@@ -11,7 +11,6 @@ use Rattle.answers.specs.declared.counts.Listing.TheVariants.{Listed}
 use Rattle.answers.proofs.Answered.{answered-done, answered-refused, filled-done, filled-refused}
 use Rattle.paths.specs.Paths.{paths}
 use Rattle.paths.proofs.Need.{paths-few, room-is}
-use borrow.Author.Rules.{rules}
 use Rattle.event_tree.proofs.lent.list_lent.Goals as goal
 
 pub list_need-requires : goal.list_need-requires

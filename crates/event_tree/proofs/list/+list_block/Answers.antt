@@ -6,14 +6,13 @@ use mathlib.Core.List.{List, []}
 use native.Mathlib.Omega.{arith}
 use lib.ListN.{length, take, set, length-set}
 use lib.Seq.{length-take-le}
-use borrow.Author.Rules.{rules}
 use Rattle.lists.proofs.Puts.{Due, due-done, due-end}
 use Rattle.paths.specs.Paths.{paths}
 use Rattle.paths.proofs.Sizes.{one_class}
 use Rattle.event_tree.specs.Entries.{entries_behind}
 use Rattle.event_tree.proofs.Fork.{fork, fork-fewer, fork-most, fork-inside, fork-block}
-use Rattle.event_tree.proofs.Listed.{Listed, Way, listed_start, listed-way, listed-room, listed_more, listed-all, leaf_room, leaf-done}
-use Prim.Native.Nat.{ℕ, ◌<◌}
+use Rattle.event_tree.proofs.Listed.{Way, listed_start, listed-way, listed-room, listed_more, listed-all, leaf_room, leaf-done}
+use Prim.Native.Nat.{ℕ}
 use Rattle.event_tree.proofs.list.+list_block.Goals as goal
 
 pub slice_bounds-write_entry-end : goal.slice_bounds-write_entry-end

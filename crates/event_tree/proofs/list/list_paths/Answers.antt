@@ -4,7 +4,6 @@ use native.Mathlib.Omega.{arith}
 use lib.ListN.{length}
 use Rattle.paths.specs.Paths.{paths}
 use Rattle.event_tree.proofs.Behind.{unmarked}
-use borrow.Author.Rules.{rules}
 use Rattle.event_tree.proofs.list.list_paths.Goals as goal
 
 pub list_block-requires : goal.list_block-requires

@@ -5,7 +5,6 @@ use Rattle.loss_calls.specs.Figures.{figures_given}
 use Rattle.study_image.specs.Image.{study_in}
 use Rattle.export_answers.proofs.Signed.{handed-on}
 use Rattle.export_losses.specs.Figures.{TakesFigures}
-use borrow.Author.Rules.{rules}
 use Rattle.export_losses.proofs.interruptions.figures.Goals as goal
 
 pub returns : goal.returns

@@ -1,6 +1,5 @@
 -- `export_losses::interruptions::hand_caidi` meets its contract: each kind of CAIDI by its own clause.
 use mathlib.Core.Path.{refl}
-use borrow.Author.Rules.{rules}
 use Rattle.export_losses.proofs.interruptions.hand_caidi.Goals as goal
 
 pub returns-in-Bounds : goal.returns-in-Bounds

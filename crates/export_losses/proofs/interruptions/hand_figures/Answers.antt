@@ -9,7 +9,6 @@ use Rattle.answers.specs.declared.figures.Figures.{Figures as FigureValues}
 use Rattle.answers.specs.Told.{pair_values, caidi_values, figure_values}
 use Rattle.export_answers.specs.Answers.{pairs}
 use Rattle.export_answers.proofs.Signed.{handed}
-use borrow.Author.Rules.{rules}
 use Rattle.export_losses.proofs.interruptions.hand_figures.Goals as goal
 
 -- as many as have a pair among the values

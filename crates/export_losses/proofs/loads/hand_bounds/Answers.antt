@@ -1,7 +1,6 @@
 -- `export_losses::loads::hand_bounds` meets its contract: each kind of answer by its own clause.
 use mathlib.Core.Path.{refl, ◌∙◌}
 use Rattle.export_answers.proofs.Signed.{handed}
-use borrow.Author.Rules.{rules}
 use Rattle.export_losses.proofs.loads.hand_bounds.Goals as goal
 
 pub returns-in-Bounds : goal.returns-in-Bounds

@@ -5,7 +5,6 @@ use Rattle.loss_calls.specs.Bounds.{load_bounded}
 use Rattle.study_image.specs.Image.{study_in}
 use Rattle.export_answers.proofs.Signed.{handed-on}
 use Rattle.export_losses.specs.Losses.{TakesPair}
-use borrow.Author.Rules.{rules}
 use Rattle.export_losses.proofs.loads.load_bounds.Goals as goal
 
 pub returns : goal.returns

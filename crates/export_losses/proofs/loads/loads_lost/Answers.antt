@@ -3,7 +3,6 @@ use mathlib.Core.Path.{ap, ◌∙◌}
 use lib.IntN.{pos}
 use Rattle.export_answers.proofs.Signed.{handed-on}
 use Rattle.export_losses.specs.Losses.{CountsLost}
-use borrow.Author.Rules.{rules}
 use Rattle.export_losses.proofs.loads.loads_lost.Goals as goal
 
 pub returns : goal.returns

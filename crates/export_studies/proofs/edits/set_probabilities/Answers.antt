@@ -1,6 +1,5 @@
 -- `export_studies::edits::set_probabilities` meets its contract: the edited study is kept, and the slice of a sound study has the room.
 use Rattle.editing.specs.Edits.{probabilities_set, component_edit_fault}
-use borrow.Author.Rules.{rules}
 use Rattle.export_studies.proofs.Kept.{edit-keeps}
 use Rattle.export_studies.proofs.edits.set_probabilities.Goals as goal
 

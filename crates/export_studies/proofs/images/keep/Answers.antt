@@ -11,7 +11,6 @@ use Rattle.export_answers.proofs.Answering.{breach-answered}
 use Rattle.export_answers.proofs.Signed.{handed}
 use Rattle.export_studies.specs.Images.{keep_fault}
 use Rattle.export_studies.proofs.Kept.{keep-is, keep-room}
-use borrow.Author.Rules.{rules}
 use Rattle.export_studies.proofs.images.keep.Goals as goal
 
 pub returns-then-fault-ne0 : goal.returns-then-fault-ne0

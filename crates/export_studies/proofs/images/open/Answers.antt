@@ -1,7 +1,6 @@
 -- `export_studies::images::open` meets its contract: the opened study is kept.
 use Rattle.export_answers.proofs.Signed.{handed-on}
 use Rattle.export_studies.specs.Images.{KeepsStudy}
-use borrow.Author.Rules.{rules}
 use Rattle.export_studies.proofs.images.open.Goals as goal
 
 pub returns : goal.returns

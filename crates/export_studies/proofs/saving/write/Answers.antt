@@ -1,7 +1,6 @@
 -- `export_studies::saving::write` meets its contract: the call's own, for the study that the image holds.
 use Rattle.export_answers.proofs.Signed.{handed-on}
 use Rattle.export_studies.specs.Saving.{Saves}
-use borrow.Author.Rules.{rules}
 use Rattle.export_studies.proofs.saving.write.Goals as goal
 
 pub returns : goal.returns

@@ -2,7 +2,7 @@
 use Prim.Native.Nat.{◌-◌, ◌≤◌}
 use native.Mathlib.Omega.{arith}
 use Rattle.rules.specs.Limits.{most_loads}
-use Rattle.fault_tree.proofs.ClassBits.{Bits, bits-start, bits-more, bits-done}
+use Rattle.fault_tree.proofs.ClassBits.{bits-start, bits-more, bits-done}
 use Rattle.fault_tree.proofs.class.class_by.Goals as goal
 use Rattle.fault_tree.proofs.class.class_by.Goals.{In-loop-j}
 

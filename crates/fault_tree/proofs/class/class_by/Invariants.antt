@@ -1,8 +1,6 @@
 -- `fault_tree::class::class_by` meets its contract. The bits of the loads below j are set (`Bits`); the loads left fall.
-use Prim.Native.Nat.{◌-◌, ◌≤◌}
-use native.Mathlib.Omega.{arith}
-use Rattle.rules.specs.Limits.{most_loads}
-use Rattle.fault_tree.proofs.ClassBits.{Bits, bits-start, bits-more, bits-done}
+use Prim.Native.Nat.{◌-◌}
+use Rattle.fault_tree.proofs.ClassBits.{Bits}
 use Rattle.fault_tree.proofs.class.class_by.Given as goal
 
 abbrev pub invariant-loop-j : goal.invariant-loop-j

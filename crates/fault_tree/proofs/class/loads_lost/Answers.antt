@@ -1,6 +1,5 @@
 -- `fault_tree::class::loads_lost` meets its contract: a class has no bits but those of loads.
 use mathlib.Core.Path.{◌∙◌}
-use borrow.Author.Rules.{rules}
 use Rattle.fault_tree.proofs.OnesCounted.{ones-lost}
 use Rattle.fault_tree.proofs.class.loads_lost.Goals as goal
 

@@ -6,7 +6,6 @@ use lib.ListN.{get_or-eq_default}
 use borrow.Author.Tests.{eq-eqb, ne_eqb}
 use Rattle.rules.specs.Limits.{never}
 use Rattle.fault_tree.specs.Classes.{lost}
-use borrow.Author.Rules.{rules}
 use Rattle.fault_tree.proofs.class.lost.Goals as goal
 
 pub returns-then-l-eq-NEVER : goal.returns-then-l-eq-NEVER

@@ -1,11 +1,7 @@
 -- `fault_tree::rows::put_rows` meets its contract. The rows of the gates below i stand (`Rowed`), each without its repeats, since its inputs are in order; the
 -- gates left fall.
-use Prim.Native.Nat.{◌-◌, ◌<◌}
-use mathlib.Core.Path.{◌∙◌}
-use native.Mathlib.Omega.{arith}
-use borrow.Author.Rules.{rules}
-use Rattle.rules.specs.Limits.{most_gates}
-use Rattle.fault_tree.proofs.GateRows.{Rowed, rowed-start, rowed-room, rowed-more, rowed-done}
+use Prim.Native.Nat.{◌-◌}
+use Rattle.fault_tree.proofs.GateRows.{Rowed}
 use Rattle.fault_tree.proofs.rows.put_rows.Given as goal
 
 abbrev pub invariant-loop-i : goal.invariant-loop-i

@@ -1,19 +1,8 @@
 -- `fault_tree::table::fill_table` meets its contract. The classes of the joint states below k are set, and x is the one numbered k (`Tabled`); in x,
 -- the truths of the gates below i are set (`Evaluated`). The joint states left fall, and in each the gates left.
-use Prim.Native.Nat.{◌-◌, ◌<◌}
-use mathlib.Core.Path.{sym, ap, ◌∙◌}
-use mathlib.Core.Bool.{Bool}
-use mathlib.Core.List.{List}
-use native.Mathlib.Omega.{arith}
-use borrow.Author.Rules.{rules}
-use Rattle.lists.specs.Product.{product}
-use Rattle.rules.specs.Limits.{most_gates}
-use Rattle.soundness.proofs.Ranges.{loads-most, gates-most, joint-most, counts-inside, counts-small}
-use Rattle.fault_tree.specs.Classes.{class_by, class_of}
-use Rattle.fault_tree.proofs.GateRows.{row-true}
-use Rattle.fault_tree.proofs.SoundReadable.{gate-fits, row-readable}
-use Rattle.fault_tree.proofs.Tables.{Tabled, tabled_start, tabled-more, tabled-inside, tabled-long, tabled-done}
-use Rattle.fault_tree.proofs.GateTruths.{Evaluated, evaluated-start, evaluated-more, evaluated-long, evaluated-done}
+use Prim.Native.Nat.{◌-◌}
+use Rattle.fault_tree.proofs.Tables.{Tabled}
+use Rattle.fault_tree.proofs.GateTruths.{Evaluated}
 use Rattle.fault_tree.proofs.table.fill_table.Given as goal
 
 abbrev pub invariant-loop-i : goal.invariant-loop-i

@@ -8,7 +8,6 @@ use lib.ListN.{get_or}
 use Rattle.lists.specs.Bits.{bit}
 use Rattle.lists.proofs.Sums.{count_most}
 use Rattle.fault_tree.specs.Rows.{tests_at, gates_at, components_from, masks_from, inputs_from, row_tests, row_gates, row_true}
-use borrow.Author.Rules.{rules}
 use Rattle.fault_tree.proofs.truth.gate_true.Goals as goal
 
 tests-most : (rows : List ℕ) (at : ℕ) (x : List ℕ) → row_tests rows at x ≤ get_or rows (at + tests_at) 0

@@ -1,12 +1,8 @@
 -- `fault_tree::truth::true_gates` meets its contract. The gate inputs below j are counted (`Counted`) as the row has them; the inputs left fall.
 use Prim.Native.Nat.{ℕ, ◌+◌, ◌-◌}
-use mathlib.Core.Path.{refl}
 use mathlib.Core.Bool.{false}
-use native.Mathlib.Omega.{arith}
 use lib.ListN.{get_or}
-use Rattle.lists.proofs.Sums.{Counted, counted_start, counted-more, counted-most, counted-done}
-use Rattle.fault_tree.specs.Readable.{InputsReadable}
-use Rattle.fault_tree.specs.Rows.{gates_at, inputs_from, row_gates}
+use Rattle.lists.proofs.Sums.{Counted}
 use Rattle.fault_tree.proofs.truth.true_gates.Given as goal
 
 abbrev pub invariant-loop-j : goal.invariant-loop-j

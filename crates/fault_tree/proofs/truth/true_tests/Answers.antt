@@ -1,9 +1,8 @@
 -- `fault_tree::truth::true_tests` meets its contract. The tests below j are counted (`Counted`) as the row has them; the tests left fall.
-use Prim.Native.Nat.{ℕ, ◌+◌, ◌-◌, ◌<◌}
+use Prim.Native.Nat.{◌+◌, ◌-◌, ◌<◌}
 use native.Mathlib.Omega.{arith}
 use lib.ListN.{length, get_or}
-use Rattle.lists.specs.Bits.{bit}
-use Rattle.lists.proofs.Sums.{Counted, counted_start, counted-more, counted-most, counted-done}
+use Rattle.lists.proofs.Sums.{counted_start, counted-more, counted-most, counted-done}
 use Rattle.fault_tree.specs.Readable.{TestsReadable}
 use Rattle.fault_tree.specs.Rows.{tests_at, components_from, row_tests}
 use Rattle.fault_tree.proofs.truth.true_tests.Goals as goal

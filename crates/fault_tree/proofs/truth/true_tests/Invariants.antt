@@ -1,11 +1,8 @@
 -- `fault_tree::truth::true_tests` meets its contract. The tests below j are counted (`Counted`) as the row has them; the tests left fall.
-use Prim.Native.Nat.{ℕ, ◌+◌, ◌-◌, ◌<◌}
-use native.Mathlib.Omega.{arith}
-use lib.ListN.{length, get_or}
+use Prim.Native.Nat.{ℕ, ◌+◌, ◌-◌}
+use lib.ListN.{get_or}
 use Rattle.lists.specs.Bits.{bit}
-use Rattle.lists.proofs.Sums.{Counted, counted_start, counted-more, counted-most, counted-done}
-use Rattle.fault_tree.specs.Readable.{TestsReadable}
-use Rattle.fault_tree.specs.Rows.{tests_at, components_from, row_tests}
+use Rattle.lists.proofs.Sums.{Counted}
 use Rattle.fault_tree.proofs.truth.true_tests.Given as goal
 
 abbrev pub invariant-loop-j : goal.invariant-loop-j

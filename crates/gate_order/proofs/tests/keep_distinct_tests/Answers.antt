@@ -2,7 +2,6 @@
 -- distinct ones.
 use Prim.Native.Nat.{◌≤◌}
 use native.Mathlib.Omega.{arith}
-use borrow.Author.Rules.{rules}
 use Rattle.rules.specs.Limits.{most_tests}
 use Rattle.gate_order.proofs.Fronts.{front_long, fronts-long, tests-front, distinct-front}
 use Rattle.gate_order.proofs.tests.keep_distinct_tests.Goals as goal

@@ -1,6 +1,5 @@
 -- `gate_order::tests::order_tests` meets its contract: the front parts of the places that are lent are the tests (`Fronts`), and come back sorted.
 use native.Mathlib.Omega.{arith}
-use borrow.Author.Rules.{rules}
 use Rattle.rules.specs.Limits.{most_tests}
 use Rattle.gate_order.proofs.Fronts.{front_long, fronts-long, tests-front, sorted_front}
 use Rattle.gate_order.proofs.tests.order_tests.Goals as goal

@@ -3,7 +3,6 @@ use Rattle.rules.specs.Table.{inputs_fault}
 use Rattle.rules.proofs.Kept.{range-kept}
 use Rattle.reading.specs.Reader.{byte}
 use Rattle.reading.proofs.After.{kept-last}
-use Rattle.reading.proofs.Calls.{asks_nothing}
 use Rattle.gate_record.specs.Gate.{inputs_byte}
 use Rattle.gate_record.proofs.inputs.inputs_at.Goals as goal
 

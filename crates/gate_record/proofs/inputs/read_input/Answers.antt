@@ -1,6 +1,5 @@
 -- `gate_record::inputs::read_input` meets its contract: the number is read, and its rule is judged.
 use Rattle.reading.proofs.After.{after, judged-last}
-use Rattle.reading.proofs.Calls.{asks_nothing}
 use Rattle.gate_record.specs.Gate.{input}
 use Rattle.gate_record.proofs.inputs.read_input.Goals as goal
 

@@ -1,11 +1,9 @@
 -- `gate_record::inputs::read_inputs` meets its contract: where a field is left, the count is read and judged, then so many are read.
 use Prim.Native.Nat.{◌≤◌}
 use native.Mathlib.Omega.{arith}
-use borrow.Author.Rules.{rules}
 use borrow.Author.Tests.{ne_eqb}
 use Rattle.rules.specs.Limits.{most_gate_inputs}
 use Rattle.reading.proofs.After.{returned, stopped, going}
-use Rattle.reading.proofs.Calls.{asks_nothing}
 use Rattle.gate_record.specs.Gate.{inputs}
 use Rattle.gate_record.proofs.inputs.read_inputs.Goals as goal
 

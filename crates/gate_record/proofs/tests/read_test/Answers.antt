@@ -3,7 +3,6 @@ use Prim.Native.Nat.{ℕ}
 use mathlib.Core.Path.{◌∙◌, ap}
 use Rattle.rules.specs.Table.{mask_fault}
 use Rattle.reading.proofs.After.{after, judged, judged-last}
-use Rattle.reading.proofs.Calls.{asks_nothing}
 use Rattle.gate_record.specs.Gate.{test}
 use Rattle.gate_record.proofs.tests.read_test.Goals as goal
 

@@ -1,16 +1,12 @@
 -- `gate_record::tests::read_test_list` meets its contract. Each turn reads one test into its place, and stops at the first that is refused; those left give
 -- what the whole run gives (`RepeatLeft`), whatever the gate has beside them; what falls is their number.
-use Prim.Native.Nat.{ℕ, ◌-◌}
-use mathlib.Core.Path.{◌≡◌, refl, ◌∙◌}
+use Prim.Native.Nat.{◌-◌}
+use mathlib.Core.Path.{refl, ◌∙◌}
 use native.Mathlib.Omega.{arith}
-use lib.ListN.{length, length-set}
+use lib.ListN.{length-set}
 use Rattle.rules.specs.Breach.{first}
 use Rattle.reading.proofs.After.{kept-as}
-use Rattle.reading.proofs.Calls.{asks_nothing}
-use Rattle.reading.proofs.Repeats.{RepeatLeft, repeat-start, repeat-more, repeat-done, repeat-stopped}
-use Rattle.study.specs.declared.Gate.{Gate}
-use Rattle.gate_record.specs.Gate.{test}
-use Rattle.gate_record.specs.Places.{with_test_row}
+use Rattle.reading.proofs.Repeats.{repeat-start, repeat-more, repeat-done, repeat-stopped}
 use Rattle.gate_record.proofs.tests.read_test_list.Goals as goal
 
 pub loop-j-init : goal.loop-j-init

@@ -2,12 +2,10 @@
 use Prim.Native.Nat.{◌≤◌}
 use mathlib.Core.Path.{◌≡◌, sym, ◌∙◌}
 use native.Mathlib.Omega.{arith}
-use borrow.Author.Rules.{rules}
 use borrow.Author.Tests.{ne_eqb}
 use Rattle.lists.specs.Bits.{digit}
 use Rattle.rules.specs.Limits.{most_tests}
 use Rattle.reading.proofs.After.{returned, stopped, going}
-use Rattle.reading.proofs.Calls.{asks_nothing}
 use Rattle.gate_record.specs.Gate.{tests}
 use Rattle.gate_record.proofs.tests.read_tests.Goals as goal
 use Rattle.gate_record.proofs.tests.read_tests.Goals.{Else-map_digit-ne1}

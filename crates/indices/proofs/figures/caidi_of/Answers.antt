@@ -2,7 +2,6 @@
 use mathlib.Core.Path.{sym, ap, ◌∙◌}
 use Rattle.answers.specs.declared.figures.Caidi.TheVariants.{Bounds}
 use Rattle.indices.proofs.Stated.{caidi-not-stated, caidi-stated}
-use borrow.Author.Rules.{rules}
 use Rattle.indices.proofs.figures.caidi_of.Goals as goal
 
 pub returns-then-low-eq0 : goal.returns-then-low-eq0

@@ -3,7 +3,6 @@ use native.Mathlib.Omega.{arith}
 use Rattle.indices.specs.Parts.{sustained}
 use Rattle.indices.proofs.BySums.{sums-fit, figures-by-sums}
 use Rattle.indices.proofs.Ordering.{lower-most, loss-ordered}
-use borrow.Author.Rules.{rules}
 use Rattle.indices.proofs.figures.figures_of.Goals as goal
 
 pub sums_of-low-requires : goal.sums_of-low-requires

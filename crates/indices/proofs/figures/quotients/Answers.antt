@@ -1,5 +1,4 @@
 -- `indices::figures::quotients` meets its contract: the quotients are the callees'.
-use borrow.Author.Rules.{rules}
 use Rattle.indices.proofs.figures.quotients.Goals as goal
 
 pub returns : goal.returns

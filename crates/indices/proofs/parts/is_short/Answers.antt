@@ -1,5 +1,4 @@
 -- `indices::parts::is_short` meets its contract: the test is the callee's, of the load's minutes.
-use borrow.Author.Rules.{rules}
 use Rattle.indices.specs.Parts.{short}
 use Rattle.indices.proofs.parts.is_short.Goals as goal
 

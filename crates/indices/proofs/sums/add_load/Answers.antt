@@ -9,7 +9,6 @@ use Rattle.lists.proofs.SumOver.{counted-parted, counted-scaled}
 use Rattle.study.specs.declared.Load.{Load}
 use Rattle.indices.specs.Parts.{short, sustained}
 use Rattle.indices.specs.Sums.{plus_load}
-use borrow.Author.Rules.{rules}
 use Rattle.indices.proofs.sums.add_load.Goals as goal
 
 -- ---- it fits

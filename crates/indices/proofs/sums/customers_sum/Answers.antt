@@ -5,11 +5,10 @@ use mathlib.Core.Path.{◌≡◌, sym}
 use native.Mathlib.Omega.{arith}
 use lib.ListN.{length, take}
 use Rattle.rules.specs.Limits.{most_loads}
-use Rattle.indices.specs.Figures.{customers_served, customers_sum}
-use Rattle.indices.specs.Parts.{every}
+use Rattle.indices.specs.Figures.{customers_sum}
 use Rattle.indices.proofs.Front.{InUse, front_long, in_use}
 use Rattle.indices.proofs.Most.{served-few, customers-limited}
-use Rattle.indices.proofs.Summed.{Summed, summed-start, summed-more, summed-fits, summed-done}
+use Rattle.indices.proofs.Summed.{summed-start, summed-more, summed-fits, summed-done}
 use Rattle.indices.proofs.sums.customers_sum.Goals as goal
 use Rattle.indices.proofs.sums.customers_sum.Goals.{In-loop-j, Start}
 

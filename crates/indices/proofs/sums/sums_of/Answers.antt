@@ -5,7 +5,7 @@ use mathlib.Core.Path.{◌≡◌, sym}
 use native.Mathlib.Omega.{arith}
 use lib.ListN.{length, take}
 use Rattle.rules.specs.Limits.{most_loads}
-use Rattle.indices.proofs.Carried.{Carried, carried-start, carried-fits, carried-more, carried-done}
+use Rattle.indices.proofs.Carried.{carried-start, carried-fits, carried-more, carried-done}
 use Rattle.indices.proofs.Front.{InUse, front_long, in_use}
 use Rattle.indices.proofs.sums.sums_of.Goals as goal
 use Rattle.indices.proofs.sums.sums_of.Goals.{In-loop-j, Start}

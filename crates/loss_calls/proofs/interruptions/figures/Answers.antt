@@ -1,5 +1,4 @@
 -- `loss_calls::interruptions::figures` meets its contract: that of `figures_meant`, by the study's gates.
-use borrow.Author.Rules.{rules}
 use Rattle.loss_calls.proofs.interruptions.figures.Goals as goal
 
 pub returns : goal.returns

@@ -1,6 +1,5 @@
 -- `loss_calls::loads::load_breach` meets its contract: soundness is judged before the item.
 use Rattle.loss_calls.proofs.Judged.{load-judged}
-use borrow.Author.Rules.{rules}
 use Rattle.loss_calls.proofs.loads.load_breach.Goals as goal
 
 pub returns : goal.returns

@@ -11,7 +11,6 @@ use Rattle.rules.specs.Table.{width_fault}
 use Rattle.rules.proofs.Kept.{refuse-kept}
 use Rattle.component_record.specs.Component.{component}
 use Rattle.reading.proofs.After.{kept-last}
-use Rattle.reading.proofs.Calls.{asks_nothing}
 use Rattle.opening.specs.Opening.{component_after}
 use Rattle.opening.proofs.components.read_component_after.Goals as goal
 

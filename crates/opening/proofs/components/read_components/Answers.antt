@@ -1,24 +1,19 @@
 -- `opening::components::read_components` meets its contract. Each turn puts one record in its place, and stops at the first that is refused; the records left
 -- give what the whole run gives (`RepeatLeft`), and their number falls. `joint` is the number of joint states of the components placed, and the lent row has
 -- their state counts.
-use Prim.Native.Nat.{ℕ, ◌-◌, ◌≤◌, ◌*◌}
+use Prim.Native.Nat.{ℕ, ◌-◌, ◌*◌}
 use mathlib.Core.Path.{◌≡◌, refl, sym, ap, subst, ◌∙◌}
 use mathlib.Core.List.{List, [], ◌∷◌, ◌++◌}
 use native.Mathlib.Numerals.{add-one}
 use native.Mathlib.Omega.{arith}
 use lib.ListN.{length, take, length-set}
 use lib.Seq.{take-suc-set}
-use borrow.Author.Rules.{rules}
 use Rattle.lists.specs.Product.{product}
-use Rattle.rules.specs.Limits.{most_components, most_joint_states}
-use Rattle.reading.proofs.Calls.{asks_nothing}
-use Rattle.reading.proofs.Repeats.{RepeatLeft, repeat-start, repeat-done}
-use Rattle.study.specs.declared.Component.{Component}
+use Rattle.reading.proofs.Repeats.{repeat-start, repeat-done}
 use Rattle.study.specs.Joint.{states}
 use Rattle.study.specs.Zero.{no_components}
-use Rattle.opening.specs.Opening.{component_record, placing}
+use Rattle.opening.specs.Opening.{component_record}
 use Rattle.opening.proofs.Places.{placed, place-refused, states-placed, joint-placed}
-use Rattle.opening.proofs.components.read_components.Invariants.{ComponentsPlaced}
 use Rattle.opening.proofs.components.read_components.Goals as goal
 use Rattle.opening.proofs.components.read_components.Goals.{After-c-1}
 

@@ -1,23 +1,17 @@
 -- `opening::components::read_components` meets its contract. Each turn puts one record in its place, and stops at the first that is refused; the records left
 -- give what the whole run gives (`RepeatLeft`), and their number falls. `joint` is the number of joint states of the components placed, and the lent row has
 -- their state counts.
-use Prim.Native.Nat.{ℕ, ◌-◌, ◌≤◌, ◌*◌}
-use mathlib.Core.Path.{◌≡◌, refl, sym, ap, subst, ◌∙◌}
-use mathlib.Core.List.{List, [], ◌∷◌, ◌++◌}
-use native.Mathlib.Numerals.{add-one}
-use native.Mathlib.Omega.{arith}
-use lib.ListN.{length, take, length-set}
-use lib.Seq.{take-suc-set}
-use borrow.Author.Rules.{rules}
+use Prim.Native.Nat.{ℕ, ◌-◌, ◌≤◌}
+use mathlib.Core.Path.{◌≡◌}
+use mathlib.Core.List.{List}
+use lib.ListN.{length, take}
 use Rattle.lists.specs.Product.{product}
 use Rattle.rules.specs.Limits.{most_components, most_joint_states}
-use Rattle.reading.proofs.Calls.{asks_nothing}
-use Rattle.reading.proofs.Repeats.{RepeatLeft, repeat-start, repeat-done}
+use Rattle.reading.proofs.Repeats.{RepeatLeft}
 use Rattle.study.specs.declared.Component.{Component}
 use Rattle.study.specs.Joint.{states}
 use Rattle.study.specs.Zero.{no_components}
 use Rattle.opening.specs.Opening.{component_record, placing}
-use Rattle.opening.proofs.Places.{placed, place-refused, states-placed, joint-placed}
 use Rattle.opening.proofs.components.read_components.Given as goal
 
 -- i of n components are placed, so many joint states are theirs, and their state counts stand in a row

@@ -3,12 +3,8 @@
 use Prim.Native.Nat.{◌-◌}
 use mathlib.Core.Path.{refl}
 use native.Mathlib.Omega.{arith}
-use borrow.Author.Rules.{rules}
-use Rattle.reading.proofs.Calls.{asks_nothing}
-use Rattle.reading.proofs.Repeats.{RepeatLeft, repeat-start, repeat-done}
+use Rattle.reading.proofs.Repeats.{repeat-start, repeat-done}
 use Rattle.study.specs.Absent.{absent_gate}
-use Rattle.study.specs.Zero.{no_gates}
-use Rattle.opening.specs.Opening.{placing}
 use Rattle.opening.specs.Places.{gate_record_in_order}
 use Rattle.opening.proofs.Places.{placed, place-refused}
 use Rattle.opening.proofs.gates.read_gates.Goals as goal

@@ -1,16 +1,10 @@
 -- `opening::gates::read_gates` meets its contract. Each turn puts one record in its place, and stops at the first that is refused; the records left
 -- give what the whole run gives (`RepeatLeft`), and their number falls.
 use Prim.Native.Nat.{◌-◌}
-use mathlib.Core.Path.{refl}
-use native.Mathlib.Omega.{arith}
-use borrow.Author.Rules.{rules}
-use Rattle.reading.proofs.Calls.{asks_nothing}
-use Rattle.reading.proofs.Repeats.{RepeatLeft, repeat-start, repeat-done}
-use Rattle.study.specs.Absent.{absent_gate}
+use Rattle.reading.proofs.Repeats.{RepeatLeft}
 use Rattle.study.specs.Zero.{no_gates}
 use Rattle.opening.specs.Opening.{placing}
 use Rattle.opening.specs.Places.{gate_record_in_order}
-use Rattle.opening.proofs.Places.{placed, place-refused}
 use Rattle.opening.proofs.gates.read_gates.Given as goal
 
 abbrev pub invariant-loop-i : goal.invariant-loop-i

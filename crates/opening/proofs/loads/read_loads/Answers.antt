@@ -2,10 +2,8 @@
 -- give what the whole run gives (`RepeatLeft`), and their number falls.
 use Prim.Native.Nat.{◌-◌}
 use native.Mathlib.Omega.{arith}
-use Rattle.reading.proofs.Calls.{asks_nothing}
-use Rattle.reading.proofs.Repeats.{RepeatLeft, repeat-start, repeat-done}
-use Rattle.study.specs.Zero.{no_loads}
-use Rattle.opening.specs.Opening.{load_record, placing}
+use Rattle.reading.proofs.Repeats.{repeat-start, repeat-done}
+use Rattle.opening.specs.Opening.{load_record}
 use Rattle.opening.proofs.Places.{placed, place-refused}
 use Rattle.opening.proofs.loads.read_loads.Goals as goal
 

@@ -1,12 +1,9 @@
 -- `opening::loads::read_loads` meets its contract. Each turn puts one record in its place, and stops at the first that is refused; the records left
 -- give what the whole run gives (`RepeatLeft`), and their number falls.
 use Prim.Native.Nat.{◌-◌}
-use native.Mathlib.Omega.{arith}
-use Rattle.reading.proofs.Calls.{asks_nothing}
-use Rattle.reading.proofs.Repeats.{RepeatLeft, repeat-start, repeat-done}
+use Rattle.reading.proofs.Repeats.{RepeatLeft}
 use Rattle.study.specs.Zero.{no_loads}
 use Rattle.opening.specs.Opening.{load_record, placing}
-use Rattle.opening.proofs.Places.{placed, place-refused}
 use Rattle.opening.proofs.loads.read_loads.Given as goal
 
 abbrev pub invariant-loop-j : goal.invariant-loop-j

@@ -1,5 +1,4 @@
 -- `path_calls::classes::class_bounds` meets its contract: that of `classes_meant`, by the study's gates.
-use borrow.Author.Rules.{rules}
 use Rattle.path_calls.proofs.classes.class_bounds.Goals as goal
 
 pub returns : goal.returns

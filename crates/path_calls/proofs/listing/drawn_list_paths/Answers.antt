@@ -1,5 +1,4 @@
 -- `path_calls::listing::drawn_list_paths` meets its contract: that of `list_meant`, by the tree.
-use borrow.Author.Rules.{rules}
 use Rattle.path_calls.proofs.listing.drawn_list_paths.Goals as goal
 
 pub returns : goal.returns

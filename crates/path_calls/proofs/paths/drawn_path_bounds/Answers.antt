@@ -1,5 +1,4 @@
 -- `path_calls::paths::drawn_path_bounds` meets its contract: that of `paths_meant`, by the tree.
-use borrow.Author.Rules.{rules}
 use Rattle.path_calls.proofs.paths.drawn_path_bounds.Goals as goal
 
 pub returns : goal.returns

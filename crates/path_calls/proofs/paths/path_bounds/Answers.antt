@@ -1,5 +1,4 @@
 -- `path_calls::paths::path_bounds` meets its contract: that of `paths_meant`, by the study's gates.
-use borrow.Author.Rules.{rules}
 use Rattle.path_calls.proofs.paths.path_bounds.Goals as goal
 
 pub returns : goal.returns

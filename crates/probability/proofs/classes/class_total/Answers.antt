@@ -2,7 +2,7 @@
 use Prim.Native.Nat.{◌-◌}
 use native.Mathlib.Omega.{arith}
 use Rattle.probability.proofs.Boundable.{boundable-to}
-use Rattle.probability.proofs.OneClass.{OneClass, class-start, class-done}
+use Rattle.probability.proofs.OneClass.{class-start, class-done}
 use Rattle.probability.proofs.classes.class_total.Goals as goal
 
 pub loop-k-init : goal.loop-k-init

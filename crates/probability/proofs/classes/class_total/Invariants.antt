@@ -1,8 +1,6 @@
 -- `probability::classes::class_total` meets its contract. The entries below k are in the total (`OneClass`); the entries left fall.
 use Prim.Native.Nat.{◌-◌}
-use native.Mathlib.Omega.{arith}
-use Rattle.probability.proofs.Boundable.{boundable-to}
-use Rattle.probability.proofs.OneClass.{OneClass, class-start, class-done}
+use Rattle.probability.proofs.OneClass.{OneClass}
 use Rattle.probability.proofs.classes.class_total.Given as goal
 
 abbrev pub invariant-loop-k : goal.invariant-loop-k

@@ -1,6 +1,5 @@
 -- `probability::classes::with_entry` meets its contract: an entry that bears another class, and one that bears the class (`OneClass`).
 use native.Mathlib.Omega.{arith}
-use borrow.Author.Rules.{rules}
 use Rattle.probability.proofs.Boundable.{boundable-at}
 use Rattle.probability.proofs.OneClass.{other-borne, own-borne, paths-few, lower-most}
 use Rattle.probability.proofs.classes.with_entry.Goals as goal

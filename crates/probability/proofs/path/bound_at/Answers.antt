@@ -2,7 +2,6 @@
 use mathlib.Core.Path.{sym}
 use native.Mathlib.Omega.{arith}
 use Rattle.entries.proofs.Entries.{entry-at-long}
-use borrow.Author.Rules.{rules}
 use Rattle.probability.proofs.path.bound_at.Goals as goal
 
 pub path_bound-requires : goal.path_bound-requires

@@ -1,6 +1,5 @@
 -- `probability::path::factored` meets its contract: the two cases of the definition.
 use Rattle.probability.proofs.Factors.{blank-factor, settled-factor}
-use borrow.Author.Rules.{rules}
 use Rattle.probability.proofs.path.factored.Goals as goal
 
 pub returns-then-mark-eq-BLANK : goal.returns-then-mark-eq-BLANK

@@ -1,8 +1,7 @@
 -- `probability::path::path_bound` meets its contract. The bound has the factors of the components below i (`Factored`).
 use Prim.Native.Nat.{◌-◌}
 use native.Mathlib.Omega.{arith}
-use borrow.Author.Rules.{rules}
-use Rattle.probability.proofs.Factors.{Factored, factors-start, factors-more, factors-done}
+use Rattle.probability.proofs.Factors.{factors-start, factors-more, factors-done}
 use Rattle.probability.proofs.path.path_bound.Goals as goal
 
 pub loop-i-init : goal.loop-i-init

@@ -1,8 +1,6 @@
 -- `probability::path::path_bound` meets its contract. The bound has the factors of the components below i (`Factored`).
 use Prim.Native.Nat.{◌-◌}
-use native.Mathlib.Omega.{arith}
-use borrow.Author.Rules.{rules}
-use Rattle.probability.proofs.Factors.{Factored, factors-start, factors-more, factors-done}
+use Rattle.probability.proofs.Factors.{Factored}
 use Rattle.probability.proofs.path.path_bound.Given as goal
 
 abbrev pub invariant-loop-i : goal.invariant-loop-i

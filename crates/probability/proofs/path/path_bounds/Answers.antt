@@ -2,7 +2,7 @@
 use native.Mathlib.Omega.{arith}
 use Rattle.probability.proofs.Boundable.{boundable-at}
 use Prim.Native.Nat.{◌-◌}
-use Rattle.probability.proofs.Bounded.{Bounding, bounding-start, bounding-room, bounding-more, bounding-done}
+use Rattle.probability.proofs.Bounded.{bounding-start, bounding-room, bounding-more, bounding-done}
 use Rattle.probability.proofs.path.path_bounds.Goals as goal
 
 pub loop-k-init : goal.loop-k-init

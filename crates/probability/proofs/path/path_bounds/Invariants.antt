@@ -1,8 +1,6 @@
 -- `probability::path::path_bounds` meets its contract. The bounds of the paths below k are written (`Bounding`); the paths left fall.
-use native.Mathlib.Omega.{arith}
-use Rattle.probability.proofs.Boundable.{boundable-at}
 use Prim.Native.Nat.{◌-◌}
-use Rattle.probability.proofs.Bounded.{Bounding, bounding-start, bounding-room, bounding-more, bounding-done}
+use Rattle.probability.proofs.Bounded.{Bounding}
 use Rattle.probability.proofs.path.path_bounds.Given as goal
 
 abbrev pub invariant-loop-k : goal.invariant-loop-k

@@ -1,7 +1,6 @@
 -- `probability::probabilities::probability_at` meets its contract: past the end of the table the definition gives 0.
 use mathlib.Core.Path.{sym}
 use lib.ListN.{get_or-eq_default}
-use borrow.Author.Rules.{rules}
 use Rattle.probability.proofs.probabilities.probability_at.Goals as goal
 
 pub returns : goal.returns

@@ -3,8 +3,7 @@ use Prim.Native.Nat.{◌-◌}
 use mathlib.Core.Path.{refl}
 use native.Mathlib.Omega.{arith}
 use Rattle.entries.proofs.Entries.{entry_in}
-use Rattle.report_lines.proofs.Counts.{Counts, counts_start, counts-place, counts-few, counts-more, counts-done}
-use borrow.Author.Rules.{rules}
+use Rattle.report_lines.proofs.Counts.{counts_start, counts-place, counts-few, counts-more, counts-done}
 use Rattle.report_lines.proofs.class_list.count_paths.Goals as goal
 
 pub loop-k-init : goal.loop-k-init

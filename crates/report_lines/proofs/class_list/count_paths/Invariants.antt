@@ -1,10 +1,6 @@
 -- `report_lines::class_list::count_paths` meets its contract. The paths below k are counted, each at its class (`Counts`); the paths left fall.
 use Prim.Native.Nat.{◌-◌}
-use mathlib.Core.Path.{refl}
-use native.Mathlib.Omega.{arith}
-use Rattle.entries.proofs.Entries.{entry_in}
-use Rattle.report_lines.proofs.Counts.{Counts, counts_start, counts-place, counts-few, counts-more, counts-done}
-use borrow.Author.Rules.{rules}
+use Rattle.report_lines.proofs.Counts.{Counts}
 use Rattle.report_lines.proofs.class_list.count_paths.Given as goal
 
 abbrev pub invariant-loop-k : goal.invariant-loop-k

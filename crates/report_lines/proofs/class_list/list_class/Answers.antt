@@ -2,7 +2,6 @@
 use native.Mathlib.Omega.{arith}
 use Rattle.text.proofs.Pieces.{wrote_none, wrote_one}
 use Rattle.report_lines.proofs.Borne.{with_none, with-some}
-use borrow.Author.Rules.{rules}
 use Rattle.report_lines.proofs.class_list.list_class.Goals as goal
 
 pub returns-then-paths-eq0 : goal.returns-then-paths-eq0

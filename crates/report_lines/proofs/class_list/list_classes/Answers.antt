@@ -1,14 +1,10 @@
 -- `report_lines::class_list::list_classes` meets its contract. The classes below c are listed, each if it has a path (`Tabled`).
 use Prim.Native.Nat.{ℕ, ◌-◌, ◌<◌}
-use mathlib.Core.List.{List}
 use native.Mathlib.Omega.{arith}
 use lib.ListN.{get_or}
-use Rattle.text.proofs.Pieces.{Tabled, tabled_start, tabled-room, tabled-more, tabled-size, tabled-done}
+use Rattle.text.proofs.Pieces.{tabled_start, tabled-room, tabled-more, tabled-done}
 use Rattle.entries.specs.Entries.{class_places}
-use Rattle.report_lines.specs.Listing.{class_with}
 use Rattle.report_lines.proofs.Borne.{with_rows}
-use borrow.Author.Rules.{rules}
-use Rattle.report_lines.proofs.class_list.list_classes.Invariants.{row}
 use Rattle.report_lines.proofs.class_list.list_classes.Goals as goal
 
 pub loop-c-init : goal.loop-c-init

@@ -1,9 +1,7 @@
 -- `report_lines::class_text::class_lines` meets its contract. The lines of the classes below i of the list are written (`Tabled`).
 use Prim.Native.Nat.{◌-◌}
-use lib.ListN.{length}
-use Rattle.text.proofs.Pieces.{Tabled, tabled_start, tabled-room, tabled-more, tabled-size, tabled-done}
-use Rattle.report_lines.proofs.Listed.{class_line_at, class-lines-at}
-use borrow.Author.Rules.{rules}
+use Rattle.text.proofs.Pieces.{tabled_start, tabled-room, tabled-more, tabled-done}
+use Rattle.report_lines.proofs.Listed.{class-lines-at}
 use Rattle.report_lines.proofs.class_text.class_lines.Goals as goal
 
 pub loop-i-init : goal.loop-i-init

@@ -1,9 +1,8 @@
 -- `report_lines::class_text::class_lines` meets its contract. The lines of the classes below i of the list are written (`Tabled`).
 use Prim.Native.Nat.{◌-◌}
 use lib.ListN.{length}
-use Rattle.text.proofs.Pieces.{Tabled, tabled_start, tabled-room, tabled-more, tabled-size, tabled-done}
-use Rattle.report_lines.proofs.Listed.{class_line_at, class-lines-at}
-use borrow.Author.Rules.{rules}
+use Rattle.text.proofs.Pieces.{Tabled}
+use Rattle.report_lines.proofs.Listed.{class_line_at}
 use Rattle.report_lines.proofs.class_text.class_lines.Given as goal
 
 abbrev pub invariant-loop-i : goal.invariant-loop-i

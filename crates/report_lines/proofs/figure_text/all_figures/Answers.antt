@@ -6,7 +6,6 @@ use Rattle.text.specs.Letters.{letters}
 use Rattle.text.specs.Lines.{bounds_line}
 use Rattle.text.proofs.Pieces.{Pieces, pieces-start, pieces_room, pieces_more, pieces-done}
 use Rattle.report_lines.specs.Figures.{caidi_line, all_figures}
-use borrow.Author.Rules.{rules}
 use Rattle.report_lines.proofs.figure_text.all_figures.Goals as goal
 
 pub bounds_line-second-requires : goal.bounds_line-second-requires

@@ -1,6 +1,5 @@
 -- `report_lines::figure_text::caidi_line` meets its contract, stated or not.
 use Rattle.report_lines.specs.Figures.{caidi_line}
-use borrow.Author.Rules.{rules}
 use Rattle.report_lines.proofs.figure_text.caidi_line.Goals as goal
 
 pub bounds_line-requires : goal.bounds_line-requires

@@ -1,6 +1,5 @@
 -- `report_lines::figure_text::figure_lines` meets its contract, with customers and without.
 use Rattle.report_lines.specs.Figures.{figure_lines}
-use borrow.Author.Rules.{rules}
 use Rattle.report_lines.proofs.figure_text.figure_lines.Goals as goal
 
 pub all_figures-requires : goal.all_figures-requires

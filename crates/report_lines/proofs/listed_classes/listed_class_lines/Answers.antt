@@ -2,11 +2,9 @@
 use Prim.Native.Nat.{ℕ, ◌-◌}
 use mathlib.Core.List.{List}
 use native.Mathlib.Omega.{arith}
-use Rattle.text.proofs.Pieces.{Tabled, tabled_start, tabled-room, tabled-more, tabled-size, tabled-done}
-use Rattle.entries.specs.Entries.{class_places, entries_of}
-use Rattle.report_lines.specs.ListedClasses.{listed_line}
+use Rattle.text.proofs.Pieces.{tabled_start, tabled-room, tabled-more, tabled-done}
+use Rattle.entries.specs.Entries.{entries_of}
 use Rattle.report_lines.proofs.ListedClasses.{listed-lines}
-use borrow.Author.Rules.{rules}
 use Rattle.report_lines.proofs.listed_classes.listed_class_lines.Goals as goal
 
 pub loop-c-init : goal.loop-c-init

@@ -1,12 +1,8 @@
 -- `report_lines::listed_classes::listed_class_lines` meets its contract. The lines of the classes below c are written (`Tabled`).
-use Prim.Native.Nat.{ℕ, ◌-◌}
-use mathlib.Core.List.{List}
-use native.Mathlib.Omega.{arith}
-use Rattle.text.proofs.Pieces.{Tabled, tabled_start, tabled-room, tabled-more, tabled-size, tabled-done}
+use Prim.Native.Nat.{◌-◌}
+use Rattle.text.proofs.Pieces.{Tabled}
 use Rattle.entries.specs.Entries.{class_places, entries_of}
 use Rattle.report_lines.specs.ListedClasses.{listed_line}
-use Rattle.report_lines.proofs.ListedClasses.{listed-lines}
-use borrow.Author.Rules.{rules}
 use Rattle.report_lines.proofs.listed_classes.listed_class_lines.Given as goal
 
 abbrev pub invariant-loop-c : goal.invariant-loop-c

@@ -1,6 +1,5 @@
 -- `report_lines::listed_classes::listed_line` meets its contract: the total of the class says whether it has a line, and which.
 use native.Mathlib.Omega.{arith}
-use borrow.Author.Rules.{rules}
 use Rattle.text.proofs.Pieces.{wrote_none}
 use Rattle.report_lines.proofs.ListedClasses.{line-of-none, line-of-some}
 use Rattle.report_lines.proofs.listed_classes.listed_line.Goals as goal

@@ -1,6 +1,5 @@
 -- `report_lines::load_text::load_line` meets its contract: it is one line of an item.
 use Rattle.report_lines.specs.Loads.{load_line}
-use borrow.Author.Rules.{rules}
 use Rattle.report_lines.proofs.load_text.load_line.Goals as goal
 
 pub item_line-requires : goal.item_line-requires

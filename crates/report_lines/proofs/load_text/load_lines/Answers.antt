@@ -1,9 +1,8 @@
 -- `report_lines::load_text::load_lines` meets its contract. The lines of the loads below j are written (`Tabled`).
 use Prim.Native.Nat.{◌-◌}
 use native.Mathlib.Omega.{arith}
-use Rattle.text.proofs.Pieces.{Tabled, tabled_start, tabled-room, tabled-more, tabled-size, tabled-done}
-use Rattle.report_lines.specs.Loads.{load_line, load_lines}
-use borrow.Author.Rules.{rules}
+use Rattle.text.proofs.Pieces.{tabled_start, tabled-room, tabled-more, tabled-done}
+use Rattle.report_lines.specs.Loads.{load_lines}
 use Rattle.report_lines.proofs.load_text.load_lines.Goals as goal
 
 pub loop-j-init : goal.loop-j-init

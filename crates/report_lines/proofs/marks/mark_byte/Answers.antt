@@ -1,7 +1,6 @@
 -- `report_lines::marks::mark_byte` meets its contract, state or blank.
 use mathlib.Core.Path.{refl}
 use borrow.Author.Tests.{lt-ltb, le-ltb}
-use borrow.Author.Rules.{rules}
 use Rattle.report_lines.proofs.marks.mark_byte.Goals as goal
 
 pub returns-then-mark-lt-STATE_PLACES : goal.returns-then-mark-lt-STATE_PLACES

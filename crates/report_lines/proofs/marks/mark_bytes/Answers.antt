@@ -2,10 +2,9 @@
 use Prim.Native.Nat.{◌-◌, ◌<◌, ◌≤◌}
 use native.Mathlib.Omega.{arith}
 use lib.ListN.{length}
-use Rattle.lists.proofs.Writing.{Writing, writing_start, writing_more, writing-room, writing-done, writing-end}
+use Rattle.lists.proofs.Writing.{writing_start, writing_more, writing-room, writing-done, writing-end}
 use Rattle.report_lines.specs.Paths.{mark_bytes}
 use Rattle.report_lines.proofs.Marked.{marks-long, mark-is}
-use borrow.Author.Rules.{rules}
 use Rattle.report_lines.proofs.marks.mark_bytes.Goals as goal
 
 pub loop-i-init : goal.loop-i-init

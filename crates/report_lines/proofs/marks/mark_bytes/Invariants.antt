@@ -1,11 +1,7 @@
 -- `report_lines::marks::mark_bytes` meets its contract. The marks below i are written (`Writing`).
-use Prim.Native.Nat.{◌-◌, ◌<◌, ◌≤◌}
-use native.Mathlib.Omega.{arith}
-use lib.ListN.{length}
-use Rattle.lists.proofs.Writing.{Writing, writing_start, writing_more, writing-room, writing-done, writing-end}
+use Prim.Native.Nat.{◌-◌}
+use Rattle.lists.proofs.Writing.{Writing}
 use Rattle.report_lines.specs.Paths.{mark_bytes}
-use Rattle.report_lines.proofs.Marked.{marks-long, mark-is}
-use borrow.Author.Rules.{rules}
 use Rattle.report_lines.proofs.marks.mark_bytes.Given as goal
 
 abbrev pub invariant-loop-i : goal.invariant-loop-i

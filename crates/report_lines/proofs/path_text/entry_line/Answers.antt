@@ -2,7 +2,6 @@
 use native.Mathlib.Omega.{arith}
 use Rattle.text.proofs.Pieces.{pieces-start, pieces_room, pieces_more, pieces-done}
 use Rattle.report_lines.specs.Paths.{entry_line}
-use borrow.Author.Rules.{rules}
 use Rattle.report_lines.proofs.path_text.entry_line.Goals as goal
 
 pub copy-first-requires : goal.copy-first-requires

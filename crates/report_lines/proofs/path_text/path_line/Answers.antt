@@ -2,7 +2,6 @@
 use mathlib.Core.Path.{sym}
 use native.Mathlib.Omega.{arith}
 use Rattle.report_lines.specs.Paths.{path_line}
-use borrow.Author.Rules.{rules}
 use Rattle.report_lines.proofs.path_text.path_line.Goals as goal
 
 pub path_bound-lower-requires : goal.path_bound-lower-requires

@@ -13,7 +13,6 @@ use Rattle.evaluation.proofs.Bounding.{hand-boundable}
 use Rattle.report_lines.specs.ListedClasses.{listed_lines}
 use Rattle.report_text.specs.Report.{paths_text, classes_text, losses_text, model_text}
 use Rattle.report_text.proofs.Fits.{has_room, model-short}
-use borrow.Author.Rules.{rules}
 use Rattle.report_text.proofs.measuring.listed_text.Goals as goal
 
 -- ---- the needs

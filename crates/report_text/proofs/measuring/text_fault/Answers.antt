@@ -12,7 +12,6 @@ use Rattle.model.specs.InHand.{held_counts, model_held}
 use Rattle.model.specs.Model.{Model}
 use Rattle.report_text.specs.Report.{model_text}
 use Rattle.report_text.proofs.Fits.{model-short}
-use borrow.Author.Rules.{rules}
 use Rattle.report_text.proofs.measuring.text_fault.Goals as goal
 
 pub returns-then-room-lt-REPORT_BYTES : goal.returns-then-room-lt-REPORT_BYTES

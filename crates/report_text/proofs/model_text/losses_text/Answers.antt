@@ -14,7 +14,6 @@ use Rattle.report_lines.specs.Figures.{figure_lines}
 use Rattle.report_lines.specs.Loads.{load_lines}
 use Rattle.report_text.specs.Report.{losses_text}
 use Rattle.report_text.proofs.Tables.{loads-are, figures-are}
-use borrow.Author.Rules.{rules}
 use Rattle.report_text.proofs.model_text.losses_text.Goals as goal
 
 pub figures_from-answer-requires : goal.figures_from-answer-requires

@@ -6,7 +6,6 @@ use Rattle.text.proofs.Pieces.{Pieces, pieces-start, pieces_room, pieces_more, p
 use Rattle.model.specs.InHand.{model_held}
 use Rattle.model.specs.Model.{Model}
 use Rattle.report_text.specs.Report.{paths_text, classes_text, losses_text, model_text}
-use borrow.Author.Rules.{rules}
 use Rattle.report_text.proofs.model_text.model_text.Goals as goal
 
 -- ---- the needs

@@ -17,7 +17,6 @@ use Rattle.probability.specs.Bounded.{Boundable}
 use Rattle.evaluation.proofs.Bounding.{hand-boundable}
 use Rattle.report_lines.specs.Paths.{path_lines}
 use Rattle.report_text.specs.Report.{paths_text}
-use borrow.Author.Rules.{rules}
 use Rattle.report_text.proofs.model_text.paths_text.Goals as goal
 
 pub number_line-first-requires : goal.number_line-first-requires

@@ -7,7 +7,6 @@ use Rattle.text.specs.Lines.{field}
 use Rattle.text.proofs.Pieces.{Pieces, pieces-start, pieces_room, pieces_more, pieces-done}
 use Rattle.words.specs.Words.{refusal_word}
 use Rattle.report_text.specs.Report.{refused_text}
-use borrow.Author.Rules.{rules}
 use Rattle.report_text.proofs.refusing.refused_text.Goals as goal
 
 pub copy-first-requires : goal.copy-first-requires

@@ -1,7 +1,6 @@
 -- `report_text::reporting::report` meets its contract: what opening answers decides what is reported.
 use Rattle.report_text.proofs.Opened.{opened-study}
 use Rattle.report_text.proofs.Reported.{opened-reported, unopened-reported}
-use borrow.Author.Rules.{rules}
 use Rattle.report_text.proofs.reporting.report.Goals as goal
 
 pub sound_report-requires : goal.sound_report-requires

@@ -1,16 +1,10 @@
 -- `soundness::components::components_fault` meets its contract. Each turn judges one place, after the first breach so far (`FirstLeft`); the places left fall.
 use Prim.Native.Nat.{ℕ, ◌-◌}
-use mathlib.Core.Path.{◌≡◌}
-use native.Mathlib.Omega.{arith}
 use lib.ListN.{get_or}
-use borrow.Author.Rules.{rules}
-use Rattle.rules.specs.Breach.{first, in_use}
 use Rattle.rules.specs.Limits.{most_components}
-use Rattle.rules.specs.Table.{states_fault, unused_fault}
-use Rattle.rules.proofs.Firsts.{FirstLeft, first-start, first_more, first_done}
-use Rattle.study.specs.declared.Component.{Component}
+use Rattle.rules.proofs.Firsts.{FirstLeft}
 use Rattle.study.specs.Zero.{zero_component}
-use Rattle.soundness.specs.Check.{probabilities_fault, component_place_fault, component_fault, unused_component_fault, components_fault}
+use Rattle.soundness.specs.Check.{component_place_fault}
 use Rattle.soundness.proofs.components.components_fault.Given as goal
 
 abbrev pub invariant-loop-i : goal.invariant-loop-i

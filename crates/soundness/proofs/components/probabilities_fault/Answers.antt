@@ -1,5 +1,4 @@
 -- `soundness::components::probabilities_fault` meets its contract: the callees judge the rows of the definition.
-use borrow.Author.Rules.{rules}
 use Rattle.soundness.specs.Check.{probabilities_fault}
 use Rattle.soundness.proofs.components.probabilities_fault.Goals as goal
 

@@ -1,7 +1,6 @@
 -- `soundness::gates::gate_fault` meets its contract: the counts, the places and the vote are judged in turn.
 use mathlib.Core.Path.{◌∙◌}
 use mathlib.Core.List.{[], ◌∷◌}
-use borrow.Author.Rules.{rules}
 use Rattle.rules.specs.Breach.{first_breach}
 use Rattle.soundness.specs.Check.{gate_fault}
 use Rattle.soundness.proofs.gates.gate_fault.Goals as goal

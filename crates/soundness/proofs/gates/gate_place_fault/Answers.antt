@@ -1,6 +1,5 @@
 -- `soundness::gates::gate_place_fault` meets its contract: a place below the count is judged as a gate, and any other as an unused one.
 use mathlib.Core.Path.{ap₂, ◌∙◌}
-use borrow.Author.Rules.{rules}
 use borrow.Author.Tests.{lt-ltb, le-ltb}
 use Rattle.rules.specs.Breach.{first}
 use Rattle.soundness.specs.Check.{unused_gate_fault, gate_place_fault}

@@ -1,12 +1,8 @@
 -- `soundness::gates::gates_fault` meets its contract. Each turn judges one place, after the first breach so far (`FirstLeft`); the places left fall.
-use Prim.Native.Nat.{ℕ, ◌-◌}
+use Prim.Native.Nat.{◌-◌}
 use native.Mathlib.Omega.{arith}
-use lib.ListN.{get_or}
-use borrow.Author.Rules.{rules}
 use Rattle.soundness.specs.Check.{gates_fault, gate_place_fault}
-use Rattle.rules.specs.Limits.{most_gates}
-use Rattle.rules.proofs.Firsts.{FirstLeft, first-start, first_more, first_done}
-use Rattle.study.specs.Places.{no_gate}
+use Rattle.rules.proofs.Firsts.{first-start, first_more, first_done}
 use Rattle.soundness.proofs.gates.gates_fault.Goals as goal
 
 pub loop-i-init : goal.loop-i-init

@@ -1,11 +1,9 @@
 -- `soundness::gates::gates_fault` meets its contract. Each turn judges one place, after the first breach so far (`FirstLeft`); the places left fall.
 use Prim.Native.Nat.{ℕ, ◌-◌}
-use native.Mathlib.Omega.{arith}
 use lib.ListN.{get_or}
-use borrow.Author.Rules.{rules}
-use Rattle.soundness.specs.Check.{gates_fault, gate_place_fault}
+use Rattle.soundness.specs.Check.{gate_place_fault}
 use Rattle.rules.specs.Limits.{most_gates}
-use Rattle.rules.proofs.Firsts.{FirstLeft, first-start, first_more, first_done}
+use Rattle.rules.proofs.Firsts.{FirstLeft}
 use Rattle.study.specs.Places.{no_gate}
 use Rattle.soundness.proofs.gates.gates_fault.Given as goal
 

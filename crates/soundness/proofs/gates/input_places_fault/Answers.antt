@@ -1,6 +1,5 @@
 -- `soundness::gates::input_places_fault` meets its contract: the places of tests and of gate inputs are judged in turn.
 use mathlib.Core.Path.{ap₂, ◌∙◌}
-use borrow.Author.Rules.{rules}
 use Rattle.rules.specs.Breach.{first}
 use Rattle.soundness.specs.Check.{input_places_fault}
 use Rattle.soundness.proofs.gates.input_places_fault.Goals as goal

@@ -2,7 +2,6 @@
 -- threshold is not looked at.
 use Prim.Native.Nat.{ℕ}
 use mathlib.Core.Path.{ap, ap₂, ◌∙◌}
-use borrow.Author.Rules.{rules}
 use Rattle.rules.specs.Breach.{first}
 use Rattle.rules.specs.Table.{threshold_fault}
 use Rattle.rules.proofs.Kept.{first-behind}

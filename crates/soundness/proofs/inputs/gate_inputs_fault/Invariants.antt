@@ -1,12 +1,10 @@
 -- `soundness::inputs::gate_inputs_fault` meets its contract. No place so far is broken (`FirstLeft`), and the first that is ends the loop; the places left
 -- fall.
 use Prim.Native.Nat.{ℕ, ◌-◌}
-use native.Mathlib.Omega.{arith}
 use lib.ListN.{get_or}
-use borrow.Author.Rules.{rules}
 use Rattle.rules.specs.Limits.{most_gate_inputs}
-use Rattle.rules.proofs.Firsts.{FirstLeft, first-start, none_more, next-first, first_done}
-use Rattle.soundness.specs.Check.{input_place_fault, gate_inputs_fault}
+use Rattle.rules.proofs.Firsts.{FirstLeft}
+use Rattle.soundness.specs.Check.{input_place_fault}
 use Rattle.soundness.proofs.inputs.gate_inputs_fault.Given as goal
 
 abbrev pub invariant-loop-j : goal.invariant-loop-j

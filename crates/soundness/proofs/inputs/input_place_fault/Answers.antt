@@ -1,5 +1,4 @@
 -- `soundness::inputs::input_place_fault` meets its contract: whether the place is in use decides by which rule it is judged.
-use borrow.Author.Rules.{rules}
 use borrow.Author.Tests.{lt-ltb, le-ltb}
 use Rattle.soundness.specs.Check.{input_place_fault}
 use Rattle.soundness.proofs.inputs.input_place_fault.Goals as goal

@@ -1,11 +1,8 @@
 -- `soundness::inputs::tests_fault` meets its contract. No place so far is broken (`FirstLeft`), and the first that is ends the loop; the places left fall.
-use Prim.Native.Nat.{ℕ, ◌-◌}
+use Prim.Native.Nat.{◌-◌}
 use native.Mathlib.Omega.{arith}
-use lib.ListN.{get_or}
-use borrow.Author.Rules.{rules}
-use Rattle.rules.specs.Limits.{most_tests}
-use Rattle.rules.proofs.Firsts.{FirstLeft, first-start, none_more, next-first, first_done}
-use Rattle.soundness.specs.Check.{test_place_fault, tests_fault}
+use Rattle.rules.proofs.Firsts.{first-start, none_more, next-first, first_done}
+use Rattle.soundness.specs.Check.{tests_fault}
 use Rattle.soundness.proofs.inputs.tests_fault.Goals as goal
 
 pub loop-j-init : goal.loop-j-init

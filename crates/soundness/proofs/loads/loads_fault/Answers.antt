@@ -1,11 +1,7 @@
 -- `soundness::loads::loads_fault` meets its contract. Each turn judges one place, after the first breach so far (`FirstLeft`); the places left fall.
-use Prim.Native.Nat.{ℕ, ◌-◌}
+use Prim.Native.Nat.{◌-◌}
 use native.Mathlib.Omega.{arith}
-use lib.ListN.{get_or}
-use borrow.Author.Rules.{rules}
-use Rattle.rules.specs.Limits.{most_loads}
-use Rattle.rules.proofs.Firsts.{FirstLeft, first-start, first_more, first_done}
-use Rattle.study.specs.Zero.{zero_load}
+use Rattle.rules.proofs.Firsts.{first-start, first_more, first_done}
 use Rattle.soundness.specs.Check.{load_place_fault, load_fault, unused_load_fault, loads_fault}
 use Rattle.soundness.proofs.loads.loads_fault.Goals as goal
 

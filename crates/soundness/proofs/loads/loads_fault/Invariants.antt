@@ -1,12 +1,10 @@
 -- `soundness::loads::loads_fault` meets its contract. Each turn judges one place, after the first breach so far (`FirstLeft`); the places left fall.
 use Prim.Native.Nat.{ℕ, ◌-◌}
-use native.Mathlib.Omega.{arith}
 use lib.ListN.{get_or}
-use borrow.Author.Rules.{rules}
 use Rattle.rules.specs.Limits.{most_loads}
-use Rattle.rules.proofs.Firsts.{FirstLeft, first-start, first_more, first_done}
+use Rattle.rules.proofs.Firsts.{FirstLeft}
 use Rattle.study.specs.Zero.{zero_load}
-use Rattle.soundness.specs.Check.{load_place_fault, load_fault, unused_load_fault, loads_fault}
+use Rattle.soundness.specs.Check.{load_place_fault}
 use Rattle.soundness.proofs.loads.loads_fault.Given as goal
 
 abbrev pub invariant-loop-j : goal.invariant-loop-j

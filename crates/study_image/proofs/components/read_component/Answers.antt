@@ -1,5 +1,4 @@
 -- `study_image::components::read_component` meets its contract: each number is the one at its place.
-use borrow.Author.Rules.{rules}
 use Rattle.study_image.specs.Image.{byte_in}
 use Rattle.study_image.specs.Places.{component_place}
 use Rattle.study_image.proofs.components.read_component.Goals as goal

@@ -1,8 +1,6 @@
 -- `study_image::components::read_components` meets its contract. The component places below i are read (`RecordsRead`).
 use Prim.Native.Nat.{◌-◌}
-use Rattle.rules.specs.Limits.{most_components}
-use Rattle.study_image.specs.Image.{component_in}
-use Rattle.study_image.proofs.Reading.{RecordsRead, records-start, records-more, records-done}
+use Rattle.study_image.proofs.Reading.{records-start, records-more, records-done}
 use borrow.Author.Rules.{rules}
 use Rattle.study_image.proofs.components.read_components.Goals as goal
 

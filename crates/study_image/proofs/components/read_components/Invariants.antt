@@ -2,8 +2,7 @@
 use Prim.Native.Nat.{◌-◌}
 use Rattle.rules.specs.Limits.{most_components}
 use Rattle.study_image.specs.Image.{component_in}
-use Rattle.study_image.proofs.Reading.{RecordsRead, records-start, records-more, records-done}
-use borrow.Author.Rules.{rules}
+use Rattle.study_image.proofs.Reading.{RecordsRead}
 use Rattle.study_image.proofs.components.read_components.Given as goal
 
 abbrev pub invariant-loop-i : goal.invariant-loop-i

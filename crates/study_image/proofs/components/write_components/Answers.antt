@@ -1,11 +1,6 @@
 -- `study_image::components::write_components` meets its contract. The rows of the components below i are written (`Tabled`).
-use Prim.Native.Nat.{ℕ, ◌-◌}
-use lib.ListN.{get_or}
-use borrow.Author.Rules.{rules}
-use Rattle.rules.specs.Limits.{most_components}
-use Rattle.study.specs.Zero.{zero_component}
-use Rattle.text.proofs.Pieces.{Tabled, tabled_start, tabled-room, tabled-more, tabled-size, tabled-done}
-use Rattle.study_image.specs.Image.{component_row}
+use Prim.Native.Nat.{◌-◌}
+use Rattle.text.proofs.Pieces.{tabled_start, tabled-room, tabled-more, tabled-done}
 use Rattle.study_image.proofs.components.write_components.Goals as goal
 
 pub loop-i-init : goal.loop-i-init

@@ -6,7 +6,6 @@ use lib.ListN.{length, drop, length-drop}
 use lib.Seq.{length-take-le}
 use Rattle.lists.proofs.Puts.{put_whole}
 use Rattle.study_image.specs.Image.{bytes_in}
-use borrow.Author.Rules.{rules}
 use Rattle.study_image.proofs.fields.read_row.Goals as goal
 
 pub returns : goal.returns

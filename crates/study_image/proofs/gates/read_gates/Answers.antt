@@ -1,8 +1,6 @@
 -- `study_image::gates::read_gates` meets its contract. The gate places below i are read (`RecordsRead`).
 use Prim.Native.Nat.{◌-◌}
-use Rattle.rules.specs.Limits.{most_gates}
-use Rattle.study_image.specs.Image.{gate_in}
-use Rattle.study_image.proofs.Reading.{RecordsRead, records-start, records-more, records-done}
+use Rattle.study_image.proofs.Reading.{records-start, records-more, records-done}
 use borrow.Author.Rules.{rules}
 use Rattle.study_image.proofs.gates.read_gates.Goals as goal
 

@@ -1,11 +1,6 @@
 -- `study_image::gates::write_gates` meets its contract. The rows of the gates below i are written (`Tabled`).
-use Prim.Native.Nat.{ℕ, ◌-◌}
-use lib.ListN.{get_or}
-use borrow.Author.Rules.{rules}
-use Rattle.rules.specs.Limits.{most_gates}
-use Rattle.study.specs.Places.{no_gate}
-use Rattle.text.proofs.Pieces.{Tabled, tabled_start, tabled-room, tabled-more, tabled-size, tabled-done}
-use Rattle.study_image.specs.Image.{gate_row}
+use Prim.Native.Nat.{◌-◌}
+use Rattle.text.proofs.Pieces.{tabled_start, tabled-room, tabled-more, tabled-done}
 use Rattle.study_image.proofs.gates.write_gates.Goals as goal
 
 pub loop-i-init : goal.loop-i-init

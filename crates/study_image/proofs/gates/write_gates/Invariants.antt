@@ -1,10 +1,9 @@
 -- `study_image::gates::write_gates` meets its contract. The rows of the gates below i are written (`Tabled`).
 use Prim.Native.Nat.{ℕ, ◌-◌}
 use lib.ListN.{get_or}
-use borrow.Author.Rules.{rules}
 use Rattle.rules.specs.Limits.{most_gates}
 use Rattle.study.specs.Places.{no_gate}
-use Rattle.text.proofs.Pieces.{Tabled, tabled_start, tabled-room, tabled-more, tabled-size, tabled-done}
+use Rattle.text.proofs.Pieces.{Tabled}
 use Rattle.study_image.specs.Image.{gate_row}
 use Rattle.study_image.proofs.gates.write_gates.Given as goal
 

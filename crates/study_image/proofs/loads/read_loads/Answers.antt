@@ -1,8 +1,6 @@
 -- `study_image::loads::read_loads` meets its contract. The load places below j are read (`RecordsRead`).
 use Prim.Native.Nat.{◌-◌}
-use Rattle.rules.specs.Limits.{most_loads}
-use Rattle.study_image.specs.Image.{load_in}
-use Rattle.study_image.proofs.Reading.{RecordsRead, records-start, records-more, records-done}
+use Rattle.study_image.proofs.Reading.{records-start, records-more, records-done}
 use borrow.Author.Rules.{rules}
 use Rattle.study_image.proofs.loads.read_loads.Goals as goal
 

@@ -2,8 +2,7 @@
 use Prim.Native.Nat.{◌-◌}
 use Rattle.rules.specs.Limits.{most_loads}
 use Rattle.study_image.specs.Image.{load_in}
-use Rattle.study_image.proofs.Reading.{RecordsRead, records-start, records-more, records-done}
-use borrow.Author.Rules.{rules}
+use Rattle.study_image.proofs.Reading.{RecordsRead}
 use Rattle.study_image.proofs.loads.read_loads.Given as goal
 
 abbrev pub invariant-loop-j : goal.invariant-loop-j

@@ -1,11 +1,6 @@
 -- `study_image::loads::write_loads` meets its contract. The rows of the loads below j are written (`Tabled`).
-use Prim.Native.Nat.{ℕ, ◌-◌}
-use lib.ListN.{get_or}
-use borrow.Author.Rules.{rules}
-use Rattle.rules.specs.Limits.{most_loads}
-use Rattle.study.specs.Zero.{zero_load}
-use Rattle.text.proofs.Pieces.{Tabled, tabled_start, tabled-room, tabled-more, tabled-size, tabled-done}
-use Rattle.study_image.specs.Image.{load_row}
+use Prim.Native.Nat.{◌-◌}
+use Rattle.text.proofs.Pieces.{tabled_start, tabled-room, tabled-more, tabled-done}
 use Rattle.study_image.proofs.loads.write_loads.Goals as goal
 
 pub loop-j-init : goal.loop-j-init

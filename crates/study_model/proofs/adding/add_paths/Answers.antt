@@ -3,7 +3,6 @@ use native.Mathlib.Omega.{arith}
 use Rattle.model.proofs.InHand.{held-inside}
 use Rattle.study_model.proofs.ClassFront.{cut_inside}
 use Rattle.study_model.proofs.Reached.{Slices, slices-reached, slices-bring}
-use borrow.Author.Rules.{rules}
 use Rattle.study_model.proofs.adding.add_paths.Goals as goal
 
 pub counts_in_use-counts-requires : goal.counts_in_use-counts-requires

@@ -3,7 +3,6 @@ use mathlib.Core.Path.{sym, ap}
 use native.Mathlib.Omega.{arith}
 use lib.ListN.{take}
 use lib.Seq.{length-take-le}
-use borrow.Author.Rules.{rules}
 use Rattle.study_model.proofs.block.class_block.Goals as goal
 
 pub slice_bounds-result-end : goal.slice_bounds-result-end

@@ -1,7 +1,6 @@
 -- `study_model::listing::list_lent` meets its contract: the state counts in use, and the front of the table, are a block of the model (`Cut`).
 use native.Mathlib.Omega.{arith}
 use Rattle.study_model.proofs.ClassFront.{Cut, cut_inside, cut-listable, cut-paths}
-use borrow.Author.Rules.{rules}
 use Rattle.study_model.proofs.listing.list_lent.Goals as goal
 
 pub counts_in_use-counts-requires : goal.counts_in_use-counts-requires

@@ -1,6 +1,5 @@
 -- `study_model::listing::list_whole` meets its contract: a buffer with room for any list is not refused.
 use Rattle.study_model.proofs.ListRoom.{list_held, list-taken}
-use borrow.Author.Rules.{rules}
 use Rattle.study_model.proofs.listing.list_whole.Goals as goal
 
 pub returns-in-Listed : goal.returns-in-Listed

@@ -5,7 +5,7 @@ use native.Mathlib.Omega.{arith}
 use borrow.Author.Rules.{rules}
 use lib.ListN.{length}
 use Rattle.rules.specs.Limits.{most_components}
-use Rattle.study_model.proofs.TableFilled.{Filled, filled-start, filled-room, filled_more, filled-done}
+use Rattle.study_model.proofs.TableFilled.{filled-start, filled-room, filled_more, filled-done}
 use Rattle.study_model.proofs.probabilities.probability_table.Goals as goal
 
 pub loop-i-init : goal.loop-i-init

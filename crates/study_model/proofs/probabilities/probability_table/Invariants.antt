@@ -1,11 +1,7 @@
 -- `study_model::probabilities::probability_table` meets its contract. The probabilities of the components below i are written (`Filled`); the components left fall.
 use Prim.Native.Nat.{◌-◌}
-use mathlib.Core.Path.{◌≡◌, refl}
-use native.Mathlib.Omega.{arith}
-use borrow.Author.Rules.{rules}
-use lib.ListN.{length}
 use Rattle.rules.specs.Limits.{most_components}
-use Rattle.study_model.proofs.TableFilled.{Filled, filled-start, filled-room, filled_more, filled-done}
+use Rattle.study_model.proofs.TableFilled.{Filled}
 use Rattle.study_model.proofs.probabilities.probability_table.Given as goal
 
 abbrev pub invariant-loop-i : goal.invariant-loop-i

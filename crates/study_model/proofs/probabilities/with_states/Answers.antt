@@ -1,6 +1,5 @@
 -- `study_model::probabilities::with_states` meets its contract: four places are written, one behind the other (`Due`).
 use Rattle.lists.proofs.Puts.{due-start, due-set, due-done}
-use borrow.Author.Rules.{rules}
 use Rattle.study_model.proofs.probabilities.with_states.Goals as goal
 
 pub returns : goal.returns

@@ -4,10 +4,8 @@ use mathlib.Core.Path.{◌≡◌, ap₂, ◌∙◌}
 use native.Mathlib.Omega.{arith}
 use lib.ListN.{get_or}
 use Rattle.lists.specs.Bits.{bit}
-use Rattle.lists.specs.Counting.{counted}
 use Rattle.lists.proofs.SumOver.{counted-most}
-use Rattle.rules.specs.Limits.{most_loads}
-use Rattle.totals.proofs.Placed.{Placing, placing-start, placing-room, placing-more, placing-done}
+use Rattle.totals.proofs.Placed.{placing-start, placing-room, placing-more, placing-done}
 use Rattle.totals.proofs.adding.add_at_loads.Goals as goal
 
 pub loop-j-init : goal.loop-j-init

@@ -1,13 +1,10 @@
 -- `totals::adding::add_at_loads` meets its contract. The loads below j have the bound added that their bit calls for (`Placing`); the loads left fall.
 use Prim.Native.Nat.{ℕ, ◌+◌, ◌-◌, min}
-use mathlib.Core.Path.{◌≡◌, ap₂, ◌∙◌}
-use native.Mathlib.Omega.{arith}
 use lib.ListN.{get_or}
 use Rattle.lists.specs.Bits.{bit}
 use Rattle.lists.specs.Counting.{counted}
-use Rattle.lists.proofs.SumOver.{counted-most}
 use Rattle.rules.specs.Limits.{most_loads}
-use Rattle.totals.proofs.Placed.{Placing, placing-start, placing-room, placing-more, placing-done}
+use Rattle.totals.proofs.Placed.{Placing}
 use Rattle.totals.proofs.adding.add_at_loads.Given as goal
 
 abbrev pub invariant-loop-j : goal.invariant-loop-j

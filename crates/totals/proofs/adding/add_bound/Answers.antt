@@ -1,5 +1,4 @@
 -- `totals::adding::add_bound` meets its contract: the two ways in which a path counts at places.
-use borrow.Author.Rules.{rules}
 use Rattle.totals.proofs.adding.add_bound.Goals as goal
 
 pub add_at_loads-requires : goal.add_at_loads-requires

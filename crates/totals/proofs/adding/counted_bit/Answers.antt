@@ -3,7 +3,6 @@ use Prim.Native.Nat.{◌/◌, ◌^◌}
 use mathlib.Core.Path.{◌∙◌}
 use lib.Bits.{and_mask}
 use Rattle.totals.proofs.Bits.{bit-counted, bit-clear}
-use borrow.Author.Rules.{rules}
 use Rattle.totals.proofs.adding.counted_bit.Goals as goal
 
 pub returns-then-class-j-eq1 : goal.returns-then-class-j-eq1

@@ -2,8 +2,7 @@
 use Prim.Native.Nat.{◌-◌}
 use mathlib.Core.Path.{refl}
 use native.Mathlib.Omega.{arith}
-use Rattle.entries.specs.Entries.{class_places}
-use Rattle.totals.proofs.Placed.{Placing, placing-start, placing-room, placing-more, placing-done}
+use Rattle.totals.proofs.Placed.{placing-start, placing-room, placing-more, placing-done}
 use Rattle.totals.proofs.clearing.clear.Goals as goal
 
 pub loop-c-init : goal.loop-c-init

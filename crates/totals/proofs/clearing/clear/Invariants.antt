@@ -1,9 +1,7 @@
 -- `totals::clearing::clear` meets its contract. The places below c are cleared (`Placing`).
 use Prim.Native.Nat.{◌-◌}
-use mathlib.Core.Path.{refl}
-use native.Mathlib.Omega.{arith}
 use Rattle.entries.specs.Entries.{class_places}
-use Rattle.totals.proofs.Placed.{Placing, placing-start, placing-room, placing-more, placing-done}
+use Rattle.totals.proofs.Placed.{Placing}
 use Rattle.totals.proofs.clearing.clear.Given as goal
 
 abbrev pub invariant-loop-c : goal.invariant-loop-c

@@ -2,15 +2,11 @@
 -- added (`Walked`).
 use Prim.Native.Nat.{ℕ, ◌-◌, ◌<◌}
 use native.Mathlib.Omega.{arith}
-use lib.ListN.{length}
-use Rattle.units.specs.One.{one}
-use Rattle.units.specs.Rounding.{down, up}
 use Rattle.rules.specs.Limits.{most_components}
 use Rattle.paths.proofs.Sizes.{one_class}
 use Rattle.event_tree.proofs.Fork.{fork, fork-fewer, fork-most, fork-inside, fork-block}
-use Rattle.totals.specs.Places.{sums_most}
 use Rattle.totals.specs.Walk.{Reached}
-use Rattle.totals.proofs.Walked.{Walked, leaf-brings, walked_start, walked_more, walked-done}
+use Rattle.totals.proofs.Walked.{leaf-brings, walked_start, walked_more, walked-done}
 use Rattle.totals.proofs.walk.+add_paths.Goals as goal
 use Rattle.totals.proofs.walk.+add_paths.Goals.{After-part}
 

@@ -1,16 +1,11 @@
 -- `totals::walk::add_paths` meets its contract. The components left fall at each call; for each of the two bounds the paths of the ways below s are
 -- added (`Walked`).
-use Prim.Native.Nat.{ℕ, ◌-◌, ◌<◌}
-use native.Mathlib.Omega.{arith}
+use Prim.Native.Nat.{◌-◌}
 use lib.ListN.{length}
 use Rattle.units.specs.One.{one}
 use Rattle.units.specs.Rounding.{down, up}
-use Rattle.rules.specs.Limits.{most_components}
-use Rattle.paths.proofs.Sizes.{one_class}
-use Rattle.event_tree.proofs.Fork.{fork, fork-fewer, fork-most, fork-inside, fork-block}
 use Rattle.totals.specs.Places.{sums_most}
-use Rattle.totals.specs.Walk.{Reached}
-use Rattle.totals.proofs.Walked.{Walked, leaf-brings, walked_start, walked_more, walked-done}
+use Rattle.totals.proofs.Walked.{Walked}
 use Rattle.totals.proofs.walk.+add_paths.Given as goal
 
 abbrev pub invariant-loop-s : goal.invariant-loop-s

@@ -8,7 +8,6 @@ use Rattle.lists.specs.Rows.{joined}
 use Rattle.text.proofs.Pieces.{Pieces, pieces_room, pieces_more}
 use Rattle.study_bytes.specs.Written.{byte_of, four_bytes_of, field, component_fields}
 use Rattle.writing.proofs.Parts.{Spell, record-start, record-done}
-use borrow.Author.Rules.{rules}
 use Rattle.writing.proofs.components.write_component.Goals as goal
 
 -- ---- the pieces below k are written

@@ -1,11 +1,8 @@
 -- `writing::components::write_components` meets its contract. The records of the components below i are written (`Tabled`), and the components left fall.
 use Prim.Native.Nat.{ℕ, ◌-◌}
-use native.Mathlib.Omega.{arith}
 use Rattle.study.specs.Places.{component_at}
-use Rattle.soundness.proofs.Ranges.{components-most}
-use Rattle.text.proofs.Pieces.{Tabled, tabled_start, tabled-room, tabled-more, tabled-size, tabled-done}
+use Rattle.text.proofs.Pieces.{Tabled}
 use Rattle.study_bytes.specs.Written.{component_bytes}
-use borrow.Author.Rules.{rules}
 use Rattle.writing.proofs.components.write_components.Given as goal
 
 abbrev pub invariant-loop-i : goal.invariant-loop-i

@@ -1,7 +1,6 @@
 -- `writing::fields::map_of` meets its contract: each of four bits is at most 1, so that their sum fits.
 use native.Mathlib.Omega.{arith}
 use Rattle.lists.proofs.Sums.{truth-most}
-use borrow.Author.Rules.{rules}
 use Rattle.writing.proofs.fields.map_of.Goals as goal
 
 pub overflow_mul-result : goal.overflow_mul-result

@@ -2,7 +2,6 @@
 use native.Mathlib.Omega.{arith}
 use Rattle.text.proofs.Pieces.{wrote_none}
 use Rattle.study_bytes.proofs.Fields.{field-given, field-left-out}
-use borrow.Author.Rules.{rules}
 use Rattle.writing.proofs.fields.number_field.Goals as goal
 
 pub write_number-requires : goal.write_number-requires

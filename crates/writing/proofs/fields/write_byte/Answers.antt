@@ -1,6 +1,5 @@
 -- `writing::fields::write_byte` meets its contract: it writes one byte.
 use Rattle.text.proofs.Pieces.{wrote_one}
-use borrow.Author.Rules.{rules}
 use Rattle.writing.proofs.fields.write_byte.Goals as goal
 
 pub returns : goal.returns

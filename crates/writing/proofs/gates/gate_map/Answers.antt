@@ -3,7 +3,6 @@ use mathlib.Core.Path.{◌∙◌}
 use Rattle.study.specs.Absent.{absent_gate}
 use Rattle.study_bytes.proofs.Fields.{field-bit, byte-bit}
 use Rattle.writing.proofs.Maps.{map-of-three}
-use borrow.Author.Rules.{rules}
 use Rattle.writing.proofs.gates.gate_map.Goals as goal
 
 pub returns : goal.returns

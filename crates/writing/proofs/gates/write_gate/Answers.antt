@@ -5,7 +5,6 @@ use native.Mathlib.Omega.{arith}
 use Rattle.text.proofs.Pieces.{Pieces, pieces_room, pieces_more}
 use Rattle.study_bytes.specs.Written.{byte_of, gate_fields}
 use Rattle.writing.proofs.Parts.{Spell, record-start, record-done, gate_parts, gate-spelt}
-use borrow.Author.Rules.{rules}
 use Rattle.writing.proofs.gates.write_gate.Goals as goal
 
 pub write_byte-threshold-requires : goal.write_byte-threshold-requires

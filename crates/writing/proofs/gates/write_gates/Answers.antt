@@ -1,11 +1,8 @@
 -- `writing::gates::write_gates` meets its contract. The records of the gates below i are written (`Tabled`), and the gates left fall.
-use Prim.Native.Nat.{ℕ, ◌-◌}
+use Prim.Native.Nat.{◌-◌}
 use native.Mathlib.Omega.{arith}
-use Rattle.study.specs.Places.{gate_at}
 use Rattle.soundness.proofs.Ranges.{gates-most, tests-most, gate-inputs-most}
-use Rattle.text.proofs.Pieces.{Tabled, tabled_start, tabled-room, tabled-more, tabled-size, tabled-done}
-use Rattle.study_bytes.specs.Written.{gate_bytes}
-use borrow.Author.Rules.{rules}
+use Rattle.text.proofs.Pieces.{tabled_start, tabled-room, tabled-more, tabled-done}
 use Rattle.writing.proofs.gates.write_gates.Goals as goal
 
 pub loop-i-init : goal.loop-i-init

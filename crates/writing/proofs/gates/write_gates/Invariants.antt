@@ -1,11 +1,8 @@
 -- `writing::gates::write_gates` meets its contract. The records of the gates below i are written (`Tabled`), and the gates left fall.
 use Prim.Native.Nat.{ℕ, ◌-◌}
-use native.Mathlib.Omega.{arith}
 use Rattle.study.specs.Places.{gate_at}
-use Rattle.soundness.proofs.Ranges.{gates-most, tests-most, gate-inputs-most}
-use Rattle.text.proofs.Pieces.{Tabled, tabled_start, tabled-room, tabled-more, tabled-size, tabled-done}
+use Rattle.text.proofs.Pieces.{Tabled}
 use Rattle.study_bytes.specs.Written.{gate_bytes}
-use borrow.Author.Rules.{rules}
 use Rattle.writing.proofs.gates.write_gates.Given as goal
 
 abbrev pub invariant-loop-i : goal.invariant-loop-i

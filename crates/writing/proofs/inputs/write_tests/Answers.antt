@@ -1,9 +1,7 @@
 -- `writing::inputs::write_tests` meets its contract. The tests below j are written (`Tabled`), and the tests left fall.
 use Prim.Native.Nat.{◌-◌}
 use native.Mathlib.Omega.{arith}
-use Rattle.text.proofs.Pieces.{Tabled, tabled_start, tabled-room, tabled-more, tabled-size, tabled-done}
-use Rattle.study_bytes.specs.Written.{test_bytes}
-use borrow.Author.Rules.{rules}
+use Rattle.text.proofs.Pieces.{tabled_start, tabled-room, tabled-more, tabled-done}
 use Rattle.writing.proofs.inputs.write_tests.Goals as goal
 
 pub loop-j-init : goal.loop-j-init

@@ -1,9 +1,7 @@
 -- `writing::inputs::write_tests` meets its contract. The tests below j are written (`Tabled`), and the tests left fall.
 use Prim.Native.Nat.{◌-◌}
-use native.Mathlib.Omega.{arith}
-use Rattle.text.proofs.Pieces.{Tabled, tabled_start, tabled-room, tabled-more, tabled-size, tabled-done}
+use Rattle.text.proofs.Pieces.{Tabled}
 use Rattle.study_bytes.specs.Written.{test_bytes}
-use borrow.Author.Rules.{rules}
 use Rattle.writing.proofs.inputs.write_tests.Given as goal
 
 abbrev pub invariant-loop-j : goal.invariant-loop-j

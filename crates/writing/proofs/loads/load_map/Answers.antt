@@ -3,7 +3,6 @@ use mathlib.Core.Path.{◌∙◌}
 use Rattle.study.specs.Absent.{absent_load}
 use Rattle.study_bytes.proofs.Fields.{byte-bit, number_bit}
 use Rattle.writing.proofs.Maps.{map-of-three}
-use borrow.Author.Rules.{rules}
 use Rattle.writing.proofs.loads.load_map.Goals as goal
 
 pub returns : goal.returns

@@ -1,11 +1,8 @@
 -- `writing::loads::write_loads` meets its contract. The records of the loads below j are written (`Tabled`), and the loads left fall.
-use Prim.Native.Nat.{ℕ, ◌-◌}
+use Prim.Native.Nat.{◌-◌}
 use native.Mathlib.Omega.{arith}
-use Rattle.study.specs.Places.{load_at}
 use Rattle.soundness.proofs.Ranges.{loads-most}
-use Rattle.text.proofs.Pieces.{Tabled, tabled_start, tabled-room, tabled-more, tabled-size, tabled-done}
-use Rattle.study_bytes.specs.Written.{load_bytes}
-use borrow.Author.Rules.{rules}
+use Rattle.text.proofs.Pieces.{tabled_start, tabled-room, tabled-more, tabled-done}
 use Rattle.writing.proofs.loads.write_loads.Goals as goal
 
 pub loop-j-init : goal.loop-j-init

@@ -1,11 +1,8 @@
 -- `writing::loads::write_loads` meets its contract. The records of the loads below j are written (`Tabled`), and the loads left fall.
 use Prim.Native.Nat.{ℕ, ◌-◌}
-use native.Mathlib.Omega.{arith}
 use Rattle.study.specs.Places.{load_at}
-use Rattle.soundness.proofs.Ranges.{loads-most}
-use Rattle.text.proofs.Pieces.{Tabled, tabled_start, tabled-room, tabled-more, tabled-size, tabled-done}
+use Rattle.text.proofs.Pieces.{Tabled}
 use Rattle.study_bytes.specs.Written.{load_bytes}
-use borrow.Author.Rules.{rules}
 use Rattle.writing.proofs.loads.write_loads.Given as goal
 
 abbrev pub invariant-loop-j : goal.invariant-loop-j

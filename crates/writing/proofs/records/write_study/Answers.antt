@@ -4,7 +4,6 @@ use mathlib.Core.List.{List}
 use native.Mathlib.Omega.{arith}
 use Rattle.text.proofs.Pieces.{Pieces, pieces_room, pieces_more}
 use Rattle.writing.proofs.Parts.{study_parts, study-start, study-done}
-use borrow.Author.Rules.{rules}
 use Rattle.writing.proofs.records.write_study.Goals as goal
 
 pub copy-first-requires : goal.copy-first-requires

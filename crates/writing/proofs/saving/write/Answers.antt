@@ -6,7 +6,6 @@ use Rattle.answers.proofs.Answered.{answered-refused, filled-refused}
 use Rattle.lent_text.specs.Lent.{text_fault, reported, written}
 use Rattle.soundness.proofs.Judged.{unsound-first, sound-behind, next-first}
 use Rattle.writing.specs.Saving.{write_fault, study_written, buffer_written}
-use borrow.Author.Rules.{rules}
 use Rattle.writing.proofs.saving.write.Goals as goal
 
 pub returns-then-fault-ne0 : goal.returns-then-fault-ne0
