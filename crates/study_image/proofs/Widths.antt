@@ -35,7 +35,7 @@ module _ (t : Study) (fits : StudyFits t) where
   pub gates-long : length (gate_rows t.gate) ≡ most_gates * gate_bytes
   gates-long = rows_long _ gate_bytes most_gates (λ k h. gate-long _ (fits.gate k h))
 
-  loads-long : length (load_rows t.load) ≡ most_loads * load_bytes
+  pub loads-long : length (load_rows t.load) ≡ most_loads * load_bytes
   loads-long = rows_long _ load_bytes most_loads (λ k h. refl)
 
   pub image-long : length (image_of t) ≡ image_bytes

@@ -1,10 +1,6 @@
 -- `export_answers::refused` meets its contract: a byte fits, and so does the number below 0.
-use Rattle.export_answers.proofs.Signed.{minus-fits, minus_is}
+use Rattle.export_answers.proofs.Signed.{minus_is}
 use Rattle.export_answers.proofs.refused.Goals as goal
-
-pub overflow_sub-result : goal.overflow_sub-result
-overflow_sub-result c =
-    minus-fits c.args.number c.ranges.number.fits
 
 pub returns : goal.returns
 returns c =
