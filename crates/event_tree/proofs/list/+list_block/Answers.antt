@@ -87,15 +87,11 @@ list_block-place-requires t c =
 
 pub overflow_add-s : goal.overflow_add-s
 overflow_add-s t c =
-    let marked : List ℕ = set c.loop-s.marks c.args.front c.mark.result in
-    let handed : let a = c.args in Way a.block.now c.ways_at-way.result (take a.front a.marks.now) c.loop-s.s (take (a.front + 1) marked) c.part.result.now = listed-way c.loop-s.invariant c.loop-s-test.true c.mark.ensures c.part.ensures in
-    record { fits = omega (arith, fork-most c.loop-s.invariant.fork handed.inside) }
+    record { fits = omega (arith, fork-most c.loop-s.invariant.fork c.loop-s-test.true) }
 
 pub loop-s-smaller : goal.loop-s-smaller
 loop-s-smaller t c =
-    let marked : List ℕ = set c.loop-s.marks c.args.front c.mark.result in
-    let handed : let a = c.args in Way a.block.now c.ways_at-way.result (take a.front a.marks.now) c.loop-s.s (take (a.front + 1) marked) c.part.result.now = listed-way c.loop-s.invariant c.loop-s-test.true c.mark.ensures c.part.ensures in
-    omega (arith, handed.inside)
+    omega (arith, c.loop-s-test.true)
 
 pub loop-s-preserved : goal.loop-s-preserved
 loop-s-preserved t c =
