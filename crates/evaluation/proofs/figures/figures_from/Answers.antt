@@ -1,5 +1,5 @@
 -- `evaluation::figures::figures_from` meets its contract: without customers it is refused, and otherwise there is something to divide by.
-use Prim.Native.Nat.{ℕ}
+use Prim.Native.Nat.{ℕ, ◌<◌}
 use mathlib.Core.Path.{◌≡◌, sym, ap, ◌∙◌}
 use mathlib.Core.List.{List}
 use lib.ListN.{take}
@@ -27,7 +27,7 @@ returns-then-fault-ne0 c =
 
 pub figures_of-requires : goal.figures_of-requires
 figures_of-requires c =
-    let some = customers-kept _ (sym c.customers_fault-fault.ensures ∙ c.if-fault-ne0.false) in record { n_le_most_loads = c.requires.loads_le_most_loads; sizes = c.requires.sizes; loss_bounds = c.requires.loss_bounds; customers_nonzero = some; customers_le_most_served = c.customers_sum-customers.ensures.fits }
+    let some : 0 < c.customers_sum-customers.result = customers-kept _ (sym c.customers_fault-fault.ensures ∙ c.if-fault-ne0.false) in record { n_le_most_loads = c.requires.loads_le_most_loads; sizes = c.requires.sizes; loss_bounds = c.requires.loss_bounds; customers_nonzero = some; customers_le_most_served = c.customers_sum-customers.ensures.fits }
 
 pub returns : goal.returns
 returns c =
