@@ -47,7 +47,7 @@ def bare(text):
 def snake(word):
     if word[0].isupper():
         return word
-    return re.sub(r"(?<=[a-z0-9])[A-Z]|(?<=_[a-z])[A-Z]", lambda m: "_" + m[0].lower(), word)
+    return re.sub(r"(?<=[A-Za-z0-9])[A-Z]", lambda m: "_" + m[0].lower(), word)
 
 
 def turned(word):

@@ -40,7 +40,7 @@ use Rattle.path_calls.specs.Listing.{list_fault, paths_listed}
 use Rattle.loss_calls.specs.Figures.{figures_fault, figures_given}
 use Rattle.demands.specs.DrawnExamples.{DrawnExample, to, refused_by, like_case_a, never_lost, always_lost, lost_by_leaf}
 use Rattle.demands.specs.DrawnExamples.{RefusedBy, DrawnRowHolds, DrawnExamples}
-use Rattle.demands.specs.WorkedExamples.{Results, case_aOpens, no_loss_gate_opens}
+use Rattle.demands.specs.WorkedExamples.{Results, case_a_opens, no_loss_gate_opens}
 use Rattle.demands.proofs.Given.{results_of, answer-sound, gives}
 
 -- a tree that is refused beside a sound study
@@ -76,7 +76,7 @@ unfolding each refuse outside byte word map_byte
     loss_gate size customers minutes load_field load
     count component_after component_record records study answered answer opened
     put paired placed sorted in_order ordered
-    absent_gate zero_study case_aOpens no_loss_gate_opens drawn_fault like_case_a never_lost always_lost lost_by_leaf
+    absent_gate zero_study case_a_opens no_loss_gate_opens drawn_fault like_case_a never_lost always_lost lost_by_leaf
     model_of paths_of probability_table path_bounds total class_borne tabulate figures_by quotient_down quotient_up
 drawn-examples = (
   holds _ refl refl like_case_a refl refl refl refl,

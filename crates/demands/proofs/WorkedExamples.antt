@@ -26,7 +26,7 @@ use Rattle.answers.specs.declared.outcome.Outcome.TheVariants.{Done}
 use Rattle.opening.specs.Opening.{count, component_after, component_record, records, study, answer, opened}
 use Rattle.meaning.specs.Meaning.{by_gates, model_of}
 use Rattle.evaluation.specs.Figures.{figures_by}
-use Rattle.demands.specs.WorkedExamples.{Results, Example, votes, opens, listing, case_aOpens, no_loss_gate_opens, RowHolds, WorkedExamples}
+use Rattle.demands.specs.WorkedExamples.{Results, Example, votes, opens, listing, case_a_opens, no_loss_gate_opens, RowHolds, WorkedExamples}
 use Rattle.demands.proofs.Given.{results_of, answer-sound, gives}
 
 -- ---- the rows
@@ -48,7 +48,7 @@ unfolding each refuse outside byte word map_byte
     loss_gate size customers minutes load_field load
     count component_after component_record records study answered answer opened
     put paired placed sorted in_order ordered
-    absent_gate zero_study votes opens case_aOpens no_loss_gate_opens listing
+    absent_gate zero_study votes opens case_a_opens no_loss_gate_opens listing
     model_of paths_of probability_table path_bounds total class_borne tabulate figures_by quotient_down quotient_up
 worked-examples = (
   -- A to F

@@ -14,8 +14,8 @@ case_a =
     ∷ 7 ∷ 0 ∷ 100 ∷ 0 ∷ 0 ∷ 0 ∷ 60 ∷ 0 ∷ 0 ∷ 0
     ∷ []
 
-abbrev pub case_aText : List ℕ
-case_aText =
+abbrev pub case_a_text : List ℕ
+case_a_text =
     joined
     (letters "PATHS 3\n"
     ∷ letters "P 00 0 720000000 720000000\n"
@@ -31,7 +31,7 @@ case_aText =
     ∷ [])
 
 abbrev pub CaseA : Type 0
-CaseA = report_text case_a ≡ case_aText
+CaseA = report_text case_a ≡ case_a_text
 
 -- A refused study has one line: here state 1 of the first component is a unit over one.
 abbrev pub over_one : List ℕ

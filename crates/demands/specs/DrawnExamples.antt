@@ -13,7 +13,7 @@ use Rattle.meaning.specs.Meaning.{by_tree}
 use Rattle.path_calls.specs.Listing.{paths_listed}
 use Rattle.loss_calls.specs.Figures.{figures_given}
 use Rattle.demands.specs.CaseA.{case_a}
-use Rattle.demands.specs.WorkedExamples.{Results, results_are, at, figures_are, no_customers, case_aOpens, no_loss_gate_opens, Gives}
+use Rattle.demands.specs.WorkedExamples.{Results, results_are, at, figures_are, no_customers, case_a_opens, no_loss_gate_opens, Gives}
 
 -- what a tree beside a study comes to: results, or a refusal
 pub data Comes : Type 0 where
@@ -29,7 +29,7 @@ pub record DrawnExample : Type 0 where
 
 -- beside case A
 abbrev beside_a : List ℕ → Comes → DrawnExample
-beside_a tree comes = record { bytes = case_a; opening = case_aOpens; tree = tree; comes = comes }
+beside_a tree comes = record { bytes = case_a; opening = case_a_opens; tree = tree; comes = comes }
 
 -- beside a study whose load has no loss gate
 abbrev beside_c : List ℕ → Comes → DrawnExample

@@ -153,9 +153,9 @@ abbrev zero_listed : List (List ℕ)
 zero_listed = entry (0 ∷ []) 0 ∷ entry (1 ∷ []) 1 ∷ []
 
 -- the study of case A
-unfoldable pub case_aOpens : StudyAnswer
+unfoldable pub case_a_opens : StudyAnswer
 unfolding votes opens
-case_aOpens =
+case_a_opens =
     opens (two_states 100_000_000 ∷ two_states 200_000_000 ∷ []) (votes 1 (test 0 2 ∷ test 1 2 ∷ []) ∷ []) (lost_by 0 100 60 ∷ [])
 
 -- a load without a loss gate, and a component that never fails
@@ -171,7 +171,7 @@ examples =
     ∷ 0x02 ∷ 0x00 ∷ 0xC2 ∷ 0xEB ∷ 0x0B
     ∷ 0x02 ∷ 2 ∷ 0 ∷ 2 ∷ 1 ∷ 2
     ∷ 0x07 ∷ 0 ∷ 0x64 ∷ 0 ∷ 0 ∷ 0 ∷ 0x3C ∷ 0 ∷ 0 ∷ 0 ∷ [])
-    case_aOpens
+    case_a_opens
     (entry (0 ∷ 0 ∷ []) 0 ∷ entry (0 ∷ 1 ∷ []) 1 ∷ entry (1 ∷ blank_mark ∷ []) 1 ∷ [])
     (at 720_000_000 ∷ at 180_000_000 ∷ at 100_000_000 ∷ [])
     (at 720_000_000 ∷ at 280_000_000 ∷ [])
