@@ -5,11 +5,11 @@
 mod classes;
 mod figures;
 mod losses;
-mod paths;
 mod rooms;
+mod tree_paths;
 
 pub use classes::{bound_classes, write_classes};
 pub use figures::{figures_from, figures_in};
 pub use losses::{Losses, loss_bounds};
-pub use paths::bound_paths;
 pub use rooms::pair_fault;
+pub use tree_paths::bound_paths;

@@ -5,7 +5,7 @@
 #![tactic(auto)]
 
 mod losses;
-mod paths;
 mod studies;
-mod survival;
+mod surviving;
 mod texts;
+mod tree_paths;

@@ -4,8 +4,8 @@
 
 mod classes;
 mod listing;
-mod paths;
+mod tree_paths;
 
 pub use classes::{class_bounds, classes_meant, drawn_class_bounds};
 pub use listing::{drawn_list_paths, list_meant, list_paths};
-pub use paths::{drawn_path_bounds, path_bounds, paths_meant};
+pub use tree_paths::{drawn_path_bounds, path_bounds, paths_meant};

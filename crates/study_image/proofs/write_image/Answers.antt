@@ -36,8 +36,19 @@ write_loads-requires c =
     let gates = c.write_gates-loads_at in
     record {
       fits =
-      omega (arith, c.requires, counts.auto.out, counts.ensures.behind, components.auto.image, components.ensures.behind, gates.auto.image, gates.ensures.behind,
-      components-long _ fits, gates-long _ fits, loads-long _ fits);
+          omega (
+            arith,
+            c.requires,
+            counts.auto.out,
+            counts.ensures.behind,
+            components.auto.image,
+            components.ensures.behind,
+            gates.auto.image,
+            gates.ensures.behind,
+            components-long _ fits,
+            gates-long _ fits,
+            loads-long _ fits,
+          );
     }
 
 pub returns : goal.returns

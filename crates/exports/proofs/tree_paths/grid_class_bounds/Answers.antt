@@ -1,7 +1,7 @@
--- `exports::paths::grid_class_bounds` meets its contract: that of `export_paths::class_bounds`, by the study's gates.
+-- `exports::tree_paths::grid_class_bounds` meets its contract: that of `export_paths::class_bounds`, by the study's gates.
 use Rattle.export_answers.proofs.Signed.{handed-on}
 use Rattle.export_answers.specs.Answers.{FillsPair}
-use Rattle.exports.proofs.paths.grid_class_bounds.Goals as goal
+use Rattle.exports.proofs.tree_paths.grid_class_bounds.Goals as goal
 
 pub returns : goal.returns
 returns c =

@@ -1,4 +1,4 @@
--- `evaluation::paths::bound_paths` meets its contract: the page holds the list of the paths, and their number is the need.
+-- `evaluation::tree_paths::bound_paths` meets its contract: the page holds the list of the paths, and their number is the need.
 use Prim.Native.Nat.{ℕ}
 use mathlib.Core.Path.{◌≡◌, sym, ap, ◌∙◌}
 use lib.ListN.{length}
@@ -11,7 +11,7 @@ use Rattle.probability.specs.Totals.{lower_bounds, upper_bounds}
 use Rattle.evaluation.specs.Rooms.{pair_fault, paths_room}
 use Rattle.evaluation.proofs.Bounding.{hand-boundable}
 use Rattle.evaluation.proofs.PairPut.{pair-room, pair-refused, pair-done}
-use Rattle.evaluation.proofs.paths.bound_paths.Goals as goal
+use Rattle.evaluation.proofs.tree_paths.bound_paths.Goals as goal
 
 pub returns-then-fault-ne0 : goal.returns-then-fault-ne0
 returns-then-fault-ne0 c =

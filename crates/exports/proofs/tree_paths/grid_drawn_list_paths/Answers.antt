@@ -1,7 +1,7 @@
--- `exports::paths::grid_drawn_list_paths` meets its contract: that of `export_paths::list_paths`, by the tree.
+-- `exports::tree_paths::grid_drawn_list_paths` meets its contract: that of `export_paths::list_paths`, by the tree.
 use Rattle.export_answers.proofs.Signed.{handed-on}
 use Rattle.export_paths.specs.Paths.{ListsPaths}
-use Rattle.exports.proofs.paths.grid_drawn_list_paths.Goals as goal
+use Rattle.exports.proofs.tree_paths.grid_drawn_list_paths.Goals as goal
 
 pub returns : goal.returns
 returns c =

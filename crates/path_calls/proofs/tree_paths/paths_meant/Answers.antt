@@ -1,4 +1,4 @@
--- `path_calls::paths::paths_meant` meets its contract: the study and its meaning decide where they have a breach, and otherwise the room.
+-- `path_calls::tree_paths::paths_meant` meets its contract: the study and its meaning decide where they have a breach, and otherwise the room.
 use mathlib.Core.Path.{sym}
 use Rattle.answers.specs.declared.counts.CountAnswer.TheVariants.{Refused}
 use Rattle.answers.proofs.Answered.{answered-refused, filled-refused}
@@ -8,8 +8,8 @@ use Rattle.meaning.proofs.Judging.{judged-first, judged-next}
 use Rattle.meaning.proofs.Tables.{table-paths, table-values}
 use Rattle.path_calls.specs.Bounds.{pair_breach, paths_bounded}
 use borrow.Author.Rules.{rules}
-use Rattle.path_calls.proofs.paths.paths_meant.Goals as goal
-use Rattle.path_calls.proofs.paths.paths_meant.Goals.{Else-fault-ne0}
+use Rattle.path_calls.proofs.tree_paths.paths_meant.Goals as goal
+use Rattle.path_calls.proofs.tree_paths.paths_meant.Goals.{Else-fault-ne0}
 
 pub returns-then-fault-ne0 : goal.returns-then-fault-ne0
 unfolding pair_breach paths_bounded
