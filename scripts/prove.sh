@@ -23,23 +23,25 @@ needed() {
         }' crates.txt
 }
 
-# Says what is being proved whenever that changes, as long as this script lives. Building a library empties its folder and puts the stamp there last;
-# what `rt check` says of the crate itself, it says function by function.
+# Says what is being proved whenever that changes, as long as this script lives. Building a library empties its folder and puts the stamp there last.
+# Once no library is being built for some seconds, the crate itself is: what `rt check` says of it, it says function by function.
 say_progress() {
-    said=''
+    said='' idle=0
     while kill -0 $$ 2> /dev/null; do
-        at=0 below=0 line=''
+        at=0 line='' idle=$((idle + 1))
         for crate in $crates; do
             at=$((at + 1))
             library=crates/$crate/out/rlib
             [ "$crate" != "$named" ] && [ ! -e "$library/stamp" ] || continue
-            below=$((below + 1))
+            idle=0
             [ "$library" -nt "$started" ] && line="proving $crate (crate $at of $count)"
         done
-        [ "$below" -gt 0 ] || line=$(grep '^checked ' "$log" | tail -n 1)
-        [ "$below" -gt 0 ] || [ -n "$line" ] || line="proving $named (crate $count of $count)"
+        if [ "$idle" -ge 4 ]; then
+            line=$(grep '^checked ' "$log" | tail -n 1)
+            [ -n "$line" ] || line="proving $named (crate $count of $count)"
+        fi
         [ -z "$line" ] || [ "$line" = "$said" ] || echo "$line" >&2
-        said=$line
+        [ -z "$line" ] || said=$line
         sleep 1
     done
 }
