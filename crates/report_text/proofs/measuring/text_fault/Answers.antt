@@ -25,4 +25,4 @@ returns c =
     let model : Model = model_held c.args.model c.args.classes.now in
     let class-byte : (x : List ℕ) → model.class x < class_places = λ x. omega (arith, c.shared_slice_known-1.given (number_of (held_counts c.args.model) x)) in
     let short = model-short model c.requires.in_hand.good class-byte in
-    sym (room-none (length (model_text model)) c.args.room (omega (arith, short, c.if-room-lt-REPORT_BYTES.false)))
+    sym (room-none (length (model_text model)) c.args.room (omega (arith, short)))
