@@ -2,6 +2,8 @@
 use Prim.Native.Nat.{ℕ}
 use mathlib.Core.Path.{◌≡◌, refl, sym, ap, ◌∙◌}
 use mathlib.Core.List.{List, [], ◌∷◌, ◌++◌, append-nil, append_assoc}
+use native.Mathlib.Omega.{arith}
+use lib.ListN.{length, length-append}
 use Rattle.lists.specs.Rows.{joined}
 use Rattle.entries.specs.Entries.{entry}
 use Rattle.paths.proofs.Ways.{headed}
@@ -26,6 +28,12 @@ behind-headed front mark [] = refl
 behind-headed front mark (row ∷ rows) =
     ap (λ (l : List ℕ). l ++ entries_behind front (headed mark rows)) (sym (append_assoc front (mark ∷ []) row))
     ∙ ap (λ (l : List ℕ). front ++ (mark ∷ []) ++ row ++ l) (behind-headed front mark rows)
+
+-- as long behind other marks, if these are as many
+pub behind-length : (a b : List ℕ) (rows : List (List ℕ)) → length a ≡ length b → length (entries_behind a rows) ≡ length (entries_behind b rows)
+unfolding entries_behind joined
+behind-length a b [] e = refl
+behind-length a b (row ∷ rows) e = simp length-append (omega (arith, e, behind-length a b rows e))
 
 -- before any component is passed
 pub unmarked : (rows : List (List ℕ)) → entries_behind [] rows ≡ joined rows

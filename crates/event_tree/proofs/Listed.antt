@@ -1,10 +1,10 @@
 -- What carries the listing of a block's paths: those of the ways below s are written, and the marks in front stand as they were.
 use Prim.Native.Nat.{ℕ, ◌+◌, ◌<◌, ◌≤◌}
-use mathlib.Core.Path.{◌≡◌, sym, ap, ◌∙◌}
+use mathlib.Core.Path.{◌≡◌, refl, sym, ap, ◌∙◌}
 use mathlib.Core.List.{List, [], ◌∷◌, ◌++◌, append-nil}
 use native.Mathlib.Numerals.{add-one}
 use native.Mathlib.Omega.{arith}
-use lib.ListN.{length, get_or, take, set}
+use lib.ListN.{length, get_or, take, set, length-set, length-append}
 use lib.Seq.{length-take-le, take_at, take-suc-set, take-take}
 use Rattle.lists.specs.Rows.{put, joined}
 use Rattle.lists.proofs.Puts.{Due, due-start, due-room, due-more}
@@ -15,7 +15,7 @@ use Rattle.paths.specs.Ways.{mark}
 use Rattle.paths.proofs.Ways.{headed}
 use Rattle.event_tree.specs.declared.blank.Ways.{Ways}
 use Rattle.event_tree.specs.Entries.{entries_behind}
-use Rattle.event_tree.proofs.Behind.{behind-one, behind-append, behind-headed}
+use Rattle.event_tree.proofs.Behind.{behind-one, behind-append, behind-headed, behind-length}
 use Rattle.event_tree.proofs.Fork.{Fork, no-fork, rows, left, left-all, left-next, left-none}
 
 -- the first n places of a row of marks are those in front
@@ -28,6 +28,7 @@ pub record Listed (counts block : List ℕ) (w : Ways) (later front : List ℕ) 
   pub fork : Fork counts block w later
   pub inside : n + length counts ≤ size
   pub marked : Marked front n size marks
+  pub onward : at ≤ place
   pub due : Due d₀ at (entries_behind front (paths counts block)) d place (entries_behind front (left block w later s))
 
 -- what a call for way s is handed: the marks with its own behind them, and its part of the block
@@ -51,7 +52,7 @@ module _ {counts block : List ℕ} {w : Ways} {later front : List ℕ} {n size :
   pub listed_start : {marks : List ℕ} → Fork counts block w later → n + length counts ≤ size → take n marks ≡ front → length marks ≡ size
       → at + length (entries_behind front (paths counts block)) ≤ length d₀ → Listed counts block w later front n size d₀ at 0 marks d₀ at
   listed_start f inside kept long room =
-      record { fork = f; inside = inside; marked = record { kept = kept; long = long }; due = rw (left-all f) (due-start room) }
+      record { fork = f; inside = inside; marked = record { kept = kept; long = long }; onward = omega arith; due = rw (left-all f) (due-start room) }
 
   -- the mark of way s is set behind those in front
   pub listed-way : {s place m : ℕ} {marks d p : List ℕ} → Listed counts block w later front n size d₀ at s marks d place → s < w.number
@@ -65,10 +66,18 @@ module _ {counts block : List ℕ} {w : Ways} {later front : List ℕ} {n size :
         parted = parted;
       }
 
-  pub listed-room : {s place : ℕ} {marks d more p : List ℕ} → Listed counts block w later front n size d₀ at s marks d place
-      → Way block w front s more p → place + length (entries_behind more (paths later p)) ≤ length d
-  listed-room {s} {place} {marks} {d} {more} {p} l way =
-      due-room (entries_behind more (paths later p)) (entries_behind front (left block w later (s + 1))) (rw (next later way) at l.due)
+  -- there is room for the entries of way s, whatever its mark
+  pub listed-room : {s place : ℕ} (m : ℕ) {marks d p : List ℕ} → Listed counts block w later front n size d₀ at s marks d place → s < w.number
+      → p ≡ part w.size s block → place + length (entries_behind (take (n + 1) (set marks n m)) (paths later p)) ≤ length d
+  listed-room {s} {place} m {marks} {d} {p} l inside parted =
+      let own : List ℕ = front ++ (mark w.blank s ∷ []) in
+      let way : Way block w front s own p = record { inside = inside; marked = refl; parted = parted } in
+      let room = due-room (entries_behind own (paths later p)) (entries_behind front (left block w later (s + 1))) (rw (next later way) at l.due) in
+      let wide : n + 1 ≤ length (set marks n m) = omega (arith, length-set marks n m, l.inside, l.fork.some, l.marked.long) in
+      let short : length front ≡ n = ap length (sym l.marked.kept) ∙ length-take-le n marks (omega (arith, l.inside, l.marked.long)) in
+      let alike : length (take (n + 1) (set marks n m)) ≡ length own = length-take-le (n + 1) (set marks n m) wide
+      ∙ sym (length-append front (mark w.blank s ∷ []) ∙ ap (λ (k : ℕ). k + 1) short) in
+      omega (arith, room, behind-length (take (n + 1) (set marks n m)) own (paths later p) alike)
 
   -- the marks behind those in front may have changed
   pub listed_more : {s place q : ℕ} {marks marks' d d' more p : List ℕ} → Listed counts block w later front n size d₀ at s marks d place
@@ -82,6 +91,7 @@ module _ {counts block : List ℕ} {w : Ways} {later front : List ℕ} {n size :
         fork = l.fork;
         inside = l.inside;
         marked = record { kept = sym (take-take n (n + 1) marks' (omega arith)) ∙ again; long = long };
+        onward = omega (arith, end, l.onward);
         due = due-more (entries_behind more (paths later p)) (entries_behind front (left block w later (s + 1))) (rw (next later way) at l.due) wrote end;
       }
 

@@ -72,16 +72,16 @@ part-requires t c =
 
 pub list_block-place-requires : goal.list_block-place-requires
 list_block-place-requires t c =
-    let marked : List ℕ = set c.loop-s.marks c.args.front c.mark.result in
-    let marked-long : length marked ≡ length c.args.marks.now = length-set c.loop-s.marks c.args.front c.mark.result ∙ c.loop-s.invariant.marked.long in
-    let handed : let a = c.args in Way a.block.now c.ways_at-way.result (take a.front a.marks.now) c.loop-s.s (take (a.front + 1) marked) c.part.result.now = listed-way c.loop-s.invariant c.loop-s-test.true c.mark.ensures c.part.ensures in
+    let marked-long : length (set c.loop-s.marks c.args.front c.mark.result) ≡ length c.args.marks.now = length-set c.loop-s.marks c.args.front c.mark.result ∙ c.loop-s.invariant.marked.long in
     let listed = c.loop-s.invariant in
-    let way = handed in
     let fewer = fork-fewer listed.fork in (
       omega (arith, fewer, c.decreases),
       (
-        fork-block listed.fork _ way.inside way.parted,
-        (omega (arith, fewer, listed.inside, marked-long), listed-room listed way),
+        fork-block listed.fork _ c.loop-s-test.true c.part.ensures,
+        (
+          omega (arith, fewer, listed.inside, marked-long),
+          omega (arith, listed-room c.mark.result listed c.loop-s-test.true c.part.ensures, listed.onward),
+        ),
       ),
     )
 
