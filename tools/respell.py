@@ -23,6 +23,8 @@ ASIDE = [
 ]
 # Members that would fall together with a definition by the rule.
 MEMBERS = {"no-gates": "without_gates", "no-gate": "no_gate_behind", "first-breach": "is_first_breach", "as-given": "is_as_given"}
+# English in comments that is written like the name of a member.
+ENGLISH = r"(?!well-drawn trees?\b)"
 # A word of the older library in the names of lemmas about it, as today's library calls it.
 OLDER = re.compile(r"\bgetD[-_](?=\w)")
 
@@ -96,7 +98,7 @@ def main():
     if falls:
         print("these would fall together:", falls)
         return 1
-    each = re.compile(r"(?<![\w·′-])(" + "|".join(sorted(map(re.escape, new), key=len, reverse=True)) + r")(?![\w·′-])")
+    each = re.compile(r"(?<![\w·′-])" + ENGLISH + r"(" + "|".join(sorted(map(re.escape, new), key=len, reverse=True)) + r")(?![\w·′-])")
     changed = 0
     for path, text in texts.items():
         now = each.sub(lambda m: new[m[1]], text)

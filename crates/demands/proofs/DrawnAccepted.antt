@@ -95,7 +95,7 @@ module _ (m : Meaning) (t : Study) (kept : meaning_fault m t ≡ 0) where
       unsound-first _ _ (of-more others _ _ (of-refuse others 17 _ (inr (inl refl))) (of-more others _ [] none-meant (of_none others)))
   other-numbers all_figures = unsound-first _ _ (meant-last (of-refuse others 19 _ (inr (inr (inr (inl refl))))))
 
--- so the bytes of a well_drawn tree are refused by none of its numbers, beside a sound study and beside one that is 16
+-- so the bytes of a well-drawn tree are refused by none of its numbers, beside a sound study and beside one that is 16
 not_refused : (q : Question) (t : Study) (tree : Tree) (n : ℕ) → WholeDrawn (state_counts t) t.loads tree
     → call_told (ask (by_tree (tree_bytes tree)) q) t ≡ refusal n → OneOf (20 ∷ 21 ∷ 22 ∷ []) n → ⊥
 not_refused q t tree n well told drawn = go (sound t) refl

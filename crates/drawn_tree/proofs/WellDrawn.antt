@@ -1,4 +1,4 @@
--- The bytes that are let through are those of the well_drawn trees. What carries it: the marks of a branch are blank exactly at the components that it has
+-- The bytes that are let through are those of the well-drawn trees. What carries it: the marks of a branch are blank exactly at the components that it has
 -- not asked (`Marked`); one way by induction over the tree that is read, the other by recursion over the tree that is drawn.
 use Prim.Native.Nat.{ℕ, zero, suc, ◌+◌, ◌*◌, ◌/◌, ◌^◌, ◌<◌, ◌≤◌}
 use mathlib.Core.Path.{◌≡◌, refl, sym, ap, ◌∙◌}
@@ -103,7 +103,7 @@ module _ (counts : List ℕ) (loads : ℕ) (few : length counts ≤ most_compone
   drawn-well : (bytes : List ℕ) → drawn_fault counts loads bytes ≡ 0 → WholeDrawn counts loads (drawn_tree counts loads bytes)
   drawn-well bytes done = drawn-holds counts loads Drawn drawn-steps bytes done [] nothing-marked
 
-  -- ---- a well_drawn tree is read
+  -- ---- a well-drawn tree is read
 
   leaf-back : (class : ℕ) → class < 2 ^ loads → Back (leaf_read loads) (class_code class) (leaf class)
   unfolding leaf_read

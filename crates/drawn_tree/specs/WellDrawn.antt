@@ -28,12 +28,12 @@ mutual
 abbrev pub WholeDrawn : List ℕ → ℕ → Tree → Type 0
 WholeDrawn counts loads tree = WellDrawn counts loads [] tree
 
--- bytes that are not refused are those of a well_drawn tree, the one that is read
+-- bytes that are not refused are those of a well-drawn tree, the one that is read
 pub record ReadDrawn (counts : List ℕ) (loads : ℕ) (bytes : List ℕ) : Type 0 where
   pub well_drawn : WholeDrawn counts loads (drawn_tree counts loads bytes)
   pub bytes_are : tree_bytes (drawn_tree counts loads bytes) ≡ bytes
 
--- the bytes of a well_drawn tree are not refused, and that tree is read
+-- the bytes of a well-drawn tree are not refused, and that tree is read
 pub record LetThrough (counts : List ℕ) (loads : ℕ) (tree : Tree) : Type 0 where
   pub kept : drawn_fault counts loads (tree_bytes tree) ≡ 0
   pub read : drawn_tree counts loads (tree_bytes tree) ≡ tree
