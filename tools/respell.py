@@ -13,13 +13,15 @@ import re
 import sys
 
 WORD = r'[^\s(){}.;,@"«»\[\]\\`|:?!\'’“”…]+'
-# A name that would fall together with a definition that comes to it: in which files, the name, and what it is called from now on.
+# A name that would fall together with a definition that comes to it, or else needs another: in which files, the name, and what it is called from now on.
 ASIDE = [
     (r"crates/(gate_order|demands)/proofs/", "test_at", "test_at_lem"),
     (r"crates/reading/proofs/", "as_read", "as_read_lem"),
     (r"crates/drawn_tree/proofs/", "as_read", "as_read_lem"),
     (r"crates/demands/proofs/Report\.antt", "load_line", "load_line_lem"),
     (r"crates/writing/proofs/Longest\.antt", "component_bytes", "size_of_component"),
+    # This one the kit's script spelled by halves.
+    (r"crates/", "get_d_tabulate", "get_or-tabulate"),
 ]
 # Members that would fall together with a definition by the rule.
 MEMBERS = {"no-gates": "without_gates", "no-gate": "no_gate_behind", "first-breach": "is_first_breach", "as-given": "is_as_given"}
