@@ -1,3 +1,4 @@
 pub mod Breach
 pub mod Limits
+pub mod Refusals
 pub mod Table

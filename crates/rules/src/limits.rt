@@ -59,13 +59,8 @@ pub const LONGEST_STUDY: usize = 2023;
 // The largest exponent whose exponential is given.
 pub const FARTHEST: u64 = 20000000000;
 
-// Row 1: the bytes lack a due field, or part of it.
-pub const SHORT: u8 = 1;
-
-// Row 21: the bytes of a drawn tree end inside it.
-pub const BAD_END: u8 = 21;
-
 // Whether a loss is momentary that is over after so many minutes.
+#[tactic(auto, unfolding(crate::specs::Limits::momentary))]
 pub fn is_momentary(minutes: u32) -> bool
     ensures { result ≡ momentary minutes }
 {

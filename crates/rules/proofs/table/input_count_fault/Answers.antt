@@ -1,6 +1,0 @@
--- `rules::table::input_count_fault` meets its contract: the row's breach, unless the field is absent.
-use Rattle.rules.proofs.table.input_count_fault.Goals as goal
-
-pub returns : goal.returns
-returns c =
-    cc

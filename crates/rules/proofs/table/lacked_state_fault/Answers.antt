@@ -1,6 +1,0 @@
--- `rules::table::lacked_state_fault` meets its contract: the row's breach, unless the field is absent.
-use Rattle.rules.proofs.table.lacked_state_fault.Goals as goal
-
-pub returns : goal.returns
-returns c =
-    cc
