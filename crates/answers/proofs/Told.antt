@@ -8,17 +8,17 @@ use Rattle.answers.specs.declared.chances.Chances.{Chances}
 use Rattle.answers.specs.declared.figures.Caidi.{Caidi}
 use Rattle.answers.specs.declared.figures.Caidi.TheVariants.{Bounds, NotStated}
 use Rattle.answers.specs.declared.figures.Figures.{Figures}
-use Rattle.answers.specs.declared.outcome.Outcome.{Outcome}
-use Rattle.answers.specs.declared.outcome.Outcome.TheVariants.{Done, Refused}
 use Rattle.answers.specs.Told.{result, refusal, pair_values, figure_values, chance_values, outcome_told}
+use Rattle.std.specs.Prelude.{Ok, Err}
+use Rattle.answers.specs.Answers.{Outcome, finished}
 
-pub done-told : (o : Outcome) → outcome_told o ≡ result [] → o ≡ Done
-done-told Done told = refl
-done-told (Refused n) told = let z : ◌≡◌ {A = ℕ} 0 1 = cc in absurd (omega arith)
+pub done-told : (o : Outcome) → outcome_told o ≡ result [] → o ≡ finished
+done-told (Ok a) told = refl
+done-told (Err n) told = let z : ◌≡◌ {A = ℕ} 0 1 = cc in absurd (omega arith)
 
-pub refused-told : (o : Outcome) (n : ℕ) → outcome_told o ≡ refusal n → o ≡ Refused n
-refused-told Done n told = let z : ◌≡◌ {A = ℕ} 0 1 = cc in absurd (omega arith)
-refused-told (Refused m) n told = ap Refused (cc)
+pub refused-told : (o : Outcome) (n : ℕ) → outcome_told o ≡ refusal n → o ≡ Err n
+refused-told (Ok a) n told = let z : ◌≡◌ {A = ℕ} 0 1 = cc in absurd (omega arith)
+refused-told (Err m) n told = ap Err (cc)
 
 -- a pair by its values
 pub pair-told : (p q : Enclosure) → pair_values p ≡ pair_values q → p ≡ q

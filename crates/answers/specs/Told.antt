@@ -2,23 +2,13 @@
 -- enum that a call answers has its line here, and whoever speaks of the number or the values of an answer cites it.
 use Rattle.std.specs.Prelude.{ℕ, List, [], ◌∷◌, ◌++◌}
 use Rattle.answers.specs.Answered.{answered}
-use Rattle.answers.specs.declared.bounds.BoundsAnswer.{BoundsAnswer}
-use Rattle.answers.specs.declared.bounds.BoundsAnswer.TheVariants.{Bounds, Refused as NoBounds}
 use Rattle.answers.specs.declared.bounds.Enclosure.{Enclosure}
 use Rattle.answers.specs.declared.chances.Chances.{Chances as ChanceBounds}
-use Rattle.answers.specs.declared.chances.SurvivalAnswer.{SurvivalAnswer}
-use Rattle.answers.specs.declared.chances.SurvivalAnswer.TheVariants.{Chances, Refused as NoChances}
-use Rattle.answers.specs.declared.counts.CountAnswer.{CountAnswer}
-use Rattle.answers.specs.declared.counts.CountAnswer.TheVariants.{Count, Refused as NoCount}
-use Rattle.answers.specs.declared.counts.Listing.{Listing}
-use Rattle.answers.specs.declared.counts.Listing.TheVariants.{Listed, Refused as NotListed}
 use Rattle.answers.specs.declared.figures.Caidi.{Caidi}
 use Rattle.answers.specs.declared.figures.Caidi.TheVariants.{Bounds as Stated, NotStated}
 use Rattle.answers.specs.declared.figures.Figures.{Figures as FigureValues}
-use Rattle.answers.specs.declared.figures.FiguresAnswer.{FiguresAnswer}
-use Rattle.answers.specs.declared.figures.FiguresAnswer.TheVariants.{Figures, Refused as NoFigures}
-use Rattle.answers.specs.declared.outcome.Outcome.{Outcome}
-use Rattle.answers.specs.declared.outcome.Outcome.TheVariants.{Done, Refused}
+use Rattle.std.specs.Prelude.{Ok, Err}
+use Rattle.answers.specs.Answers.{BoundsAnswer, CountAnswer, FiguresAnswer, Listing, Outcome, SurvivalAnswer, finished}
 
 pub data Told : Type 0 where
   result : List ℕ → Told
@@ -54,28 +44,28 @@ chance_values chances = pair_values chances.survival ++ pair_values chances.fail
 
 -- of opening, the edits and the call for class bounds: only that it is done
 abbrev pub outcome_told : Outcome → Told
-outcome_told Done = result []
-outcome_told (Refused n) = refusal n
+outcome_told (Ok a) = result []
+outcome_told (Err n) = refusal n
 
 -- of the call for the list: the number of paths
 abbrev pub listing_told : Listing → Told
-listing_told (Listed count) = result (count.paths ∷ [])
-listing_told (NotListed n) = refusal n
+listing_told (Ok count) = result (count.paths ∷ [])
+listing_told (Err n) = refusal n
 
 -- of the calls for path bounds and for a text: the number of paths, or of bytes
 abbrev pub count_told : CountAnswer → Told
-count_told (Count n) = result (n ∷ [])
-count_told (NoCount n) = refusal n
+count_told (Ok n) = result (n ∷ [])
+count_told (Err n) = refusal n
 
 -- of the call for a load: the pair itself
 abbrev pub bounds_told : BoundsAnswer → Told
-bounds_told (Bounds pair) = result (pair_values pair)
-bounds_told (NoBounds n) = refusal n
+bounds_told (Ok pair) = result (pair_values pair)
+bounds_told (Err n) = refusal n
 
 -- of the call for the figures, what it tells of one or of all: the values that are wanted of them
 abbrev pub figures_told_of : (FigureValues → List ℕ) → FiguresAnswer → Told
-figures_told_of wanted (Figures figures) = result (wanted figures)
-figures_told_of wanted (NoFigures n) = refusal n
+figures_told_of wanted (Ok figures) = result (wanted figures)
+figures_told_of wanted (Err n) = refusal n
 
 -- a pair for each that is stated
 abbrev pub figures_told : FiguresAnswer → Told
@@ -83,8 +73,8 @@ figures_told = figures_told_of figure_values
 
 -- of the call for the chance of surviving, likewise
 abbrev pub survival_told_of : (ChanceBounds → List ℕ) → SurvivalAnswer → Told
-survival_told_of wanted (Chances chances) = result (wanted chances)
-survival_told_of wanted (NoChances n) = refusal n
+survival_told_of wanted (Ok chances) = result (wanted chances)
+survival_told_of wanted (Err n) = refusal n
 
 -- its pair, then that of failure
 abbrev pub survival_told : SurvivalAnswer → Told

@@ -6,10 +6,3 @@ pub struct Enclosure {
     pub lower: u64,
     pub upper: u64,
 }
-
-// The pair itself, or the refusal.
-#[derive(Clone, Copy)]
-pub enum BoundsAnswer {
-    Bounds(Enclosure),
-    Refused(u8),
-}

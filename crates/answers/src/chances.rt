@@ -7,10 +7,3 @@ pub struct Chances {
     pub survival: Enclosure,
     pub failure: Enclosure,
 }
-
-// The chances, or the refusal.
-#[derive(Clone, Copy)]
-pub enum SurvivalAnswer {
-    Chances(Chances),
-    Refused(u8),
-}

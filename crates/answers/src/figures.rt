@@ -16,10 +16,3 @@ pub struct Figures {
     pub caidi: Caidi,
     pub maifi: Enclosure,
 }
-
-// The figures, or the refusal.
-#[derive(Clone, Copy)]
-pub enum FiguresAnswer {
-    Figures(Figures),
-    Refused(u8),
-}

@@ -29,9 +29,6 @@ use Rattle.evaluation.specs.Figures.{figures_by}
 use Rattle.rules.proofs.Kept.{front_kept, front-broken}
 use Rattle.drawn_tree.specs.Drawn.{drawn_fault}
 use Rattle.study.specs.declared.Study.{Study}
-use Rattle.answers.specs.declared.counts.Listing.TheVariants.{Refused as NotListed}
-use Rattle.answers.specs.declared.figures.FiguresAnswer.TheVariants.{Refused as NoFigures}
-use Rattle.answers.specs.declared.outcome.Outcome.TheVariants.{Done}
 use Rattle.answers.proofs.Answered.{answered-refused}
 use Rattle.soundness.specs.Sound.{Sound}
 use Rattle.soundness.proofs.Checked.{none-unsound}
@@ -42,19 +39,21 @@ use Rattle.demands.specs.DrawnExamples.{DrawnExample, to, refused_by, like_case_
 use Rattle.demands.specs.DrawnExamples.{RefusedBy, DrawnRowHolds, DrawnExamples}
 use Rattle.demands.specs.WorkedExamples.{Results, case_a_opens, no_loss_gate_opens}
 use Rattle.demands.proofs.Given.{results_of, answer-sound, gives}
+use Rattle.std.specs.Prelude.{Err}
+use Rattle.answers.specs.Answers.{finished}
 
 -- a tree that is refused beside a sound study
 tree-refused : (t : Study) (tree : List ℕ) (n : ℕ) → Sound t → meaning_fault (by_tree tree) t ≡ n → (n ≡ 0 → ⊥) → RefusedBy t tree n
 unfolding paths_listed list_fault figures_given figures_fault
 tree-refused t tree n sound is some =
     record {
-      list = λ buffer. rw (front_kept _ _ (none-unsound t sound), ← front-broken _ (sym is) some) (answered-refused NotListed _ _ some);
-      figures = rw (front_kept _ _ (none-unsound t sound), ← front-broken _ (sym is) some) (answered-refused NoFigures _ _ some);
+      list = λ buffer. rw (front_kept _ _ (none-unsound t sound), ← front-broken _ (sym is) some) (answered-refused Err _ _ some);
+      figures = rw (front_kept _ _ (none-unsound t sound), ← front-broken _ (sym is) some) (answered-refused Err _ _ some);
     }
 
 -- ---- the rows
 
-module _ (e : DrawnExample) (opens : opened e.bytes ≡ e.opening) (done : e.opening.outcome ≡ Done) where
+module _ (e : DrawnExample) (opens : opened e.bytes ≡ e.opening) (done : e.opening.outcome ≡ finished) where
   is_sound : Sound e.opening.study
   is_sound = answer-sound e.bytes opens done
 

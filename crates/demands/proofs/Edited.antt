@@ -22,8 +22,6 @@ use Rattle.study.specs.Joint.{state_counts}
 use Rattle.study.specs.Places.{component_at, gate_at, load_at}
 use Rattle.study.specs.Zero.{zero_component, zero_load}
 use Rattle.answers.specs.Told.{result, outcome_told, tells}
-use Rattle.answers.specs.declared.outcome.Outcome.TheVariants.{Done}
-use Rattle.answers.specs.declared.outcome.StudyAnswer.{StudyAnswer}
 use Rattle.answers.proofs.Answered.{answered-tells, no-breach}
 use Rattle.soundness.specs.Check.{sound, probabilities_fault}
 use Rattle.soundness.specs.Sound.{SoundComponent, SoundGate, SoundLoad, Sound}
@@ -33,6 +31,7 @@ use Rattle.editing.specs.Edits.{load_edit_breaches, load_edit_fault, customers_s
 use Rattle.editing.proofs.Edited.{edited-done, edited-refused}
 use Rattle.demands.specs.Demand1.{EditedSound}
 use Rattle.demands.specs.Edits.{Edit, probabilities, customers, minutes, edit, edit_breaches, changed}
+use Rattle.answers.specs.Answers.{StudyAnswer, finished}
 
 -- ---- the answer of an edit
 
@@ -48,7 +47,7 @@ edit-is (minutes j n) t = refl
 
 -- what holds of the answer that is done and of the one that is refused holds of the answer
 pub either : (e : Edit) (t : Study) (P : StudyAnswer → Bool → Type 0)
-    → (breach e t ≡ 0 → P (record { outcome = Done; study = changed e t }) true)
+    → (breach e t ≡ 0 → P (record { outcome = finished; study = changed e t }) true)
     → ((breach e t ≡ 0 → ⊥) → P (refused_edit t (breach e t)) false)
     → P (edit e t) (eqb (breach e t) 0)
 either e t P done refused = go (eqb (breach e t) 0) refl

@@ -13,11 +13,6 @@ use Rattle.rules.proofs.Rows.{room-none, item-none}
 use Rattle.study.specs.declared.Study.{Study}
 use Rattle.entries.specs.Entries.{class_places}
 use Rattle.model.specs.Model.{Model, paths_of}
-use Rattle.answers.specs.declared.bounds.BoundsAnswer.TheVariants.{Bounds as Bounded, Refused as NoBounds}
-use Rattle.answers.specs.declared.counts.CountAnswer.TheVariants.{Count, Refused as NoCount}
-use Rattle.answers.specs.declared.counts.Listing.TheVariants.{Refused as NotListed}
-use Rattle.answers.specs.declared.outcome.Outcome.TheVariants.{Done, Refused}
-use Rattle.answers.specs.declared.outcome.StudyAnswer.{StudyAnswer}
 use Rattle.answers.specs.Told.{outcome_told}
 use Rattle.answers.proofs.Answered.{answered-done, filled-done}
 use Rattle.soundness.specs.Check.{sound}
@@ -34,6 +29,8 @@ use Rattle.path_calls.specs.Listing.{path_list, list_fault, paths_listed, buffer
 use Rattle.loss_calls.specs.Bounds.{loss_of, loss_fault, load_bounded}
 use Rattle.loss_calls.specs.Figures.{figures_fault, figures_given}
 use Rattle.demands.specs.WorkedExamples.{Results, ListIs, PairIs, Gives}
+use Rattle.std.specs.Prelude.{Ok, Err}
+use Rattle.answers.specs.Answers.{StudyAnswer, finished}
 
 -- ---- what the definitions give of a model
 
@@ -65,34 +62,34 @@ module _ (m : Meaning) (t : Study) (s : Sound t) (kept : meaning_fault m t ≡ 0
   unfolding paths_listed buffer_listed list_fault
   the-list =
       record {
-        answer = λ buffer room. answered-done NotListed _ _ (none_of _ (room-none _ (length buffer) room));
+        answer = λ buffer room. answered-done Err _ _ (none_of _ (room-none _ (length buffer) room));
         written = λ buffer room. filled-done _ (joined (path_list m t)) buffer (none_of _ (room-none _ (length buffer) room));
       }
 
-  pub the-paths : PairIs (paths_bounded m t) (lower_of_paths m t) (upper_of_paths m t) (Count (length (path_list m t))) (length (path_list m t))
+  pub the-paths : PairIs (paths_bounded m t) (lower_of_paths m t) (upper_of_paths m t) (Ok (length (path_list m t))) (length (path_list m t))
       (path_lowers (model_of m t)) (path_uppers (model_of m t))
   unfolding paths_bounded
   the-paths =
       record {
-        answered = λ lower upper low high. answered-done NoCount _ _ (pair-none _ lower upper low high);
+        answered = λ lower upper low high. answered-done Err _ _ (pair-none _ lower upper low high);
         lower_written = λ lower upper low high. filled-done _ _ lower (pair-none _ lower upper low high);
         upper_written = λ lower upper low high. filled-done _ _ upper (pair-none _ lower upper low high);
       }
 
-  pub the-classes : PairIs (classes_bounded m t) (lower_of_classes m t) (upper_of_classes m t) Done class_places
+  pub the-classes : PairIs (classes_bounded m t) (lower_of_classes m t) (upper_of_classes m t) finished class_places
       (class_lowers (model_of m t)) (class_uppers (model_of m t))
   unfolding classes_bounded
   the-classes =
       record {
-        answered = λ lower upper low high. answered-done Refused _ _ (pair-none _ lower upper low high);
+        answered = λ lower upper low high. answered-done Err _ _ (pair-none _ lower upper low high);
         lower_written = λ lower upper low high. filled-done _ _ lower (pair-none _ lower upper low high);
         upper_written = λ lower upper low high. filled-done _ _ upper (pair-none _ lower upper low high);
       }
 
-  pub a-load : (j : ℕ) → j < t.loads → load_bounded m t j ≡ Bounded (loss_of (model_of m t) j)
+  pub a-load : (j : ℕ) → j < t.loads → load_bounded m t j ≡ Ok (loss_of (model_of m t) j)
   unfolding load_bounded loss_fault
   a-load j below =
-      answered-done NoBounds _ _ (list-none _ _ (none-unsound t s) (list-none _ _ (item-none t.loads j below) (list-none _ [] kept none-none)))
+      answered-done Err _ _ (list-none _ _ (none-unsound t s) (list-none _ _ (item-none t.loads j below) (list-none _ [] kept none-none)))
 
   pub the-figures : figures_given m t ≡ figures_by (load_lowers (model_of m t)) (load_uppers (model_of m t)) (model_of m t).loads
   unfolding figures_given figures_fault figures_by model_of
@@ -105,12 +102,12 @@ module _ (m : Meaning) (t : Study) (s : Sound t) (kept : meaning_fault m t ≡ 0
         list = the-list;
         paths = the-paths;
         classes = the-classes;
-        loads = λ j below. a-load j below ∙ ap Bounded (sym (get_or-tabulate (loss_of (model_of m t)) (length (model_of m t).loads) j _ (rw number below)));
+        loads = λ j below. a-load j below ∙ ap Ok (sym (get_or-tabulate (loss_of (model_of m t)) (length (model_of m t).loads) j _ (rw number below)));
         each_load = length-tabulate (loss_of (model_of m t)) (length (model_of m t).loads) ∙ number;
         figures = the-figures;
       })
 
 -- what opening answers is sound where it is done
-pub answer-sound : (bytes : List ℕ) {a : StudyAnswer} → opened bytes ≡ a → a.outcome ≡ Done → Sound a.study
+pub answer-sound : (bytes : List ℕ) {a : StudyAnswer} → opened bytes ≡ a → a.outcome ≡ finished → Sound a.study
 answer-sound bytes opens done =
     subst (λ (a : StudyAnswer). Sound a.study) opens (opened-sound bytes (ap (λ (a : StudyAnswer). outcome_told a.outcome) opens ∙ ap outcome_told done))

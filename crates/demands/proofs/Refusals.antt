@@ -8,11 +8,6 @@ use Rattle.rules.specs.Breach.{first_breach}
 use Rattle.study.specs.declared.Study.{Study}
 use Rattle.answers.specs.Answered.{filled}
 use Rattle.answers.specs.Told.{Told, refusal, tells, outcome_told, listing_told, count_told, bounds_told, figures_told}
-use Rattle.answers.specs.declared.bounds.BoundsAnswer.TheVariants.{Refused as NoBounds}
-use Rattle.answers.specs.declared.counts.CountAnswer.TheVariants.{Refused as NoCount}
-use Rattle.answers.specs.declared.counts.Listing.TheVariants.{Refused as NotListed}
-use Rattle.answers.specs.declared.figures.FiguresAnswer.TheVariants.{Refused as NoFigures}
-use Rattle.answers.specs.declared.outcome.Outcome.TheVariants.{Refused}
 use Rattle.answers.proofs.Answered.{answered-tells, no-breach, some-breach, filled-refused, filled-taken, filled-behind}
 use Rattle.writing.specs.Saving.{write_fault, study_written, buffer_written}
 use Rattle.path_calls.specs.Bounds.{pair_breach, paths_bounded, classes_bounded}
@@ -28,6 +23,7 @@ use Rattle.demands.specs.Calls.{Call, an_edit, list_paths, path_bounds, class_bo
 use Rattle.demands.specs.Calls.{call_told, call_breaches, call_values, study_after, Lent, call_lent}
 use Rattle.demands.specs.Demand1.{OfEach, Kept, FrontFilled, KeptBehind, Refuses, CallsRefuse, TextRefuses, ReportRefuses, TextsRefuse}
 use Rattle.demands.proofs.Edited.{edit-tells, edit-kept}
+use Rattle.std.specs.Prelude.{Err}
 
 -- ---- any call
 
@@ -59,12 +55,12 @@ call-refuses : (c : Call) (t : Study) → Refuses (call_told c t) (call_breaches
 unfolding list_fault paths_listed buffer_listed pair_breach paths_bounded classes_bounded loss_fault load_bounded figures_fault figures_given
     write_fault study_written buffer_written
 call-refuses (an_edit e) t = refuses _ _ [] (edit-tells e t) tt
-call-refuses (list_paths m buffer) t = refuses _ _ _ (answered-tells NotListed _ _ listing_told _ (λ n. refl) refl) (refl, tt)
-call-refuses (path_bounds m lower upper) t = refuses _ _ _ (answered-tells NoCount _ _ count_told _ (λ n. refl) refl) (refl, (refl, tt))
-call-refuses (class_bounds m lower upper) t = refuses _ _ _ (answered-tells Refused _ _ outcome_told _ (λ n. refl) refl) (refl, (refl, tt))
-call-refuses (load_bounds m j) t = refuses _ _ [] (answered-tells NoBounds _ _ bounds_told _ (λ n. refl) refl) tt
-call-refuses (figures m) t = refuses _ _ [] (answered-tells NoFigures _ _ figures_told _ (λ n. refl) refl) tt
-call-refuses (write_study buffer) t = refuses _ _ _ (answered-tells NoCount _ _ count_told _ (λ n. refl) refl) (refl, tt)
+call-refuses (list_paths m buffer) t = refuses _ _ _ (answered-tells Err _ _ listing_told _ (λ n. refl) refl) (refl, tt)
+call-refuses (path_bounds m lower upper) t = refuses _ _ _ (answered-tells Err _ _ count_told _ (λ n. refl) refl) (refl, (refl, tt))
+call-refuses (class_bounds m lower upper) t = refuses _ _ _ (answered-tells Err _ _ outcome_told _ (λ n. refl) refl) (refl, (refl, tt))
+call-refuses (load_bounds m j) t = refuses _ _ [] (answered-tells Err _ _ bounds_told _ (λ n. refl) refl) tt
+call-refuses (figures m) t = refuses _ _ [] (answered-tells Err _ _ figures_told _ (λ n. refl) refl) tt
+call-refuses (write_study buffer) t = refuses _ _ _ (answered-tells Err _ _ count_told _ (λ n. refl) refl) (refl, tt)
 
 study_kept : (c : Call) (t : Study) (n : ℕ) → call_told c t ≡ refusal n → study_after c t ≡ t
 study_kept (an_edit e) t n refused = edit-kept e t (some-breach _ [] n (edit-tells e t) refused)

@@ -20,8 +20,6 @@ use Rattle.study.specs.Places.{Shaped}
 use Rattle.soundness.specs.Sound.{Sound}
 use Rattle.soundness.proofs.Ranges.{loads-most}
 use Rattle.answers.specs.Told.{count_told, outcome_told, bounds_told, listing_told}
-use Rattle.answers.specs.declared.bounds.BoundsAnswer.{BoundsAnswer}
-use Rattle.answers.specs.declared.outcome.StudyAnswer.{StudyAnswer}
 use Rattle.answers.proofs.Answered.{filled-front}
 use Rattle.answers.proofs.Told.{done-told}
 use Rattle.entries.specs.Entries.{class_borne, class_places}
@@ -51,6 +49,7 @@ use Rattle.demands.proofs.Finished.{finished}
 use Rattle.demands.proofs.Given.{the-list, the-paths, the-classes, a-load, the-figures}
 use Rattle.demands.proofs.ListsEqual.{call-holds}
 use Rattle.demands.proofs.Paths.{are-paths}
+use Rattle.answers.specs.Answers.{BoundsAnswer, StudyAnswer}
 
 -- ---- the lines, one kind after the other
 

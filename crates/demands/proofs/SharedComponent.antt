@@ -22,7 +22,6 @@ use Rattle.gate_record.specs.Gate.{threshold, inputs_byte, test, tests, input, i
 use Rattle.load_record.specs.Load.{loss_gate, size, customers, minutes, load_field, load}
 use Rattle.answers.specs.Answered.{answered}
 use Rattle.answers.specs.Told.{bounds_told}
-use Rattle.answers.specs.declared.bounds.BoundsAnswer.TheVariants.{Bounds}
 use Rattle.answers.specs.declared.bounds.Enclosure.{Enclosure}
 use Rattle.opening.specs.Laws.{IsOpened}
 use Rattle.opening.specs.Opening.{count, component_after, component_record, records, study, answer, opened}
@@ -32,6 +31,7 @@ use Rattle.loss_calls.specs.Bounds.{loss_of}
 use Rattle.demands.specs.SharedComponent.{sharing, sharing_model, SharedComponent}
 use Rattle.demands.specs.WorkedExamples.{at}
 use Rattle.demands.proofs.Given.{a-load}
+use Rattle.std.specs.Prelude.{Ok}
 
 pub shared-component : SharedComponent
 unfolding each refuse outside byte word map_byte
@@ -51,5 +51,5 @@ shared-component =
       second = refl;
       both = refl;
       no_product = λ e. true≢false (sym (eq-eqb _ _ e));
-      told = ap bounds_told (a-load by_gates (opened sharing).study (opened-sound sharing opens) refl 2 (omega arith) ∙ ap Bounds bounds);
+      told = ap bounds_told (a-load by_gates (opened sharing).study (opened-sound sharing opens) refl 2 (omega arith) ∙ ap Ok bounds);
     }

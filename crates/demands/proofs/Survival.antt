@@ -8,7 +8,6 @@ use Rattle.rules.specs.Breach.{refuse, first_breach}
 use Rattle.rules.specs.Limits.{farthest}
 use Rattle.rules.proofs.Kept.{list-last}
 use Rattle.answers.specs.Told.{result, refusal, chance_values, survival_told}
-use Rattle.answers.specs.declared.chances.SurvivalAnswer.TheVariants.{Chances as Given, Refused}
 use Rattle.answers.proofs.Answered.{answered-done, answered-tells, tells-result, tells-refusal, no-breach, values-told}
 use Rattle.answers.proofs.Told.{chances-told}
 use Rattle.survival.specs.Chances.{survival_breaches, survival_fault, chances_of, survival_given}
@@ -16,6 +15,7 @@ use Rattle.survival.proofs.Promise.{survival-promises}
 use Rattle.demands.specs.Demand1.{Refuses}
 use Rattle.demands.specs.Survival.{SurvivalRefuses, SurvivalEncloses}
 use Rattle.demands.proofs.Refusals.{refuses}
+use Rattle.std.specs.Prelude.{Ok, Err}
 
 module _ (fit hours : ℕ) where
   abbrev exponent : ℕ
@@ -23,7 +23,7 @@ module _ (fit hours : ℕ) where
 
   call-refuses : Refuses (survival_told (survival_given fit hours)) (survival_breaches fit hours) (chance_values (chances_of exponent)) []
   unfolding survival_given survival_fault
-  call-refuses = refuses _ _ [] (answered-tells Refused _ _ survival_told _ (λ n. refl) refl) tt
+  call-refuses = refuses _ _ [] (answered-tells Err _ _ survival_told _ (λ n. refl) refl) tt
 
   far : farthest < exponent → first_breach (survival_breaches fit hours) ≡ 23
   unfolding refuse
@@ -49,4 +49,4 @@ survival-encloses fit hours c told =
     let is = (call-refuses fit hours).answer in
     let none = no-breach _ _ (chance_values c) is told in
     let same = chances-told (chances_of (fit * hours)) c (values-told _ _ (chance_values c) is told) in
-    survival-promises fit hours c (answered-done Refused _ _ none ∙ ap Given same)
+    survival-promises fit hours c (answered-done Err _ _ none ∙ ap Ok same)

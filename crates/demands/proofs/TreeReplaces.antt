@@ -15,12 +15,6 @@ use Rattle.study.specs.declared.Study.{Study}
 use Rattle.study.specs.Joint.{state_counts}
 use Rattle.answers.specs.Answered.{answered, filled}
 use Rattle.answers.specs.Told.{listing_told, count_told, outcome_told, bounds_told, figures_told}
-use Rattle.answers.specs.declared.bounds.BoundsAnswer.TheVariants.{Bounds, Refused as NoBounds}
-use Rattle.answers.specs.declared.counts.CountAnswer.TheVariants.{Count, Refused as NoCount}
-use Rattle.answers.specs.declared.counts.Listing.TheVariants.{Listed, Refused as NotListed}
-use Rattle.answers.specs.declared.figures.FiguresAnswer.{FiguresAnswer}
-use Rattle.answers.specs.declared.figures.FiguresAnswer.TheVariants.{Figures, Refused as NoFigures}
-use Rattle.answers.specs.declared.outcome.Outcome.TheVariants.{Done, Refused}
 use Rattle.soundness.specs.Check.{sound}
 use Rattle.soundness.specs.Sound.{Sound}
 use Rattle.soundness.proofs.Checked.{check-accepts}
@@ -40,6 +34,8 @@ use Rattle.loss_calls.specs.Bounds.{loss_fault, load_bounded}
 use Rattle.loss_calls.specs.Figures.{figures_fault, figures_given}
 use Rattle.demands.specs.Calls.{Question, paths, bounds_of_paths, bounds_of_classes, bounds_of_load, all_figures, ask, call_told}
 use Rattle.demands.specs.DrawnTrees.{loads_of, AlikeButGates, left_of, TreeReplacesGates}
+use Rattle.std.specs.Prelude.{Ok, Err}
+use Rattle.answers.specs.Answers.{FiguresAnswer, finished}
 
 module _ (t u : Study) (first : Sound t) (second : Sound u) (alike : AlikeButGates t u) (tree : List ℕ) where
   same-sound : sound t ≡ sound u
@@ -79,8 +75,8 @@ module _ (t u : Study) (first : Sound t) (second : Sound u) (alike : AlikeButGat
       ∙ ap (λ (loads : List Load). given t loads) (bare-same (loads_of t) (loads_of u) alike.customers alike.minutes)
       ∙ values
       (λ s c l p q.
-      answered NoFigures (breach s c l (customers_fault (customers_sum (map bare (loads_of u)))))
-      (Figures (figures_of (customers_sum (map bare (loads_of u))) (lower_loads p (length c) q) (upper_loads p (length c) q) (map bare (loads_of u)))))
+      answered Err (breach s c l (customers_fault (customers_sum (map bare (loads_of u)))))
+      (Ok (figures_of (customers_sum (map bare (loads_of u))) (lower_loads p (length c) q) (upper_loads p (length c) q) (map bare (loads_of u)))))
       ∙ bare-figures u
     where
       given : Study → List Load → FiguresAnswer
@@ -88,8 +84,8 @@ module _ (t u : Study) (first : Sound t) (second : Sound u) (alike : AlikeButGat
           let p = probability_table (model_of (by_tree tree) w) in
           let q = paths_of (model_of (by_tree tree) w) in
           let n = length (state_counts w) in
-          answered NoFigures (breach (sound w) (state_counts w) w.loads (customers_fault (customers_sum loads)))
-          (Figures (figures_of (customers_sum loads) (lower_loads p n q) (upper_loads p n q) loads))
+          answered Err (breach (sound w) (state_counts w) w.loads (customers_fault (customers_sum loads)))
+          (Ok (figures_of (customers_sum loads) (lower_loads p n q) (upper_loads p n q) loads))
 
       bare-figures : (w : Study) → given w (map bare (loads_of w)) ≡ given w (loads_of w)
       bare-figures w = rw (customers-bare (loads_of w), figures-bare _ _ _ (loads_of w)) refl
@@ -99,18 +95,18 @@ module _ (t u : Study) (first : Sound t) (second : Sound u) (alike : AlikeButGat
   same-told (paths d) =
       values
       (λ s c l p q.
-      listing_told (answered NotListed (breach s c l (room_fault (length (joined q)) (length d))) (Listed (record { paths = length q }))))
+      listing_told (answered Err (breach s c l (room_fault (length (joined q)) (length d))) (Ok (record { paths = length q }))))
   same-told (bounds_of_paths lower upper) =
       values
-      (λ s c l p q. count_told (answered NoCount (breach s c l (pair_fault (length q) (length lower) (length upper))) (Count (length q))))
+      (λ s c l p q. count_told (answered Err (breach s c l (pair_fault (length q) (length lower) (length upper))) (Ok (length q))))
   same-told (bounds_of_classes lower upper) =
-      values (λ s c l p q. outcome_told (answered Refused (breach s c l (pair_fault class_places (length lower) (length upper))) Done))
+      values (λ s c l p q. outcome_told (answered Err (breach s c l (pair_fault class_places (length lower) (length upper))) finished))
   same-told (bounds_of_load j) =
       values
       (λ s c l p q.
       bounds_told
-      (answered NoBounds (first_breach (unsound_fault s ∷ item_fault l j ∷ drawn_fault c l tree ∷ []))
-      (Bounds (record { lower = lower_loss p (length c) q j; upper = upper_loss p (length c) q j }))))
+      (answered Err (first_breach (unsound_fault s ∷ item_fault l j ∷ drawn_fault c l tree ∷ []))
+      (Ok (record { lower = lower_loss p (length c) q j; upper = upper_loss p (length c) q j }))))
   same-told all_figures = ap figures_told same-figures
 
   same_left : (q : Question) → left_of (ask (by_tree tree) q) t ≡ left_of (ask (by_tree tree) q) u

@@ -22,12 +22,12 @@ use Rattle.component_record.specs.Component.{state_count, probability, component
 use Rattle.gate_record.specs.Gate.{threshold, inputs_byte, test, tests, gate_field, gate}
 use Rattle.load_record.specs.Load.{loss_gate, size, customers, minutes, load_field, load}
 use Rattle.answers.specs.Answered.{answered}
-use Rattle.answers.specs.declared.outcome.Outcome.TheVariants.{Done}
 use Rattle.opening.specs.Opening.{count, component_after, component_record, records, study, answer, opened}
 use Rattle.meaning.specs.Meaning.{by_gates, model_of}
 use Rattle.evaluation.specs.Figures.{figures_by}
 use Rattle.demands.specs.WorkedExamples.{Results, Example, votes, opens, listing, case_a_opens, no_loss_gate_opens, RowHolds, WorkedExamples}
 use Rattle.demands.proofs.Given.{results_of, answer-sound, gives}
+use Rattle.answers.specs.Answers.{finished}
 
 -- ---- the rows
 
@@ -36,7 +36,7 @@ refused : (e : Example) → opened e.bytes ≡ e.opening → e.results ≡ none 
 refused e opens no-results = record { opening = opens; results = rw no-results tt }
 
 -- an example whose study opens; that it is sound is a law of opening
-holds : (e : Example) (r : Results) → e.results ≡ some r → opened e.bytes ≡ e.opening → e.opening.outcome ≡ Done
+holds : (e : Example) (r : Results) → e.results ≡ some r → opened e.bytes ≡ e.opening → e.opening.outcome ≡ finished
     → results_of (model_of by_gates e.opening.study) ≡ r → length (model_of by_gates e.opening.study).loads ≡ e.opening.study.loads → RowHolds e
 holds e r has opens done computed number =
     record { opening = opens; results = rw has (gives by_gates e.opening.study (answer-sound e.bytes opens done) refl r computed number) }

@@ -3,10 +3,7 @@
 use Rattle.std.specs.Prelude.{ℕ, ◌≡◌, List, [], ◌∷◌}
 use Rattle.units.specs.One.{one}
 use Rattle.study.specs.declared.Study.{Study}
-use Rattle.answers.specs.declared.counts.Listing.TheVariants.{Refused as NotListed}
 use Rattle.answers.specs.declared.figures.Caidi.TheVariants.{Bounds, NotStated}
-use Rattle.answers.specs.declared.figures.FiguresAnswer.TheVariants.{Refused as NoFigures}
-use Rattle.answers.specs.declared.outcome.StudyAnswer.{StudyAnswer}
 use Rattle.entries.specs.Entries.{blank_mark, entry}
 use Rattle.opening.specs.Opening.{opened}
 use Rattle.meaning.specs.Meaning.{by_tree}
@@ -14,6 +11,8 @@ use Rattle.path_calls.specs.Listing.{paths_listed}
 use Rattle.loss_calls.specs.Figures.{figures_given}
 use Rattle.demands.specs.CaseA.{case_a}
 use Rattle.demands.specs.WorkedExamples.{Results, results_are, at, figures_are, no_customers, case_a_opens, no_loss_gate_opens, Gives}
+use Rattle.std.specs.Prelude.{Err}
+use Rattle.answers.specs.Answers.{StudyAnswer}
 
 -- what a tree beside a study comes to: results, or a refusal
 pub data Comes : Type 0 where
@@ -90,8 +89,8 @@ drawn_examples =
 
 -- the calls for the list and for the figures are refused by n, whatever is lent
 pub record RefusedBy (t : Study) (tree : List ℕ) (n : ℕ) : Type 0 where
-  pub list : (buffer : List ℕ) → paths_listed (by_tree tree) t buffer ≡ NotListed n
-  pub figures : figures_given (by_tree tree) t ≡ NoFigures n
+  pub list : (buffer : List ℕ) → paths_listed (by_tree tree) t buffer ≡ Err n
+  pub figures : figures_given (by_tree tree) t ≡ Err n
 
 abbrev pub ComesHolds : Study → List ℕ → Comes → Type 0
 ComesHolds t tree (to r) = Gives (by_tree tree) t r

@@ -6,13 +6,13 @@ use Rattle.rules.specs.Table.{item_fault, size_fault}
 use Rattle.study.specs.declared.Component.{Component}
 use Rattle.study.specs.declared.Load.{Load}
 use Rattle.study.specs.declared.Study.{Study}
-use Rattle.answers.specs.declared.outcome.StudyAnswer.{StudyAnswer}
 use Rattle.study.specs.Edits.{with_probabilities, with_customers, with_minutes, with_component, with_load}
 use Rattle.study.specs.Places.{component_at, load_at}
 use Rattle.soundness.specs.Check.{probabilities_fault}
 use Rattle.opening.specs.Laws.{IsOpened}
 use Rattle.opening.specs.Opening
 use Rattle.editing.specs.Edits.{component_edit_breaches, probabilities_set, load_edit_breaches, customers_set, minutes_set}
+use Rattle.answers.specs.Answers.{StudyAnswer}
 
 -- an edit names an item and gives its new numbers
 pub data Edit : Type 0 where

@@ -10,16 +10,9 @@ use Rattle.study.specs.declared.Gate.{Gate}
 use Rattle.study.specs.declared.Load.{Load}
 use Rattle.study.specs.declared.Study.{Study}
 use Rattle.study.specs.Zero.{zero_component, zero_gate, zero_load}
-use Rattle.answers.specs.declared.bounds.BoundsAnswer.TheVariants.{Bounds as Bounded}
 use Rattle.answers.specs.declared.bounds.Enclosure.{Enclosure}
-use Rattle.answers.specs.declared.counts.CountAnswer.TheVariants.{Count}
-use Rattle.answers.specs.declared.counts.Listing.TheVariants.{Listed}
 use Rattle.answers.specs.declared.figures.Caidi.{Caidi}
 use Rattle.answers.specs.declared.figures.Caidi.TheVariants.{Bounds, NotStated}
-use Rattle.answers.specs.declared.figures.FiguresAnswer.{FiguresAnswer}
-use Rattle.answers.specs.declared.figures.FiguresAnswer.TheVariants.{Figures, Refused}
-use Rattle.answers.specs.declared.outcome.Outcome.TheVariants.{Done}
-use Rattle.answers.specs.declared.outcome.StudyAnswer.{StudyAnswer}
 use Rattle.entries.specs.Entries.{blank_mark, class_places, entry}
 use Rattle.opening.specs.Opening.{opened, refused_opening}
 use Rattle.meaning.specs.Meaning.{Meaning, by_gates}
@@ -27,6 +20,8 @@ use Rattle.path_calls.specs.Bounds.{paths_bounded, lower_of_paths, upper_of_path
 use Rattle.path_calls.specs.Listing.{paths_listed, buffer_listed}
 use Rattle.loss_calls.specs.Bounds.{load_bounded}
 use Rattle.loss_calls.specs.Figures.{figures_given}
+use Rattle.std.specs.Prelude.{Ok, Err}
+use Rattle.answers.specs.Answers.{FiguresAnswer, StudyAnswer, finished}
 
 -- ---- studies in few words
 
@@ -69,7 +64,7 @@ unfoldable pub opens : List Component → List Gate → List Load → StudyAnswe
 unfolding padded zero_gate
 opens cs gs ls =
     record {
-      outcome = Done;
+      outcome = finished;
       study =
           record {
             components = length cs;
@@ -139,10 +134,10 @@ listing bytes opening paths bounds classes loads figures =
 
 -- the figures, and their refusal where there are no customers
 abbrev pub figures_are : Enclosure → Enclosure → Caidi → Enclosure → FiguresAnswer
-figures_are saifi saidi caidi maifi = Figures (record { saifi = saifi; saidi = saidi; caidi = caidi; maifi = maifi })
+figures_are saifi saidi caidi maifi = Ok (record { saifi = saifi; saidi = saidi; caidi = caidi; maifi = maifi })
 
 abbrev pub no_customers : FiguresAnswer
-no_customers = Refused 19
+no_customers = Err 19
 
 -- component 0 in state 1, by itself
 abbrev failed0 : Gate
@@ -263,7 +258,7 @@ examples =
 
 -- the call for the list, with any buffer that has the room, answers the number of these paths and writes them
 pub record ListIs (m : Meaning) (t : Study) (paths : List (List ℕ)) : Type 0 where
-  pub answer : (buffer : List ℕ) → length (joined paths) ≤ length buffer → paths_listed m t buffer ≡ Listed (record { paths = length paths })
+  pub answer : (buffer : List ℕ) → length (joined paths) ≤ length buffer → paths_listed m t buffer ≡ Ok (record { paths = length paths })
   pub written : (buffer : List ℕ) → length (joined paths) ≤ length buffer → buffer_listed m t buffer ≡ put buffer 0 (joined paths)
 
 -- a call for bounds, with any two slices that have the room, answers so and writes these
@@ -276,9 +271,9 @@ pub record PairIs {A : Type 0} (answers : List ℕ → List ℕ → A) (left rig
 -- the calls on a study, by its gates or by a drawn tree, give the results
 pub record Gives (m : Meaning) (t : Study) (r : Results) : Type 0 where
   pub list : ListIs m t r.paths
-  pub paths : PairIs (paths_bounded m t) (lower_of_paths m t) (upper_of_paths m t) (Count (length r.paths)) (length r.paths) r.lower r.upper
-  pub classes : PairIs (classes_bounded m t) (lower_of_classes m t) (upper_of_classes m t) Done class_places r.class_lower r.class_upper
-  pub loads : (j : ℕ) → j < t.loads → load_bounded m t j ≡ Bounded (get_or r.loads j (at 0))
+  pub paths : PairIs (paths_bounded m t) (lower_of_paths m t) (upper_of_paths m t) (Ok (length r.paths)) (length r.paths) r.lower r.upper
+  pub classes : PairIs (classes_bounded m t) (lower_of_classes m t) (upper_of_classes m t) finished class_places r.class_lower r.class_upper
+  pub loads : (j : ℕ) → j < t.loads → load_bounded m t j ≡ Ok (get_or r.loads j (at 0))
   pub each_load : length r.loads ≡ t.loads
   pub figures : figures_given m t ≡ r.figures
 

@@ -7,18 +7,17 @@ use Rattle.rules.specs.Breach.{first_breach}
 use Rattle.rules.specs.Table.{unsound_fault}
 use Rattle.study.specs.declared.Study.{Study}
 use Rattle.soundness.specs.Check.{sound}
-use Rattle.answers.specs.declared.outcome.Outcome.TheVariants.{Done}
-use Rattle.answers.specs.declared.outcome.StudyAnswer.{StudyAnswer}
 use Rattle.answers.proofs.Answered.{answered-done, answered-refused}
 use Rattle.editing.specs.Edits.{edited, refused_edit}
+use Rattle.answers.specs.Answers.{StudyAnswer, finished}
 
 pub edited-refused : (breach : ℕ) (old new : Study) → (breach ≡ 0 → ⊥) → edited breach old new ≡ refused_edit old breach
 unfolding edited
-edited-refused breach old new = answered-refused (refused_edit old) breach (record { outcome = Done; study = new })
+edited-refused breach old new = answered-refused (refused_edit old) breach (record { outcome = finished; study = new })
 
-pub edited-done : (breach : ℕ) (old new : Study) → breach ≡ 0 → edited breach old new ≡ record { outcome = Done; study = new }
+pub edited-done : (breach : ℕ) (old new : Study) → breach ≡ 0 → edited breach old new ≡ record { outcome = finished; study = new }
 unfolding edited
-edited-done breach old new = answered-done (refused_edit old) breach (record { outcome = Done; study = new })
+edited-done breach old new = answered-done (refused_edit old) breach (record { outcome = finished; study = new })
 
 -- the first breach: 16, then 17, then that of the field
 pub edit-judged : {fault unsound item field own wanted : ℕ} {is_sound : Bool} (t : Study) → fault ≡ first_breach (unsound ∷ item ∷ field ∷ [])

@@ -5,20 +5,20 @@ use Rattle.rules.specs.Limits.{most_customers, most_minutes}
 use Rattle.rules.specs.Table.{unsound_fault, item_fault, size_fault}
 use Rattle.study.specs.declared.Study.{Study}
 use Rattle.answers.specs.Answered.{answered}
-use Rattle.answers.specs.declared.outcome.Outcome.TheVariants.{Done, Refused}
-use Rattle.answers.specs.declared.outcome.StudyAnswer.{StudyAnswer}
 use Rattle.study.specs.Edits.{with_probabilities, with_customers, with_minutes, with_component, with_load}
 use Rattle.study.specs.Places.{component_at, load_at}
 use Rattle.soundness.specs.Check.{sound, probabilities_fault}
+use Rattle.std.specs.Prelude.{Err}
+use Rattle.answers.specs.Answers.{StudyAnswer, finished}
 
 -- a refused edit hands the study back as it was
 abbrev pub refused_edit : Study → ℕ → StudyAnswer
-refused_edit old n = record { outcome = Refused n; study = old }
+refused_edit old n = record { outcome = Err n; study = old }
 
 -- done with the new study, or refused with the old one
 unfoldable pub edited : ℕ → Study → Study → StudyAnswer
 unfolding answered
-edited breach old new = answered (refused_edit old) breach (record { outcome = Done; study = new })
+edited breach old new = answered (refused_edit old) breach (record { outcome = finished; study = new })
 
 -- 16, then 17, then 5 for a probability above 0 of a state that the component lacks, then 6
 abbrev pub component_edit_breaches : Study → ℕ → ℕ → ℕ → ℕ → List ℕ

@@ -4,13 +4,11 @@ use Rattle.std.specs.Prelude.{ℕ, ◌≡◌, List, [], ◌∷◌, length}
 use Rattle.rules.specs.Breach.{first_breach}
 use Rattle.rules.specs.Table.{room_fault}
 use Rattle.answers.specs.Answered.{answered, filled}
-use Rattle.answers.specs.declared.counts.CountAnswer.{CountAnswer}
-use Rattle.answers.specs.declared.counts.CountAnswer.TheVariants.{Count, Refused as NoCount}
-use Rattle.answers.specs.declared.outcome.Outcome.{Outcome}
-use Rattle.answers.specs.declared.outcome.Outcome.TheVariants.{Done, Refused}
 use Rattle.entries.specs.Entries.{class_places}
 use Rattle.model.specs.Model.{Model, paths_of}
 use Rattle.evaluation.specs.Bounds.{path_lowers, path_uppers, class_lowers, class_uppers}
+use Rattle.std.specs.Prelude.{Ok, Err}
+use Rattle.answers.specs.Answers.{CountAnswer, Outcome, finished}
 
 -- 18 where either slice has fewer places than each needs
 unfoldable pub pair_fault : ℕ → ℕ → ℕ → ℕ
@@ -33,10 +31,10 @@ pub record PairPut {A : Type 0} (refused : ℕ → A) (breach : ℕ) (done : A)
 -- the bounds of paths, with their number for an answer
 abbrev pub PathBoundsPut : Model → (lower-was upper-was lower upper : List ℕ) → CountAnswer → Type 0
 PathBoundsPut m lower-was upper-was =
-    PairPut NoCount (paths_room m lower-was upper-was) (Count (length (paths_of m)))
+    PairPut Err (paths_room m lower-was upper-was) (Ok (length (paths_of m)))
     (path_lowers m) (path_uppers m) lower-was upper-was
 
 -- the bounds of classes
 abbrev pub ClassBoundsPut : Model → (lower-was upper-was lower upper : List ℕ) → Outcome → Type 0
 ClassBoundsPut m lower-was upper-was =
-    PairPut Refused (pair_room class_places lower-was upper-was) Done (class_lowers m) (class_uppers m) lower-was upper-was
+    PairPut Err (pair_room class_places lower-was upper-was) finished (class_lowers m) (class_uppers m) lower-was upper-was

@@ -1,12 +1,12 @@
 -- The calls for the figures of the study that an image holds, by its gates or by a drawn tree, each in two numbers.
 use Rattle.std.specs.Prelude.{ℕ, ◌≡◌, List, ℤ}
 use Rattle.answers.specs.declared.bounds.Enclosure.{Enclosure}
-use Rattle.answers.specs.declared.figures.FiguresAnswer.{FiguresAnswer}
 use Rattle.answers.specs.Told.{pair_values, caidi_values, figures_told_of, figures_told}
 use Rattle.meaning.specs.Meaning.{Meaning}
 use Rattle.loss_calls.specs.Figures.{figures_given}
 use Rattle.study_image.specs.Image.{study_in}
 use Rattle.export_answers.specs.Answers.{answered_by, pairs, left_by}
+use Rattle.answers.specs.Answers.{FiguresAnswer}
 
 -- an answer in the numbers: how many figures are stated, and what is left in the two of each; CAIDI has no values
 -- where it is not stated

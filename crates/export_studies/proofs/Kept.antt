@@ -16,7 +16,6 @@ use Rattle.rules.specs.Breach.{refuse, first, first_breach, outside}
 use Rattle.rules.specs.Table.{unsound_fault, room_fault}
 use Rattle.rules.proofs.Kept.{first_some, first_next, list-kept, list-more, list-last, two-judged, both-kept}
 use Rattle.study.specs.declared.Study.{Study}
-use Rattle.answers.specs.declared.outcome.StudyAnswer.{StudyAnswer}
 use Rattle.study.specs.Zero.{zero_study}
 use Rattle.soundness.specs.Check.{front_fault, sound}
 use Rattle.study_image.specs.Places.{image_bytes}
@@ -27,6 +26,7 @@ use Rattle.answers.proofs.Answered.{answered-tells, tells-number}
 use Rattle.editing.specs.Edits.{refused_edit, edited}
 use Rattle.export_answers.proofs.Signed.{handed-on}
 use Rattle.export_studies.specs.Images.{refusal_of, keep_fault, Keeps, KeepsStudy, KeepsEdited}
+use Rattle.answers.specs.Answers.{StudyAnswer}
 
 -- ---- the study of an answer
 

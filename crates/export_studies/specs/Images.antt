@@ -3,7 +3,6 @@ use Rattle.std.specs.Prelude.{ℕ, ◌≡◌, List, [], ◌∷◌, ℤ, length}
 use Rattle.rules.specs.Breach.{first_breach}
 use Rattle.rules.specs.Table.{room_fault}
 use Rattle.study.specs.declared.Study.{Study}
-use Rattle.answers.specs.declared.outcome.StudyAnswer.{StudyAnswer}
 use Rattle.answers.specs.Answered.{filled}
 use Rattle.answers.specs.Told.{number_told, tells, outcome_told}
 use Rattle.opening.specs.Opening.{opened}
@@ -11,6 +10,7 @@ use Rattle.editing.specs.Edits.{probabilities_set, customers_set, minutes_set}
 use Rattle.study_image.specs.Places.{image_bytes}
 use Rattle.study_image.specs.Image.{image_of, study_in}
 use Rattle.export_answers.specs.Answers.{answered_by, done}
+use Rattle.answers.specs.Answers.{StudyAnswer}
 
 -- a call that keeps a study: what it answers, and what it leaves of a slice
 pub record Keeps (breach : ℕ) (t : Study) (was slice : List ℕ) (answer : ℤ) : Type 0 where

@@ -1,10 +1,10 @@
 -- The call for the chances of surviving and of failure, each in two numbers.
 use Rattle.std.specs.Prelude.{ℕ, ◌≡◌, ℤ}
 use Rattle.answers.specs.declared.bounds.Enclosure.{Enclosure}
-use Rattle.answers.specs.declared.chances.SurvivalAnswer.{SurvivalAnswer}
 use Rattle.answers.specs.Told.{pair_values, survival_told_of, survival_told}
 use Rattle.survival.specs.Chances.{survival_given}
 use Rattle.export_answers.specs.Answers.{answered_by, done, left_by}
+use Rattle.answers.specs.Answers.{SurvivalAnswer}
 
 -- an answer in the numbers: 0 or the refusal, and what is left in the two of each chance
 pub record TakesChances (given : SurvivalAnswer) (survival-was failure-was survival failure : Enclosure) (answer : ℤ) :

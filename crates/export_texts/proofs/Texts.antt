@@ -6,7 +6,6 @@ use lib.IntN.{ℤ}
 use lib.Signed.{mag}
 use mir.Syntax.{w64}
 use mir.Val.{hbits, to_z, of_z}
-use Rattle.answers.specs.declared.counts.CountAnswer.{CountAnswer}
 use Rattle.answers.specs.Told.{count_told}
 use Rattle.lent_text.specs.Lent.{reported as text_reported, written}
 use Rattle.words.specs.Words.{refusal_word}
@@ -14,6 +13,7 @@ use Rattle.report_text.specs.Lent.{reported, buffer_reported, lower_reported, up
 use Rattle.export_answers.specs.Answers.{answered_by, count}
 use Rattle.export_answers.proofs.Signed.{handed}
 use Rattle.export_texts.specs.Texts.{Reports, Words}
+use Rattle.answers.specs.Answers.{CountAnswer}
 
 module _ {a : CountAnswer} {r : ℤ} (fits : mag r < 2 ^ hbits w64) (is : r ≡ answered_by count (count_told a)) where
   pub word-written : (number : ℕ) {was buffer : List ℕ} → (a ≡ text_reported (refusal_word number) was) × (buffer ≡ written (refusal_word number) was)

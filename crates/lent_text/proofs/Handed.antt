@@ -8,10 +8,10 @@ use Rattle.rules.specs.Table.{room_fault}
 use Rattle.rules.proofs.Kept.{list-last}
 use Rattle.rules.proofs.Rows.{room-kept}
 use Rattle.text.specs.Writing.{Room, Wrote}
-use Rattle.answers.specs.declared.counts.CountAnswer.TheVariants.{Count, Refused}
 use Rattle.answers.specs.Told.{tells, count_told}
 use Rattle.answers.proofs.Answered.{answered-done, answered-refused, answered-tells, filled-done, filled-refused}
 use Rattle.lent_text.specs.Lent.{text_fault, reported, written}
+use Rattle.std.specs.Prelude.{Ok, Err}
 
 -- without a breach the text fits
 fault-kept : (text buffer : List ℕ) → text_fault text buffer ≡ 0 → length text ≤ length buffer
@@ -27,9 +27,9 @@ module _ (text buffer : List ℕ) {fault : ℕ} (is-fault : fault ≡ room_fault
   judged = is-fault ∙ sym (list-last _)
 
   -- a buffer that is too short
-  pub refused_over : (fault ≡ 0 → ⊥) → (Refused fault ≡ reported text buffer) × (buffer ≡ written text buffer)
+  pub refused_over : (fault ≡ 0 → ⊥) → (Err fault ≡ reported text buffer) × (buffer ≡ written text buffer)
   unfolding reported written
-  refused_over some = rw (← judged) (sym (answered-refused Refused fault (Count (length text)) some), sym (filled-refused fault text buffer some))
+  refused_over some = rw (← judged) (sym (answered-refused Err fault (Ok (length text)) some), sym (filled-refused fault text buffer some))
 
   -- one that is not has the room
   pub over-room : fault ≡ 0 → Room buffer 0 text
@@ -37,13 +37,13 @@ module _ (text buffer : List ℕ) {fault : ℕ} (is-fault : fault ≡ room_fault
 
   -- and holds the text once it is written
   pub handed-over : {after : List ℕ} {next : ℕ} → fault ≡ 0 → Wrote buffer 0 text after next
-      → (Count (length text) ≡ reported text buffer) × (after ≡ written text buffer)
+      → (Ok (length text) ≡ reported text buffer) × (after ≡ written text buffer)
   unfolding reported written
   handed-over none wrote =
       let kept = sym judged ∙ none in
-      (sym (answered-done Refused _ _ kept), wrote.holds ∙ sym (filled-done _ text buffer kept))
+      (sym (answered-done Err _ _ kept), wrote.holds ∙ sym (filled-done _ text buffer kept))
 
 -- the number of bytes is told, or the breach
 pub reported-tells : (text buffer : List ℕ) → count_told (reported text buffer) ≡ tells (text_fault text buffer) (length text ∷ [])
 unfolding reported
-reported-tells text buffer = answered-tells Refused (text_fault text buffer) (Count (length text)) count_told (length text ∷ []) (λ n. refl) refl
+reported-tells text buffer = answered-tells Err (text_fault text buffer) (Ok (length text)) count_told (length text ∷ []) (λ n. refl) refl

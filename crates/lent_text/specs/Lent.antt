@@ -3,8 +3,8 @@ use Rattle.std.specs.Prelude.{ℕ, List, [], ◌∷◌, length}
 use Rattle.rules.specs.Breach.{first_breach}
 use Rattle.rules.specs.Table.{room_fault}
 use Rattle.answers.specs.Answered.{answered, filled}
-use Rattle.answers.specs.declared.counts.CountAnswer.{CountAnswer}
-use Rattle.answers.specs.declared.counts.CountAnswer.TheVariants.{Count, Refused}
+use Rattle.std.specs.Prelude.{Ok, Err}
+use Rattle.answers.specs.Answers.{CountAnswer}
 
 -- 18 where the buffer is too short for the text
 unfoldable pub text_fault : List ℕ → List ℕ → ℕ
@@ -13,7 +13,7 @@ text_fault text buffer = first_breach (room_fault (length text) (length buffer) 
 -- the answer: the number of bytes
 unfoldable pub reported : List ℕ → List ℕ → CountAnswer
 unfolding answered text_fault
-reported text buffer = answered Refused (text_fault text buffer) (Count (length text))
+reported text buffer = answered Err (text_fault text buffer) (Ok (length text))
 
 -- the text fills the buffer's front, and nothing behind it changes; a buffer that is too short stays as it was
 unfoldable pub written : List ℕ → List ℕ → List ℕ

@@ -4,13 +4,13 @@ use Rattle.rules.specs.Breach.{first_breach}
 use Rattle.rules.specs.Table.{unsound_fault, item_fault}
 use Rattle.study.specs.declared.Study.{Study}
 use Rattle.answers.specs.Answered.{answered}
-use Rattle.answers.specs.declared.bounds.BoundsAnswer.{BoundsAnswer}
-use Rattle.answers.specs.declared.bounds.BoundsAnswer.TheVariants.{Bounds, Refused as NoBounds}
 use Rattle.answers.specs.declared.bounds.Enclosure.{Enclosure}
 use Rattle.model.specs.Model.{Model, components, paths_of, probability_table}
 use Rattle.probability.specs.Totals.{lower_loss, upper_loss}
 use Rattle.soundness.specs.Check.{sound}
 use Rattle.meaning.specs.Meaning.{Meaning, meaning_fault, model_of}
+use Rattle.std.specs.Prelude.{Ok, Err}
+use Rattle.answers.specs.Answers.{BoundsAnswer}
 
 -- 16, then 17, then a breach of the meaning
 abbrev pub loss_breaches : Meaning → Study → ℕ → List ℕ
@@ -30,4 +30,4 @@ loss_of m j =
 -- the answer: the pair itself
 unfoldable pub load_bounded : Meaning → Study → ℕ → BoundsAnswer
 unfolding answered loss_fault
-load_bounded m t j = answered NoBounds (loss_fault m t j) (Bounds (loss_of (model_of m t) j))
+load_bounded m t j = answered Err (loss_fault m t j) (Ok (loss_of (model_of m t) j))

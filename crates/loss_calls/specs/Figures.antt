@@ -4,12 +4,12 @@ use Rattle.rules.specs.Breach.{first_breach}
 use Rattle.rules.specs.Table.{unsound_fault, customers_fault}
 use Rattle.study.specs.declared.Study.{Study}
 use Rattle.answers.specs.Answered.{answered}
-use Rattle.answers.specs.declared.figures.FiguresAnswer.{FiguresAnswer}
-use Rattle.answers.specs.declared.figures.FiguresAnswer.TheVariants.{Figures, Refused}
 use Rattle.indices.specs.Figures.{customers_sum}
 use Rattle.soundness.specs.Check.{sound}
 use Rattle.meaning.specs.Meaning.{Meaning, meaning_fault, model_of}
 use Rattle.evaluation.specs.Figures.{model_figures}
+use Rattle.std.specs.Prelude.{Ok, Err}
+use Rattle.answers.specs.Answers.{FiguresAnswer}
 
 -- the customers of all loads of a study
 abbrev pub customers_of : Study → ℕ
@@ -24,4 +24,4 @@ figures_fault m t = first_breach (figures_breaches m t)
 
 unfoldable pub figures_given : Meaning → Study → FiguresAnswer
 unfolding answered
-figures_given m t = answered Refused (figures_fault m t) (Figures (model_figures (model_of m t)))
+figures_given m t = answered Err (figures_fault m t) (Ok (model_figures (model_of m t)))

@@ -12,8 +12,9 @@ use Rattle.reading.specs.Reader.{Read, Reader, Reads, refused, got, and_then, as
 use Rattle.study.specs.declared.Study.{Study}
 use Rattle.gate_order.specs.Order.{ordered}
 use Rattle.answers.specs.Answered.{answered}
-use Rattle.answers.specs.declared.outcome.Outcome.TheVariants.{Done, Refused}
 use Rattle.opening.specs.Opening.{answer, refused_opening}
+use Rattle.std.specs.Prelude.{Err}
+use Rattle.answers.specs.Answers.{finished}
 
 -- a reading that is refused is the whole answer
 pub answer-refused : {A : Type 0} {s : List ℕ} {p n : ℕ} {v : A} {r : Read A} (f : A → Reader Study) → Reads s p n v r → (p ≡ 0 → ⊥)
@@ -33,17 +34,17 @@ module _ {left : ℕ} (t : Study) (rest : List ℕ) (rule : left ≡ left_fault 
   unfolding answer answered
   answer-left some = rw (← rule, ne_eqb left 0 some)
 
-  pub answer-ended : {u : Study} → u ≡ ordered t → left ≡ 0 → record { outcome = Done; study = u } ≡ answer (got t rest)
+  pub answer-ended : {u : Study} → u ≡ ordered t → left ≡ 0 → record { outcome = finished; study = u } ≡ answer (got t rest)
   unfolding answer answered
-  answer-ended {u} sorted none = ap (λ (v : Study). record { outcome = Done; study = v }) sorted ∙ rw (← rule, eq-eqb left 0 none)
+  answer-ended {u} sorted none = ap (λ (v : Study). record { outcome = finished; study = v }) sorted ∙ rw (← rule, eq-eqb left 0 none)
 
 -- ---- by what was read
 
-pub is-refused : (n : ℕ) → (answer (refused n)).outcome ≡ Refused n
+pub is-refused : (n : ℕ) → (answer (refused n)).outcome ≡ Err n
 unfolding answer refused_opening answered
 is-refused n = refl
 
-pub ends : (t : Study) → (answer (got t [])).outcome ≡ Done
+pub ends : (t : Study) → (answer (got t [])).outcome ≡ finished
 unfolding answer refuse answered
 ends t = refl
 
@@ -52,9 +53,9 @@ pub left_over : (t : Study) (b : ℕ) (rest : List ℕ) → answer (got t (b ∷
 unfolding answer refuse answered
 left_over t b rest = rw (lt-ltb 0 (suc (length rest)) (zero-lt-suc (length rest)))
 
-pub left : (t : Study) (b : ℕ) (rest : List ℕ) → (answer (got t (b ∷ rest))).outcome ≡ Refused 15
+pub left : (t : Study) (b : ℕ) (rest : List ℕ) → (answer (got t (b ∷ rest))).outcome ≡ Err 15
 unfolding refused_opening
 left t b rest = rw (left_over t b rest)
 
-pub not-both : (n : ℕ) → Done ≡ Refused n → ⊥
+pub not-both : (n : ℕ) → finished ≡ Err n → ⊥
 not-both n e = let z : ◌≡◌ {A = ℕ} 0 1 = cc in omega arith

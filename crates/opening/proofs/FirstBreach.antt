@@ -20,7 +20,6 @@ use Rattle.opening.specs.Opening.{count, component_after, component_record, gate
 use Rattle.study.specs.declared.Component.{Component}
 use Rattle.study.specs.declared.Gate.{Gate}
 use Rattle.study.specs.declared.Load.{Load}
-use Rattle.answers.specs.declared.outcome.Outcome.TheVariants.{Done, Refused}
 use Rattle.answers.specs.Told.{outcome_told}
 use Rattle.answers.proofs.Told.{done-told, refused-told}
 use Rattle.study.specs.declared.Study.{Study}
@@ -30,6 +29,8 @@ use Rattle.study.specs.Joint.{states}
 use Rattle.study.specs.Zero.{no_components, no_gates, no_loads}
 use Rattle.opening.specs.Laws.{FirstBreach}
 use Rattle.opening.proofs.Answers.{is-refused, ends, left, not-both}
+use Rattle.std.specs.Prelude.{Err}
+use Rattle.answers.specs.Answers.{finished}
 
 -- ---- every reader is local
 
@@ -116,14 +117,14 @@ local-study =
 -- ---- what opening answers to a front part
 
 -- a front part that is refused with another number than 1 decides
-decides : (rest : List ℕ) (r r' : Read Study) → Stands short rest r r' → (n : ℕ) → (answer r).outcome ≡ Refused n → (n ≡ 1 → ⊥) → (answer r').outcome ≡ Refused n
+decides : (rest : List ℕ) (r r' : Read Study) → Stands short rest r r' → (n : ℕ) → (answer r).outcome ≡ Err n → (n ≡ 1 → ⊥) → (answer r').outcome ≡ Err n
 decides rest r r' (inl e) n is other = absurd (other (cc (is-refused short)))
 decides rest (refused m) r' (inr e) n is other = cc
 decides rest (got t []) r' (inr e) n is other = absurd (not-both n (cc (ends t)))
 decides rest (got t (b ∷ bs)) r' (inr e) n is other = cc (left t b bs, left t b (bs ++ rest))
 
 -- a strict front part of bytes that open is too short
-shortens : (rest : List ℕ) (r r' : Read Study) → Stands short rest r r' → (answer r').outcome ≡ Done → (rest ≡ [] → ⊥) → (answer r).outcome ≡ Refused 1
+shortens : (rest : List ℕ) (r r' : Read Study) → Stands short rest r r' → (answer r').outcome ≡ finished → (rest ≡ [] → ⊥) → (answer r).outcome ≡ Err 1
 shortens rest r r' (inl e) done some = cc (is-refused short)
 shortens rest (refused m) r' (inr e) done some = absurd (not-both m (cc (is-refused m)))
 shortens [] (got t []) r' (inr e) done some = absurd (some refl)
@@ -131,7 +132,7 @@ shortens (b ∷ bs) (got t []) r' (inr e) done some = absurd (not-both 15 (cc (l
 shortens rest (got t (b ∷ bs)) r' (inr e) done some = absurd (not-both 15 (cc (left t b (bs ++ rest))))
 
 -- bytes behind bytes that open are left over
-leaves : (rest : List ℕ) (r r' : Read Study) → Stands short rest r r' → (answer r).outcome ≡ Done → (rest ≡ [] → ⊥) → (answer r').outcome ≡ Refused 15
+leaves : (rest : List ℕ) (r r' : Read Study) → Stands short rest r r' → (answer r).outcome ≡ finished → (rest ≡ [] → ⊥) → (answer r').outcome ≡ Err 15
 leaves rest r r' (inl e) done some = absurd (not-both short (cc (is-refused short)))
 leaves rest (refused m) r' (inr e) done some = absurd (not-both m (cc (is-refused m)))
 leaves [] (got t []) r' (inr e) done some = absurd (some refl)

@@ -13,11 +13,11 @@ use Rattle.study.specs.declared.Gate.{Gate}
 use Rattle.study.specs.declared.Load.{Load}
 use Rattle.study.specs.declared.Study.{Study}
 use Rattle.answers.specs.Answered.{answered}
-use Rattle.answers.specs.declared.outcome.Outcome.TheVariants.{Done, Refused}
-use Rattle.answers.specs.declared.outcome.StudyAnswer.{StudyAnswer}
 use Rattle.study.specs.Joint.{states}
 use Rattle.study.specs.Zero.{no_components, no_gates, no_loads, zero_study}
 use Rattle.gate_order.specs.Order.{ordered}
+use Rattle.std.specs.Prelude.{Err}
+use Rattle.answers.specs.Answers.{StudyAnswer, finished}
 
 -- one of the first three bytes
 unfoldable pub count : ℕ → Reader ℕ
@@ -69,13 +69,13 @@ study = do
 
 -- a refused opening answers the number and a study of zeros
 unfoldable pub refused_opening : ℕ → StudyAnswer
-refused_opening n = record { outcome = Refused n; study = zero_study }
+refused_opening n = record { outcome = Err n; study = zero_study }
 
 -- the answer to a reading; the end is judged last, and then the inputs of each gate are put in order
 unfoldable pub answer : Read Study → StudyAnswer
 unfolding answered ordered
 answer (refused n) = refused_opening n
-answer (got t rest) = answered refused_opening (left_fault (length rest)) (record { outcome = Done; study = ordered t })
+answer (got t rest) = answered refused_opening (left_fault (length rest)) (record { outcome = finished; study = ordered t })
 
 -- the study of a reading as the bytes give it, before its inputs are put in order; of zeros where the reading is
 -- refused

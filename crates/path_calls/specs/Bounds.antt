@@ -4,16 +4,14 @@ use Rattle.rules.specs.Breach.{first_breach}
 use Rattle.rules.specs.Table.{unsound_fault}
 use Rattle.study.specs.declared.Study.{Study}
 use Rattle.answers.specs.Answered.{answered, filled}
-use Rattle.answers.specs.declared.counts.CountAnswer.{CountAnswer}
-use Rattle.answers.specs.declared.counts.CountAnswer.TheVariants.{Count, Refused as NoCount}
-use Rattle.answers.specs.declared.outcome.Outcome.{Outcome}
-use Rattle.answers.specs.declared.outcome.Outcome.TheVariants.{Done, Refused}
 use Rattle.entries.specs.Entries.{class_places}
 use Rattle.model.specs.Model.{paths_of}
 use Rattle.soundness.specs.Check.{sound}
 use Rattle.meaning.specs.Meaning.{Meaning, meaning_fault, model_of}
 use Rattle.evaluation.specs.Bounds.{path_lowers, path_uppers, class_lowers, class_uppers}
 use Rattle.evaluation.specs.Rooms.{pair_fault}
+use Rattle.std.specs.Prelude.{Ok, Err}
+use Rattle.answers.specs.Answers.{CountAnswer, Outcome, finished}
 
 -- ---- two slices of which each needs so many places
 
@@ -40,7 +38,7 @@ upper_of_paths m t lower upper = filled (paths_fault m t lower upper) (path_uppe
 -- the answer: the number of paths
 unfoldable pub paths_bounded : Meaning → Study → List ℕ → List ℕ → CountAnswer
 unfolding answered pair_breach
-paths_bounded m t lower upper = answered NoCount (paths_fault m t lower upper) (Count (length (paths_of (model_of m t))))
+paths_bounded m t lower upper = answered Err (paths_fault m t lower upper) (Ok (length (paths_of (model_of m t))))
 
 -- ---- the calls for classes
 
@@ -57,4 +55,4 @@ upper_of_classes m t lower upper = filled (classes_fault m t lower upper) (class
 -- the answer: only that it is done
 unfoldable pub classes_bounded : Meaning → Study → List ℕ → List ℕ → Outcome
 unfolding answered pair_breach
-classes_bounded m t lower upper = answered Refused (classes_fault m t lower upper) Done
+classes_bounded m t lower upper = answered Err (classes_fault m t lower upper) finished

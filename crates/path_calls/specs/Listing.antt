@@ -5,11 +5,11 @@ use Rattle.rules.specs.Breach.{first_breach}
 use Rattle.rules.specs.Table.{unsound_fault, room_fault}
 use Rattle.study.specs.declared.Study.{Study}
 use Rattle.answers.specs.Answered.{answered, filled}
-use Rattle.answers.specs.declared.counts.Listing.{Listing}
-use Rattle.answers.specs.declared.counts.Listing.TheVariants.{Listed, Refused}
 use Rattle.model.specs.Model.{paths_of}
 use Rattle.soundness.specs.Check.{sound}
 use Rattle.meaning.specs.Meaning.{Meaning, meaning_fault, model_of}
+use Rattle.std.specs.Prelude.{Ok, Err}
+use Rattle.answers.specs.Answers.{Listing}
 
 -- the paths of a study under a meaning, an entry each
 abbrev pub path_list : Meaning → Study → List (List ℕ)
@@ -25,7 +25,7 @@ list_fault m t room = first_breach (list_breaches m t room)
 -- the number of paths
 unfoldable pub paths_listed : Meaning → Study → List ℕ → Listing
 unfolding answered
-paths_listed m t buffer = answered Refused (list_fault m t (length buffer)) (Listed (record { paths = length (path_list m t) }))
+paths_listed m t buffer = answered Err (list_fault m t (length buffer)) (Ok (record { paths = length (path_list m t) }))
 
 -- the entries
 unfoldable pub buffer_listed : Meaning → Study → List ℕ → List ℕ

@@ -1,8 +1,6 @@
-pub mod After
 pub mod Alike
 pub mod Back
 pub mod Bytes
-pub mod Calls
 pub mod Ends
 pub mod Held
 pub mod Local
@@ -10,4 +8,3 @@ pub mod MapBits
 pub mod Repeats
 pub mod Spelled
 pub mod Takes
-pub mod Told

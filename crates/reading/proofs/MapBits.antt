@@ -6,13 +6,10 @@ use native.Mathlib.Nat.{div-one, div-eq_of_lt}
 use native.Mathlib.Omega.{arith}
 use lib.Pow.{shr-shr}
 use lib.Count.{ones, ones_step}
-use lib.ListN.{drop}
 use Rattle.lists.specs.Bits.{digit}
 use Rattle.lists.specs.Run.{each}
-use Rattle.rules.specs.Breach.{first}
-use Rattle.reading.specs.Reader.{Read, Reader, Reads, refused, got, turn, as_read}
+use Rattle.reading.specs.Reader.{Read, Reader, refused, got, turn}
 use Rattle.reading.specs.Fields.{BitLeft, field_at, fields, map_bits}
-use Rattle.reading.proofs.Repeats.{RepeatLeft, repeat-start, repeat-more}
 
 -- the bits from k on are bit k and those from k + 1 on
 ones-from : (map k : ℕ) → ones (map / 2 ^ k) ≡ digit map k + ones (map / 2 ^ (k + 1))
@@ -56,33 +53,16 @@ module _ {A : Type 0} (field : ℕ → A → Reader A) (map : ℕ) where
       let rest : ones (map / 2 ^ (k + 1)) ≡ 0 = omega (arith, ones-from map k) in
       ap (each (turn (field_at field map)) n (k + 1)) (clear-turn k r clear) ∙ none_left n (k + 1) r rest
 
-  module _ (absent : A) (at : ℕ) {a b d : A} {s : List ℕ} {p n q n' r n'' pq pqr : ℕ} where
-    -- the fields of the first three bits are read
-    three-read : Reads s p n a (field_at field map 0 absent (drop at s)) → Reads s q n' b (field_at field map 1 a (drop n s)) → pq ≡ first p q
-        → Reads s r n'' d (field_at field map 2 b (drop n' s)) → pqr ≡ first pq r → RepeatLeft (field_at field map) map_bits absent s at pqr n'' d 3
-    unfolding first
-    three-read one two e three e' =
-        let turn : (refusal next : ℕ) (value : A) (k : ℕ) → Type 0 = RepeatLeft (field_at field map) map_bits absent s at in
-        let left₁ : turn p n a 1 = repeat-more (repeat-start refl) (omega arith) one refl in
-        let left₂ : turn pq n' b 2 = repeat-more left₁ (omega arith) two e in
-        repeat-more left₂ (omega arith) three e'
-
-    -- a map below 8 has no bit from 3 on: they are all of them
-    pub three-fields : map < 8 → Reads s p n a (field_at field map 0 absent (drop at s)) → Reads s q n' b (field_at field map 1 a (drop n s)) → pq ≡ first p q
-        → Reads s r n'' d (field_at field map 2 b (drop n' s)) → pqr ≡ first pq r → Reads s pqr n'' d (fields field map absent (drop at s))
-    unfolding ones
-    three-fields few one two e three e' =
-        record {
-          same =
-              sym (none_left (map_bits - 3) 3 (as_read s pqr n'' d) (ap ones (div-eq_of_lt few)))
-              ∙ (three-read one two e three e').turns.same;
-        }
+  module _ (absent : A) (bytes : List ℕ) where
+    -- a map below 8 has no bit from 3 on: its fields are those of the first three
+    pub three-fields : map < 8
+        → fields field map absent bytes ≡ turn (field_at field map) 2 (turn (field_at field map) 1 (field_at field map 0 absent bytes))
+    unfolding ones each
+    three-fields few = none_left (map_bits - 3) 3 _ (ap ones (div-eq_of_lt few))
 
     -- a map below 16 has no bit from 4 on
-    pub four-fields : {t m all : ℕ} {f : A} → map < 16 → Reads s p n a (field_at field map 0 absent (drop at s))
-        → Reads s q n' b (field_at field map 1 a (drop n s)) → pq ≡ first p q → Reads s r n'' d (field_at field map 2 b (drop n' s)) → pqr ≡ first pq r
-        → Reads s t m f (field_at field map 3 d (drop n'' s)) → all ≡ first pqr t → Reads s all m f (fields field map absent (drop at s))
-    unfolding ones
-    four-fields {t} {m} {all} {f} few one two e three e' four e'' =
-        let left₄ : RepeatLeft (field_at field map) map_bits absent s at all m f 4 = repeat-more (three-read one two e three e') (omega arith) four e'' in
-        record { same = sym (none_left (map_bits - 4) 4 (as_read s all m f) (ap ones (div-eq_of_lt few))) ∙ left₄.turns.same }
+    pub four-fields : map < 16
+        → fields field map absent bytes
+        ≡ turn (field_at field map) 3 (turn (field_at field map) 2 (turn (field_at field map) 1 (field_at field map 0 absent bytes)))
+    unfolding ones each
+    four-fields few = none_left (map_bits - 4) 4 _ (ap ones (div-eq_of_lt few))

@@ -1,19 +1,13 @@
 -- What carries a loop over numbered readings: the turns that are left, on what was read so far, give what the whole run gives.
-use Prim.Native.Nat.{ℕ, zero, suc, ◌+◌, ◌-◌, ◌<◌, ◌≤◌}
-use mathlib.Core.Path.{◌≡◌, refl, sym, ap, subst, ◌∙◌}
-use mathlib.Core.List.{List}
+use Rattle.std.proofs.Common.{ℕ, zero, suc, ◌+◌, ◌-◌, ◌<◌, ◌≤◌, ◌≡◌, refl, ap, sym, subst, ◌∙◌, List, arith}
 use native.Mathlib.Nat.{sub-zero}
-use native.Mathlib.Omega.{arith}
-use lib.ListN.{drop}
 use Rattle.lists.specs.Run.{each}
 use Rattle.lists.proofs.Turns.{Turns, turns-start, turns_more, turns-done}
-use Rattle.rules.specs.Breach.{first}
-use Rattle.reading.specs.Reader.{Read, Reader, Reads, refused, got, and_then, turn, repeat, as_read}
-use Rattle.reading.proofs.After.{as_read-refused, as_read_lem, after}
+use Rattle.reading.specs.Reader.{Read, Reader, refused, got, and_then, turn, repeat}
 
--- From the place `at` the first i of n readings are made, and the code holds a refusal, the next place and a value.
-pub record RepeatLeft {A : Type 0} (step : ℕ → A → Reader A) (n : ℕ) (value₀ : A) (s : List ℕ) (at refusal next : ℕ) (value : A) (i : ℕ) : Type 0 where
-  pub turns : Turns (turn step) n 0 (got value₀ (drop at s)) i (as_read s refusal next value)
+-- The first i of n readings are made, and this is what they gave.
+pub record RepeatLeft {A : Type 0} (step : ℕ → A → Reader A) (n : ℕ) (value : A) (bytes : List ℕ) (read : Read A) (i : ℕ) : Type 0 where
+  pub turns : Turns (turn step) n 0 (got value bytes) i read
 
 -- a refusal stays through all later turns
 refused-run : {A : Type 0} (step : ℕ → A → Reader A) (n i q : ℕ) → each (turn step) n i (refused q) ≡ refused q
@@ -27,34 +21,20 @@ pub run-then : {A : Type 0} (step : ℕ → A → Reader A) (n i : ℕ) (r : Rea
 run-then step n i (refused q) = refused-run step n i q
 run-then step n i (got a rest) = refl
 
-module _ {A : Type 0} {step : ℕ → A → Reader A} {n : ℕ} {value₀ : A} {s : List ℕ} {at : ℕ} where
-  pub repeat-start : {value : A} → value ≡ value₀ → RepeatLeft step n value₀ s at 0 at value 0
-  unfolding as_read
-  repeat-start e = rw e (record { turns = turns-start (omega arith) })
+module _ {A : Type 0} {step : ℕ → A → Reader A} {n : ℕ} {value : A} {bytes : List ℕ} where
+  pub repeat-start : RepeatLeft step n value bytes (got value bytes) 0
+  repeat-start = record { turns = turns-start (omega arith) }
 
-  module _ {refusal next : ℕ} {value : A} {i : ℕ} (r : RepeatLeft step n value₀ s at refusal next value i) where
-    -- one more reading, by a step that hands on a refusal
-    pub repeat-turned : {refusal' n' : ℕ} {v' : A} → i < n → Reads s refusal' n' v' (turn step i (as_read s refusal next value))
-        → RepeatLeft step n value₀ s at refusal' n' v' (i + 1)
-    repeat-turned h read =
-        record { turns = subst (Turns (turn step) n 0 (got value₀ (drop at s)) (i + 1)) (sym read.same) (turns_more r.turns h) }
+  -- one more reading
+  pub repeat-more : {read next : Read A} {i : ℕ} → RepeatLeft step n value bytes read i → i < n → next ≡ turn step i read
+      → RepeatLeft step n value bytes next (i + 1)
+  repeat-more {i = i} left h e =
+      record { turns = subst (Turns (turn step) n 0 (got value bytes) (i + 1)) (sym e) (turns_more left.turns h) }
 
-    -- one more reading, whose refusal comes behind that so far
-    pub repeat-more : {q n' refusal' : ℕ} {v' : A} → i < n → Reads s q n' v' (step i value (drop next s)) → refusal' ≡ first refusal q
-        → RepeatLeft step n value₀ s at refusal' n' v' (i + 1)
-    repeat-more h read e = repeat-turned h (after (step i) as_read_lem read e)
+  -- no reading is left
+  pub repeat-done : {read : Read A} {i : ℕ} → RepeatLeft step n value bytes read i → n ≤ i → read ≡ repeat step n value bytes
+  repeat-done left h = rw sub-zero at (turns-done left.turns h)
 
-    -- no reading is left
-    pub repeat-done : n ≤ i → Reads s refusal next value (repeat step n value₀ (drop at s))
-    repeat-done h = record { same = rw sub-zero at (turns-done r.turns h) }
-
-    -- once a reading is refused, the run is, whatever value is held
-    pub repeat-stopped : {n' : ℕ} {v' : A} → (refusal ≡ 0 → ⊥) → Reads s refusal n' v' (repeat step n value₀ (drop at s))
-    repeat-stopped {n'} {v'} some =
-        record {
-          same =
-              as_read-refused s refusal n' v' some
-              ∙ sym (refused-run step (n - i) i refusal)
-              ∙ ap (each (turn step) (n - i) i) (sym (as_read-refused s refusal next value some))
-              ∙ (rw sub-zero at r.turns.same);
-        }
+  -- once a reading is refused, the run is
+  pub repeat-stopped : {q i : ℕ} → RepeatLeft step n value bytes (refused q) i → refused q ≡ repeat step n value bytes
+  repeat-stopped {q} {i} left = sym (refused-run step (n - i) i q) ∙ (rw sub-zero at left.turns.same)

@@ -1,6 +1,8 @@
 -- Reading bytes from left to right: a reader takes the bytes still to come, and refuses at the first breach or hands on a value and the bytes left.
-use Rattle.std.specs.Prelude.{ℕ, ◌+◌, ◌*◌, cond, ◌≡◌, List, [], ◌∷◌, eqb, drop, get_or}
+use Rattle.std.specs.Prelude.{ℕ, ◌+◌, ◌*◌, cond, List, [], ◌∷◌, eqb, get_or, Result, Ok, Err}
 use Rattle.lists.specs.Run.{each}
+use Rattle.rules.specs.declared.refusal.Refusal.{Refusal}
+use Rattle.rules.specs.Refusals.{row_of}
 use Rattle.rules.specs.Table.{short}
 
 pub data Read (A : Type 0) : Type 0 where
@@ -66,19 +68,7 @@ turn step i r = and_then r (step i)
 abbrev pub repeat : {A : Type 0} → (ℕ → A → Reader A) → ℕ → A → Reader A
 repeat step n a bytes = each (turn step) n 0 (got a bytes)
 
--- what the code holds of a reading: its refusal (0: none), the place of the next byte and the value
-unfoldable pub as_read : {A : Type 0} → List ℕ → ℕ → ℕ → A → Read A
-as_read bytes refusal next value = cond (eqb refusal 0) (got value (drop next bytes)) (refused refusal)
-
--- the code's reading is the one that a definition gives
-pub record Reads {A : Type 0} (bytes : List ℕ) (refusal next : ℕ) (value : A) (reading : Read A) : Type 0 where
-  pub same : as_read bytes refusal next value ≡ reading
-
--- the same of a reader at a place
-abbrev pub ReadsAt : {A : Type 0} → List ℕ → ℕ → Reader A → ℕ → ℕ → A → Type 0
-ReadsAt bytes at reader refusal next value = Reads bytes refusal next value (reader (drop at bytes))
-
--- and where the reading is not refused, P holds of the value
-pub record ReadsWith {A : Type 0} (P : A → Type 0) (bytes : List ℕ) (at : ℕ) (reader : Reader A) (refusal next : ℕ) (value : A) : Type 0 where
-  pub reads : ReadsAt bytes at reader refusal next value
-  pub kept : refusal ≡ 0 → P value
+-- What the code's reading is: its refusal by the row's number, or the value with the bytes still to come.
+abbrev pub read_of : {A : Type 0} → Result A Refusal → List ℕ → Read A
+read_of (Ok a) rest = got a rest
+read_of (Err refusal) rest = refused (row_of refusal)

@@ -6,8 +6,8 @@ use Rattle.text.specs.Lines.{number_line, bounds_line}
 use Rattle.answers.specs.declared.figures.Caidi.{Caidi}
 use Rattle.answers.specs.declared.figures.Caidi.TheVariants.{Bounds, NotStated}
 use Rattle.answers.specs.declared.figures.Figures.{Figures as FigureValues}
-use Rattle.answers.specs.declared.figures.FiguresAnswer.{FiguresAnswer}
-use Rattle.answers.specs.declared.figures.FiguresAnswer.TheVariants.{Figures, Refused}
+use Rattle.std.specs.Prelude.{Ok, Err}
+use Rattle.answers.specs.Answers.{FiguresAnswer}
 
 unfoldable pub caidi_line : Caidi → List ℕ
 caidi_line (Bounds b) = bounds_line (letters "CAIDI") b.lower b.upper
@@ -24,5 +24,5 @@ all_figures f =
 
 -- refusal 19 stands in the place of them all
 unfoldable pub figure_lines : FiguresAnswer → List ℕ
-figure_lines (Figures f) = all_figures f
-figure_lines (Refused n) = number_line (letters "INDICES") n
+figure_lines (Ok f) = all_figures f
+figure_lines (Err n) = number_line (letters "INDICES") n

@@ -18,7 +18,6 @@ use Rattle.units.specs.Rounding.{down, up}
 use Rattle.rules.specs.Breach.{refuse}
 use Rattle.rules.specs.Limits.{most_joint_states}
 use Rattle.answers.specs.Answered.{answered}
-use Rattle.answers.specs.declared.figures.FiguresAnswer.TheVariants.{Figures, Refused}
 use Rattle.entries.specs.Entries.{class_borne, class_places, byte_values}
 use Rattle.model.specs.Good.{Good}
 use Rattle.model.specs.Model.{Model, components, paths_of, probability_table}
@@ -40,6 +39,7 @@ use Rattle.report_lines.proofs.Borne.{borne-class, borne-most}
 use Rattle.report_lines.proofs.Widths.{path-lines-short, class-lines-short, load-lines-short}
 use Rattle.report_text.specs.Report.{report_bytes, refused_bytes, paths_text, classes_text, losses_text, model_text, refused_text}
 use Rattle.report_text.proofs.Printed.{model-figures-short}
+use Rattle.std.specs.Prelude.{Ok, Err}
 
 -- a text that is no longer has room in a buffer of that size
 pub has_room : {most : ℕ} (text d : List ℕ) → length text ≤ most → most ≤ length d → Room d 0 text
@@ -91,7 +91,7 @@ module _ (m : Model) (good : Good m) (classes : (x : List ℕ) → m.class x < c
   unfolding figure_lines figures_by refuse answered
   figures-short = go (eqb (customers_sum m.loads) 0)
     where
-      go : (b : Bool) → length (figure_lines (answered Refused (refuse 19 b) (Figures (model_figures m)))) ≤ 192
+      go : (b : Bool) → length (figure_lines (answered Err (refuse 19 b) (Ok (model_figures m)))) ≤ 192
       go true = omega (arith, number_short 2 (omega arith) (letters "INDICES") 19 (omega arith))
       go false = model-figures-short m.loads good.loads _ _ losses
 

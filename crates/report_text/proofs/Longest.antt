@@ -7,8 +7,6 @@ use lib.ListN.{length}
 use lib.Pow.{pow_mono}
 use Rattle.rules.specs.Limits.{most_loads}
 use Rattle.study.specs.declared.Study.{Study}
-use Rattle.answers.specs.declared.outcome.Outcome.{Outcome}
-use Rattle.answers.specs.declared.outcome.Outcome.TheVariants.{Done, Refused}
 use Rattle.answers.specs.Told.{outcome_told}
 use Rattle.soundness.specs.Sound.{Sound}
 use Rattle.soundness.proofs.Ranges.{loads-most}
@@ -24,6 +22,8 @@ use Rattle.report_text.specs.Laws.{ReportFits}
 use Rattle.report_text.specs.Report.{report_bytes, model_text, report_text}
 use Rattle.report_text.proofs.Fits.{refused-short, model-short}
 use Rattle.report_text.proofs.Opened.{text-done, text-refused, opened-study}
+use Rattle.std.specs.Prelude.{Ok, Err}
+use Rattle.answers.specs.Answers.{Outcome, finished}
 
 -- a class has a bit for each load
 class-byte : (t : Study) → Sound t → (x : List ℕ) → class_of t x < class_places
@@ -41,11 +41,11 @@ pub report-fits : ReportFits
 report-fits bytes = go (opened bytes).outcome refl
   where
     go : (o : Outcome) → (opened bytes).outcome ≡ o → length (report_text bytes) ≤ report_bytes
-    go Done done =
+    go (Ok a) done =
         let t = (opened bytes).study in
         let s = opened-study bytes refl done in
         subst (λ (text : List ℕ). length text ≤ report_bytes) (text-done bytes refl done)
         (gates-short t s)
-    go (Refused n) refused =
+    go (Err n) refused =
         let row = opening-rows bytes n (ap outcome_told refused) in
         subst (λ (text : List ℕ). length text ≤ report_bytes) (text-refused bytes refl refused) (omega (arith, refused-short n (omega (arith, row.most))))

@@ -9,9 +9,6 @@ use Rattle.text.specs.Lines.{number_line}
 use Rattle.rules.specs.Limits.{most_joint_states}
 use Rattle.study.specs.declared.Load.{Load}
 use Rattle.study.specs.declared.Study.{Study}
-use Rattle.answers.specs.declared.outcome.Outcome.{Outcome}
-use Rattle.answers.specs.declared.outcome.Outcome.TheVariants.{Done, Refused}
-use Rattle.answers.specs.declared.outcome.StudyAnswer.{StudyAnswer}
 use Rattle.answers.specs.Told.{outcome_told}
 use Rattle.soundness.specs.Sound.{Sound}
 use Rattle.opening.specs.Opening.{opened}
@@ -30,21 +27,23 @@ use Rattle.report_lines.specs.Figures.{figure_lines}
 use Rattle.report_lines.specs.Loads.{load_lines}
 use Rattle.report_lines.specs.Paths.{path_lines}
 use Rattle.report_text.specs.Report.{paths_text, classes_text, losses_text, model_text, refused_text, text_by, report_text}
+use Rattle.std.specs.Prelude.{Err}
+use Rattle.answers.specs.Answers.{Outcome, StudyAnswer, finished}
 
 module _ (bytes : List ℕ) {answer : StudyAnswer} (e : answer ≡ opened bytes) where
   by_answer : {o : Outcome} → answer.outcome ≡ o → text_by o answer.study ≡ report_text bytes
   unfolding report_text
   by_answer is = ap (λ (o : Outcome). text_by o answer.study) (sym is) ∙ ap (λ (a : StudyAnswer). text_by a.outcome a.study) e
 
-  pub text-done : answer.outcome ≡ Done → model_text (model_of by_gates answer.study) ≡ report_text bytes
+  pub text-done : answer.outcome ≡ finished → model_text (model_of by_gates answer.study) ≡ report_text bytes
   unfolding text_by
   text-done done = by_answer done
 
-  pub text-refused : {n : ℕ} → answer.outcome ≡ Refused n → refused_text n ≡ report_text bytes
+  pub text-refused : {n : ℕ} → answer.outcome ≡ Err n → refused_text n ≡ report_text bytes
   unfolding text_by
   text-refused refused = by_answer refused
 
-  pub opened-study : answer.outcome ≡ Done → Sound answer.study
+  pub opened-study : answer.outcome ≡ finished → Sound answer.study
   opened-study done =
       let told = ap (λ (a : StudyAnswer). outcome_told a.outcome) (sym e) ∙ ap outcome_told done in
       subst (λ (a : StudyAnswer). Sound a.study) (sym e) (opened-sound bytes told)

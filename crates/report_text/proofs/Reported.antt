@@ -16,11 +16,6 @@ use Rattle.rules.proofs.Kept.{Neither, list-none, list-last, list-more, first-la
 use Rattle.rules.proofs.Rows.{room-none, room-kept}
 use Rattle.answers.specs.Answered.{filled}
 use Rattle.answers.specs.Told.{tells, count_told}
-use Rattle.answers.specs.declared.counts.CountAnswer.{CountAnswer}
-use Rattle.answers.specs.declared.counts.CountAnswer.TheVariants.{Count, Refused as NoCount}
-use Rattle.answers.specs.declared.outcome.Outcome.{Outcome}
-use Rattle.answers.specs.declared.outcome.Outcome.TheVariants.{Done, Refused}
-use Rattle.answers.specs.declared.outcome.StudyAnswer.{StudyAnswer}
 use Rattle.answers.proofs.Answered.{answered-tells, no-breach, values-told, filled-done, filled-refused}
 use Rattle.opening.specs.Opening.{opened}
 use Rattle.meaning.specs.Meaning.{by_gates, model_of}
@@ -30,24 +25,26 @@ use Rattle.evaluation.proofs.PairPut.{PairRoom, pair-room, pair-refused, pair-do
 use Rattle.report_text.specs.Lent.{room_breaches, ReportPut, ModelReported, places_by, bounds_by, report_fault, reported, buffer_reported, lower_reported, upper_reported}
 use Rattle.report_text.specs.Report.{refused_text, report_text}
 use Rattle.report_text.proofs.Opened.{text-done, text-refused}
+use Rattle.std.specs.Prelude.{Ok, Err}
+use Rattle.answers.specs.Answers.{CountAnswer, Outcome, StudyAnswer, finished}
 
 -- ---- a text and bounds for so many places
 
 module _ (report : List ℕ) {breach : ℕ} (lowers uppers text lower upper : List ℕ) where
-  pub put_refused : {found : ℕ} → found ≡ breach → (found ≡ 0 → ⊥) → ReportPut report breach lowers uppers text lower upper text lower upper (NoCount found)
+  pub put_refused : {found : ℕ} → found ≡ breach → (found ≡ 0 → ⊥) → ReportPut report breach lowers uppers text lower upper text lower upper (Err found)
   put_refused is some =
       record {
         text_is = sym (filled-refused breach report text (λ none. some (is ∙ none)));
-        bounds = pair-refused NoCount (Count (length report)) lowers uppers lower upper is some;
+        bounds = pair-refused Err (Ok (length report)) lowers uppers lower upper is some;
       }
 
   pub put-done : {text' lower' upper' : List ℕ} {size : ℕ} → breach ≡ 0 → Wrote text 0 report text' size → lower' ≡ put lower 0 lowers → upper' ≡ put upper 0 uppers
-      → ReportPut report breach lowers uppers text lower upper text' lower' upper' (Count size)
+      → ReportPut report breach lowers uppers text lower upper text' lower' upper' (Ok size)
   put-done {size = size} none wrote low high =
       let number : size ≡ length report = omega (arith, wrote.behind) in
       record {
         text_is = wrote.holds ∙ sym (filled-done breach report text none);
-        bounds = rw number (pair-done NoCount (Count (length report)) lowers uppers lower upper none low high);
+        bounds = rw number (pair-done Err (Ok (length report)) lowers uppers lower upper none low high);
       }
 
 -- where there is no breach, each has the room
@@ -122,11 +119,11 @@ module _ (bytes : List ℕ) {answer : StudyAnswer} (is : answer ≡ opened bytes
       let bounds = made.bounds in
       rw (← is, told) (bounds.answer_is, (made.text_is, (bounds.lower_is, bounds.upper_is)))
 
-  pub opened-reported : {text lower upper text' lower' upper' : List ℕ} {r : CountAnswer} → answer.outcome ≡ Done
+  pub opened-reported : {text lower upper text' lower' upper' : List ℕ} {r : CountAnswer} → answer.outcome ≡ finished
       → ModelReported (model_of by_gates answer.study) text lower upper text' lower' upper' r → ReportsBytes bytes text lower upper text' lower' upper' r
   opened-reported done made = by-outcome done (rw (← text-done bytes is done) made)
 
-  pub unopened-reported : {n : ℕ} {text' : List ℕ} {r : CountAnswer} (text lower upper : List ℕ) → answer.outcome ≡ Refused n → r ≡ handed (refused_text n) text
+  pub unopened-reported : {n : ℕ} {text' : List ℕ} {r : CountAnswer} (text lower upper : List ℕ) → answer.outcome ≡ Err n → r ≡ handed (refused_text n) text
       → text' ≡ written (refused_text n) text → ReportsBytes bytes text lower upper text' lower upper r
   unopened-reported {n} text lower upper refused is-answer is-text =
       by-outcome refused (rw (← text-refused bytes is refused) (put-unopened (refused_text n) text lower upper is-answer is-text))
@@ -138,10 +135,10 @@ pub report-tells : (bytes text lower upper : List ℕ)
     → count_told (reported bytes text lower upper) ≡ tells (report_fault bytes text lower upper) (length (report_text bytes) ∷ [])
 unfolding reported
 report-tells bytes text lower upper =
-    answered-tells NoCount (report_fault bytes text lower upper) (Count (length (report_text bytes))) count_told (length (report_text bytes) ∷ []) (λ n. refl) refl
+    answered-tells Err (report_fault bytes text lower upper) (Ok (length (report_text bytes))) count_told (length (report_text bytes) ∷ []) (λ n. refl) refl
 
 -- the bytes that are counted stand inside the buffer
-pub report-inside : (bytes text lower upper : List ℕ) (answer : CountAnswer) (size : ℕ) → answer ≡ reported bytes text lower upper → answer ≡ Count size
+pub report-inside : (bytes text lower upper : List ℕ) (answer : CountAnswer) (size : ℕ) → answer ≡ reported bytes text lower upper → answer ≡ Ok size
     → size ≤ length text
 unfolding report_fault
 report-inside bytes text lower upper answer size e is-count =

@@ -11,7 +11,6 @@ use Rattle.lists.proofs.Tabulated.{length-tabulate}
 use Rattle.text.specs.Writing.{Wrote}
 use Rattle.rules.specs.Limits.{most_loads}
 use Rattle.study.specs.declared.Load.{Load}
-use Rattle.answers.specs.declared.figures.FiguresAnswer.{FiguresAnswer}
 use Rattle.entries.specs.Entries.{class_places, entries_of}
 use Rattle.model.specs.Listed.{Listed}
 use Rattle.model.specs.Model.{Model, components, paths_of}
@@ -24,6 +23,7 @@ use Rattle.report_lines.specs.Loads.{load_lines}
 use Rattle.report_lines.proofs.Borne.{borne-class}
 use Rattle.report_lines.proofs.Listed.{class-lines-alike}
 use Rattle.report_text.specs.Report.{classes_text}
+use Rattle.answers.specs.Answers.{FiguresAnswer}
 
 -- bounds for each class
 pub lowers-long : (m : Model) → length (class_lowers m) ≡ class_places

@@ -4,10 +4,6 @@ use Rattle.std.specs.Prelude.{ℕ, ◌≡◌, List, [], ◌∷◌, length}
 use Rattle.rules.specs.Breach.{first_breach}
 use Rattle.rules.specs.Table.{room_fault}
 use Rattle.answers.specs.Answered.{answered, filled}
-use Rattle.answers.specs.declared.counts.CountAnswer.{CountAnswer}
-use Rattle.answers.specs.declared.counts.CountAnswer.TheVariants.{Count, Refused as NoCount}
-use Rattle.answers.specs.declared.outcome.Outcome.{Outcome}
-use Rattle.answers.specs.declared.outcome.Outcome.TheVariants.{Done, Refused}
 use Rattle.entries.specs.Entries.{class_places}
 use Rattle.model.specs.Model.{Model}
 use Rattle.opening.specs.Opening.{opened}
@@ -15,6 +11,8 @@ use Rattle.meaning.specs.Meaning.{by_gates, model_of}
 use Rattle.evaluation.specs.Bounds.{class_lowers, class_uppers}
 use Rattle.evaluation.specs.Rooms.{pair_fault, PairPut}
 use Rattle.report_text.specs.Report.{model_text, report_text}
+use Rattle.std.specs.Prelude.{Ok, Err}
+use Rattle.answers.specs.Answers.{CountAnswer, Outcome, finished}
 
 -- 18 for a text, then 18 for two slices of which each needs so many places
 abbrev pub room_breaches : List ℕ → ℕ → (text lower upper : List ℕ) → List ℕ
@@ -25,7 +23,7 @@ room_breaches report places text lower upper =
 pub record ReportPut (report : List ℕ) (breach : ℕ) (lowers uppers : List ℕ)
     (text-was lower-was upper-was text lower upper : List ℕ) (answer : CountAnswer) : Type 0 where
   pub text_is : text ≡ filled breach report text-was
-  pub bounds : PairPut NoCount breach (Count (length report)) lowers uppers lower-was upper-was lower upper answer
+  pub bounds : PairPut Err breach (Ok (length report)) lowers uppers lower-was upper-was lower upper answer
 
 -- ---- a model
 
@@ -42,13 +40,13 @@ ModelReported m text-was lower-was upper-was =
 
 -- the places that are needed in each slice
 abbrev pub places_by : Outcome → ℕ
-places_by Done = class_places
-places_by (Refused n) = 0
+places_by (Ok a) = class_places
+places_by (Err n) = 0
 
 -- the bounds that go there
 abbrev pub bounds_by : Outcome → List ℕ → List ℕ
-bounds_by Done bounds = bounds
-bounds_by (Refused n) bounds = []
+bounds_by (Ok a) bounds = bounds
+bounds_by (Err n) bounds = []
 
 abbrev pub report_breaches : List ℕ → (text lower upper : List ℕ) → List ℕ
 report_breaches bytes = room_breaches (report_text bytes) (places_by (opened bytes).outcome)
@@ -67,7 +65,7 @@ report_uppers bytes = bounds_by (opened bytes).outcome (class_uppers (model_of b
 unfoldable pub reported : List ℕ → (text lower upper : List ℕ) → CountAnswer
 unfolding answered report_fault
 reported bytes text lower upper =
-    answered NoCount (report_fault bytes text lower upper) (Count (length (report_text bytes)))
+    answered Err (report_fault bytes text lower upper) (Ok (length (report_text bytes)))
 
 -- what the buffer and the two slices then hold
 abbrev pub buffer_reported : List ℕ → (text lower upper : List ℕ) → List ℕ

@@ -5,8 +5,6 @@ use Rattle.text.specs.Letters.{letters}
 use Rattle.text.specs.Lines.{field, number_line}
 use Rattle.words.specs.Words.{refusal_word}
 use Rattle.study.specs.declared.Study.{Study}
-use Rattle.answers.specs.declared.outcome.Outcome.{Outcome}
-use Rattle.answers.specs.declared.outcome.Outcome.TheVariants.{Done, Refused}
 use Rattle.model.specs.Model.{Model, components, paths_of, probability_table}
 use Rattle.opening.specs.Opening.{opened}
 use Rattle.meaning.specs.Meaning.{by_gates, model_of}
@@ -16,6 +14,8 @@ use Rattle.report_lines.specs.Paths.{path_lines}
 use Rattle.report_lines.specs.Classes.{classes_borne, class_lines}
 use Rattle.report_lines.specs.Loads.{load_lines}
 use Rattle.report_lines.specs.Figures.{figure_lines}
+use Rattle.std.specs.Prelude.{Ok, Err}
+use Rattle.answers.specs.Answers.{Outcome, finished}
 
 -- room for any report
 abbrev pub report_bytes : ℕ
@@ -56,8 +56,8 @@ refused_text n = joined (letters "REFUSED" ∷ field n ∷ letters " " ∷ refus
 -- by what opening answers
 unfoldable pub text_by : Outcome → Study → List ℕ
 unfolding model_text refused_text model_of
-text_by Done t = model_text (model_of by_gates t)
-text_by (Refused n) t = refused_text n
+text_by (Ok a) t = model_text (model_of by_gates t)
+text_by (Err n) t = refused_text n
 
 -- the report of a study's bytes
 unfoldable pub report_text : List ℕ → List ℕ

@@ -6,13 +6,13 @@ use Rattle.rules.specs.Limits.{farthest}
 use Rattle.rules.proofs.Kept.{list-last}
 use Rattle.rules.proofs.Rows.{far-kept}
 use Rattle.answers.specs.declared.chances.Chances.{Chances}
-use Rattle.answers.specs.declared.chances.SurvivalAnswer.{SurvivalAnswer}
-use Rattle.answers.specs.declared.chances.SurvivalAnswer.TheVariants.{Chances as Given, Refused}
 use Rattle.answers.specs.Told.{chance_values, survival_told}
 use Rattle.answers.proofs.Answered.{answered-done, answered-tells, no-breach}
 use Rattle.exponential.proofs.Worked.{worked-survives}
 use Rattle.survival.specs.Chances.{exponent_of, survival_fault, chances_of, survival_given}
 use Rattle.survival.specs.Promise.{FourBounds, SurvivalPromises}
+use Rattle.std.specs.Prelude.{Ok, Err}
+use Rattle.answers.specs.Answers.{SurvivalAnswer}
 
 four-bounds : (exponent : ℕ) → exponent ≤ farthest → FourBounds exponent (chances_of exponent)
 four-bounds exponent h =
@@ -25,14 +25,14 @@ four-bounds exponent h =
 
 -- the chances that an answer holds
 abbrev chances_in : SurvivalAnswer → Chances
-chances_in (Given c) = c
-chances_in (Refused n) = chances_of 0
+chances_in (Ok c) = c
+chances_in (Err n) = chances_of 0
 
 pub survival-promises : SurvivalPromises
 unfolding survival_given survival_fault
 survival-promises fit hours c answer =
     let exponent = exponent_of fit hours in
-    let told = answered-tells Refused (survival_fault fit hours) (Given (chances_of exponent)) survival_told _ (λ n. refl) refl in
+    let told = answered-tells Err (survival_fault fit hours) (Ok (chances_of exponent)) survival_told _ (λ n. refl) refl in
     let none = no-breach _ _ (chance_values c) told (ap survival_told answer) in
-    let same = sym (answered-done Refused _ _ none) ∙ answer in
+    let same = sym (answered-done Err _ _ none) ∙ answer in
     subst (FourBounds exponent) (ap chances_in same) (four-bounds exponent (far-kept exponent (sym (list-last _) ∙ none)))

@@ -5,10 +5,10 @@ use Rattle.rules.specs.Breach.{first_breach}
 use Rattle.rules.specs.Table.{far_fault}
 use Rattle.answers.specs.Answered.{answered}
 use Rattle.answers.specs.declared.chances.Chances.{Chances}
-use Rattle.answers.specs.declared.chances.SurvivalAnswer.{SurvivalAnswer}
-use Rattle.answers.specs.declared.chances.SurvivalAnswer.TheVariants.{Chances as Given, Refused}
 use Rattle.exponential.specs.declared.Bounds.{Bounds}
 use Rattle.exponential.specs.Worked.{survival_of}
+use Rattle.std.specs.Prelude.{Ok, Err}
+use Rattle.answers.specs.Answers.{SurvivalAnswer}
 
 -- the exponent, in units: a FIT is one failure in a thousand million hours, and one is a thousand million units
 abbrev pub exponent_of : ℕ → ℕ → ℕ
@@ -36,4 +36,4 @@ chances_of exponent = chances_by (survival_of exponent)
 -- the answer
 unfoldable pub survival_given : ℕ → ℕ → SurvivalAnswer
 unfolding answered survival_fault
-survival_given fit hours = answered Refused (survival_fault fit hours) (Given (chances_of (exponent_of fit hours)))
+survival_given fit hours = answered Err (survival_fault fit hours) (Ok (chances_of (exponent_of fit hours)))

@@ -2,10 +2,10 @@
 use Rattle.std.specs.Prelude.{ℕ, ◌+◌, ◌≡◌}
 use Rattle.units.specs.One.{one}
 use Rattle.answers.specs.declared.chances.Chances.{Chances}
-use Rattle.answers.specs.declared.chances.SurvivalAnswer.{SurvivalAnswer}
-use Rattle.answers.specs.declared.chances.SurvivalAnswer.TheVariants.{Chances as Given}
 use Rattle.exponential.specs.Survives.{Survives}
 use Rattle.survival.specs.Chances.{exponent_of, survival_given}
+use Rattle.std.specs.Prelude.{Ok}
+use Rattle.answers.specs.Answers.{SurvivalAnswer}
 
 -- Four bounds at an exponent: two that promise what document 02 asks of the chance of surviving, and for the chance
 -- of failure one less each, swapped.
@@ -17,9 +17,9 @@ pub record FourBounds (exponent : ℕ) (c : Chances) : Type 0 where
 -- Chances that are answered are such.
 abbrev pub SurvivalPromises : Type 0
 SurvivalPromises =
-    (fit hours : ℕ) (c : Chances) → survival_given fit hours ≡ Given c → FourBounds (exponent_of fit hours) c
+    (fit hours : ℕ) (c : Chances) → survival_given fit hours ≡ Ok c → FourBounds (exponent_of fit hours) c
 
 -- what the call answers: the pair that is worked out, and wherever it is no refusal, four such bounds
 pub record Answers (fit hours : ℕ) (answer : SurvivalAnswer) : Type 0 where
   pub given : answer ≡ survival_given fit hours
-  pub promise : (c : Chances) → answer ≡ Given c → FourBounds (exponent_of fit hours) c
+  pub promise : (c : Chances) → answer ≡ Ok c → FourBounds (exponent_of fit hours) c

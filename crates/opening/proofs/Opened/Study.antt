@@ -22,7 +22,6 @@ use Rattle.study.specs.declared.Component.{Component}
 use Rattle.study.specs.declared.Gate.{Gate}
 use Rattle.study.specs.declared.Load.{Load}
 use Rattle.study.specs.declared.Study.{Study}
-use Rattle.answers.specs.declared.outcome.Outcome.TheVariants.{Done}
 use Rattle.study.specs.Joint.{states}
 use Rattle.study.specs.Places.{Shaped, ShapedGate, no_gate}
 use Rattle.study.specs.Zero.{zero_component, zero_gate, zero_load, no_components, no_gates, no_loads, zero_study}
@@ -34,6 +33,7 @@ use Rattle.opening.proofs.Opened.Component.{component-sound}
 use Rattle.opening.proofs.Opened.Gate.{WholeGate, gate-sound}
 use Rattle.opening.proofs.Opened.Load.{load-sound}
 use Rattle.opening.proofs.Opened.Order.{Given, ordered-rules, ordered-order, ordered-unused, ordered-shaped}
+use Rattle.answers.specs.Answers.{finished}
 
 count-sound : (most : ℕ) → Gives (count most) (λ (n : ℕ). count_fault most n ≡ 0)
 unfolding count
@@ -193,7 +193,7 @@ study-sound =
     gives_then (count-sound most_gates)
     (λ gates g. gives_then (count-sound most_loads) (λ loads l. records-sound components gates loads c g l)))
 
-answer-sound : (r : Read Study) → Held Whole r → (answer r).outcome ≡ Done → Sound (answer r).study
+answer-sound : (r : Read Study) → Held Whole r → (answer r).outcome ≡ finished → Sound (answer r).study
 unfolding answer refuse answered
 answer-sound (refused n) h e = absurd (not-both n (cc (is-refused n)))
 answer-sound (got t []) h e = h.is_sound
@@ -219,7 +219,7 @@ opened-shaped bytes = answer-shaped (study bytes) (held study-sound bytes)
 
 -- ---- as the bytes give it
 
-answer-given : (r : Read Study) → Held Whole r → (answer r).outcome ≡ Done → Given (given r)
+answer-given : (r : Read Study) → Held Whole r → (answer r).outcome ≡ finished → Given (given r)
 unfolding answer given
 answer-given (refused n) h e = absurd (not-both n (cc (is-refused n)))
 answer-given (got t rest) h e = h.given
@@ -228,7 +228,7 @@ pub opened-given : (bytes : List ℕ) → IsOpened bytes → Given (as_given byt
 unfolding opened as_given
 opened-given bytes told = answer-given (study bytes) (held study-sound bytes) (done-told _ told)
 
-answer-ordered : (r : Read Study) → (answer r).outcome ≡ Done → (answer r).study ≡ ordered (given r)
+answer-ordered : (r : Read Study) → (answer r).outcome ≡ finished → (answer r).study ≡ ordered (given r)
 unfolding answer given refuse answered
 answer-ordered (refused n) e = absurd (not-both n (cc (is-refused n)))
 answer-ordered (got t []) e = refl

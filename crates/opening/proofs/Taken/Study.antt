@@ -14,7 +14,6 @@ use Rattle.reading.specs.Reader.{Read, refused, got, repeat}
 use Rattle.reading.proofs.Ends.{EndsIn, Ends, ends-then, ends_return, ends-weaker, ends-repeat}
 use Rattle.reading.proofs.Local.{Stands}
 use Rattle.reading.proofs.Takes.{Refusal, Takes, ends-count, takes-return, takes-then, takes-repeat}
-use Rattle.answers.specs.declared.outcome.Outcome.TheVariants.{Done, Refused}
 use Rattle.answers.proofs.Told.{done-told, refused-told}
 use Rattle.study.specs.declared.Study.{Study}
 use Rattle.study.specs.Joint.{states}
@@ -26,6 +25,8 @@ use Rattle.opening.proofs.FirstBreach.{local-study}
 use Rattle.opening.proofs.Taken.Components.{components-taken}
 use Rattle.opening.proofs.Taken.Gate.{gate-taken}
 use Rattle.opening.proofs.Taken.Load.{load-taken}
+use Rattle.std.specs.Prelude.{Err}
+use Rattle.answers.specs.Answers.{finished}
 
 module _ {Short : Type 0} where
   -- gate 0 takes 27 bytes, and each of 31 others 59
@@ -63,7 +64,7 @@ module _ {Short : Type 0} where
 abbrev Ended : Type 0 → ℕ → Read Study → Type 0
 Ended Short n r = EndsIn (Refusal Short) (λ t left. n ≤ longest_study + left) r
 
-answer-row : (n : ℕ) (r : Read Study) → Ended (Unit {0}) n r → (number : ℕ) → (answer r).outcome ≡ Refused number → OpeningRow number
+answer-row : (n : ℕ) (r : Read Study) → Ended (Unit {0}) n r → (number : ℕ) → (answer r).outcome ≡ Err number → OpeningRow number
 answer-row n (refused m) h number e =
     let same : m ≡ number = cc (is-refused m) in
     record { least = omega (arith, h.row.least); most = omega (arith, h.row.most) }
@@ -78,7 +79,7 @@ opening-rows bytes number told =
     answer-row (length bytes) (study bytes) ((study-taken (length bytes) (λ few. tt)).ends bytes refl) number (refused-told _ number told)
 
 -- bytes that open are all taken
-answer-most : (n : ℕ) (r : Read Study) → Ended (n ≤ longest_study) n r → (answer r).outcome ≡ Done → n ≤ longest_study
+answer-most : (n : ℕ) (r : Read Study) → Ended (n ≤ longest_study) n r → (answer r).outcome ≡ finished → n ≤ longest_study
 answer-most n (refused m) h e = absurd (not-both m (cc (is-refused m)))
 answer-most n (got t []) h e = omega arith
 answer-most n (got t (b ∷ rest)) h e = absurd (not-both 15 (cc (left t b rest)))

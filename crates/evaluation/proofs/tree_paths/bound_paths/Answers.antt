@@ -3,7 +3,6 @@ use Prim.Native.Nat.{ℕ}
 use mathlib.Core.Path.{◌≡◌, sym, ap, ◌∙◌}
 use lib.ListN.{length}
 use Rattle.lists.specs.Rows.{put}
-use Rattle.answers.specs.declared.counts.CountAnswer.TheVariants.{Count, Refused}
 use Rattle.model.specs.InHand.{model_held}
 use Rattle.model.specs.Model.{Model}
 use Rattle.model.proofs.InHand.{held-inside, listed-values}
@@ -12,13 +11,14 @@ use Rattle.evaluation.specs.Rooms.{pair_fault, paths_room}
 use Rattle.evaluation.proofs.Bounding.{hand-boundable}
 use Rattle.evaluation.proofs.PairPut.{pair-room, pair-refused, pair-done}
 use Rattle.evaluation.proofs.tree_paths.bound_paths.Goals as goal
+use Rattle.std.specs.Prelude.{Ok, Err}
 
 pub returns-then-fault-ne0 : goal.returns-then-fault-ne0
 returns-then-fault-ne0 c =
     let model : Model = model_held c.args.model c.args.classes.now in
     let fault-is : c.pair_fault-fault.result ≡ paths_room model c.args.lower.now c.args.upper.now = let args = c.args in
     c.pair_fault-fault.ensures ∙ ap (λ (need : ℕ). pair_fault need (length args.lower.now) (length args.upper.now)) c.list_whole-number.ensures.number in
-    pair-refused Refused (Count _) _ _ _ _ fault-is c.if-fault-ne0.true
+    pair-refused Err (Ok _) _ _ _ _ fault-is c.if-fault-ne0.true
 
 pub first_components-requires : goal.first_components-requires
 first_components-requires c =
@@ -37,6 +37,6 @@ returns c =
     let none = sym fault-is ∙ c.if-fault-ne0.false in
     let values = listed-values c.requires c.list_whole-number.ensures in
     rw c.list_whole-number.ensures.number
-    (pair-done Refused (Count _) _ _ _ _ none
+    (pair-done Err (Ok _) _ _ _ _ none
     (c.write_paths.ensures.lower ∙ ap (put args.lower.now 0) (rw c.first_components.ensures (values lower_bounds)))
     (c.write_paths.ensures.upper ∙ ap (put args.upper.now 0) (rw c.first_components.ensures (values upper_bounds))))

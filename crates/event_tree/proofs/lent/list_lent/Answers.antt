@@ -7,11 +7,11 @@ use lib.ListN.{length}
 use Rattle.lists.specs.Rows.{joined}
 use Rattle.rules.specs.Table.{room_fault}
 use Rattle.rules.proofs.Rows.{room-kept}
-use Rattle.answers.specs.declared.counts.Listing.TheVariants.{Listed}
 use Rattle.answers.proofs.Answered.{answered-done, answered-refused, filled-done, filled-refused}
 use Rattle.paths.specs.Paths.{paths}
 use Rattle.paths.proofs.Need.{paths-few, room-is}
 use Rattle.event_tree.proofs.lent.list_lent.Goals as goal
+use Rattle.std.specs.Prelude.{Ok}
 
 pub list_need-requires : goal.list_need-requires
 list_need-requires c =
@@ -33,4 +33,4 @@ pub returns : goal.returns
 returns c =
     let entries : List (List ℕ) = paths c.args.counts.now c.args.block.now in
     let fault-is : c.room_fault-fault.result ≡ room_fault (length (joined entries)) (length c.args.buffer.now) = room-is c.requires _ c.count_paths-count.ensures c.list_need.ensures c.room_fault-fault.ensures in
-    let none = sym fault-is ∙ c.if-fault-ne0.false in record { answer = ap (λ (n : ℕ). Listed (record { paths = n })) c.count_paths-count.ensures ∙ sym (answered-done _ _ _ none); buffer = c.list_paths.ensures ∙ sym (filled-done _ _ _ none) }
+    let none = sym fault-is ∙ c.if-fault-ne0.false in record { answer = ap (λ (n : ℕ). Ok (record { paths = n })) c.count_paths-count.ensures ∙ sym (answered-done _ _ _ none); buffer = c.list_paths.ensures ∙ sym (filled-done _ _ _ none) }

@@ -1,7 +1,6 @@
 -- `loss_calls::interruptions::figures_meant` meets its contract: the study and its meaning decide where they have a breach, and otherwise whether there
 -- are customers.
 use mathlib.Core.Path.{sym}
-use Rattle.answers.specs.declared.figures.FiguresAnswer.TheVariants.{Refused}
 use Rattle.answers.proofs.Answered.{answered-refused}
 use Rattle.probability.specs.Totals.{lower_loads, upper_loads}
 use Rattle.study_model.proofs.StudyHeld.{in-hand}
@@ -13,11 +12,12 @@ use Rattle.loss_calls.specs.Figures.{figures_fault, figures_given}
 use borrow.Author.Rules.{rules}
 use Rattle.loss_calls.proofs.interruptions.figures_meant.Goals as goal
 use Rattle.loss_calls.proofs.interruptions.figures_meant.Goals.{Else-fault-ne0}
+use Rattle.std.specs.Prelude.{Err}
 
 pub returns-then-fault-ne0 : goal.returns-then-fault-ne0
 unfolding figures_fault figures_given
 returns-then-fault-ne0 c =
-    rw (← judged-first c.judged_classes-fault.ensures _ c.if-fault-ne0.true) (sym (answered-refused Refused _ _ c.if-fault-ne0.true))
+    rw (← judged-first c.judged_classes-fault.ensures _ c.if-fault-ne0.true) (sym (answered-refused Err _ _ c.if-fault-ne0.true))
 
 pub hold-requires : goal.hold-requires
 hold-requires c =

@@ -5,7 +5,6 @@ use mathlib.Core.List.{[], ◌∷◌}
 use native.Mathlib.Omega.{arith}
 use Rattle.rules.specs.Limits.{most_loads}
 use Rattle.soundness.proofs.Ranges.{loads-most}
-use Rattle.answers.specs.declared.bounds.BoundsAnswer.TheVariants.{Refused}
 use Rattle.answers.proofs.Answered.{answered-done, answered-refused}
 use Rattle.rules.proofs.Kept.{list-last, part-broken, part-kept}
 use Rattle.probability.specs.Totals.{lower_loads, upper_loads}
@@ -20,6 +19,7 @@ use Rattle.loss_calls.proofs.Pairs.{loss-pair}
 use borrow.Author.Rules.{rules}
 use Rattle.loss_calls.proofs.loads.load_meant.Goals as goal
 use Rattle.loss_calls.proofs.loads.load_meant.Goals.{After-upper-1, Else-breach-ne0}
+use Rattle.std.specs.Prelude.{Err}
 
 -- ---- the study and the load are judged
 has_load : (c : Else-breach-ne0) → HasLoad c.args.study c.args.load
@@ -47,7 +47,7 @@ pub returns-then-breach-ne0 : goal.returns-then-breach-ne0
 unfolding load_bounded loss_fault
 returns-then-breach-ne0 c =
     let taken = c.if-breach-ne0.true in
-    rw (← part-broken (_ ∷ _ ∷ []) (_ ∷ []) c.load_breach-breach.ensures.is taken) (sym (answered-refused Refused _ _ taken))
+    rw (← part-broken (_ ∷ _ ∷ []) (_ ∷ []) c.load_breach-breach.ensures.is taken) (sym (answered-refused Err _ _ taken))
 
 pub put_classes-fault-requires : goal.put_classes-fault-requires
 put_classes-fault-requires c =
@@ -56,7 +56,7 @@ put_classes-fault-requires c =
 pub returns-then-fault-ne0 : goal.returns-then-fault-ne0
 unfolding load_bounded
 returns-then-fault-ne0 c =
-    rw ((meaning-decides (goal.at.returns-then-fault-ne0 c).Else-breach-ne0), ← c.put_classes-fault.ensures.is) (sym (answered-refused Refused _ _ c.if-fault-ne0.true))
+    rw ((meaning-decides (goal.at.returns-then-fault-ne0 c).Else-breach-ne0), ← c.put_classes-fault.ensures.is) (sym (answered-refused Err _ _ c.if-fault-ne0.true))
 
 pub hold-requires : goal.hold-requires
 hold-requires c =
@@ -93,4 +93,4 @@ returns c =
     let values = table-values _ _ has_load.is_sound c.hold.ensures (search rules) (put.tabled c.if-fault-ne0.false) in
     record { lowers = found.lowers ∙ values lower_loads; uppers = found.uppers ∙ values upper_loads; bounds = found.bounds } in
     let none = (meaning-decides (goal.at.returns c).Else-breach-ne0) ∙ sym c.put_classes-fault.ensures.is ∙ c.if-fault-ne0.false in
-    loss-pair losses (placed c) ∙ sym (answered-done Refused _ _ none)
+    loss-pair losses (placed c) ∙ sym (answered-done Err _ _ none)

@@ -1,6 +1,5 @@
 -- `path_calls::listing::list_meant` meets its contract: the study and its meaning decide where they have a breach, and otherwise the room.
 use mathlib.Core.Path.{sym}
-use Rattle.answers.specs.declared.counts.Listing.TheVariants.{Refused}
 use Rattle.answers.proofs.Answered.{answered-refused, filled-refused}
 use Rattle.study_model.proofs.StudyHeld.{in-hand}
 use Rattle.meaning.proofs.Judging.{judged-first, judged-next}
@@ -9,12 +8,13 @@ use Rattle.path_calls.specs.Listing.{list_fault, paths_listed, buffer_listed}
 use borrow.Author.Rules.{rules}
 use Rattle.path_calls.proofs.listing.list_meant.Goals as goal
 use Rattle.path_calls.proofs.listing.list_meant.Goals.{Else-fault-ne0}
+use Rattle.std.specs.Prelude.{Err}
 
 pub returns-then-fault-ne0 : goal.returns-then-fault-ne0
 unfolding list_fault paths_listed buffer_listed
 returns-then-fault-ne0 c =
     let taken = c.if-fault-ne0.true in
-    rw (← judged-first c.judged_classes-fault.ensures _ taken) (record { answer = sym (answered-refused Refused _ _ taken); buffer = sym (filled-refused _ _ _ taken) })
+    rw (← judged-first c.judged_classes-fault.ensures _ taken) (record { answer = sym (answered-refused Err _ _ taken); buffer = sym (filled-refused _ _ _ taken) })
 
 pub hold-requires : goal.hold-requires
 hold-requires c =

@@ -1,6 +1,5 @@
 -- `path_calls::tree_paths::paths_meant` meets its contract: the study and its meaning decide where they have a breach, and otherwise the room.
 use mathlib.Core.Path.{sym}
-use Rattle.answers.specs.declared.counts.CountAnswer.TheVariants.{Refused}
 use Rattle.answers.proofs.Answered.{answered-refused, filled-refused}
 use Rattle.probability.specs.Totals.{lower_bounds, upper_bounds}
 use Rattle.study_model.proofs.StudyHeld.{in-hand}
@@ -10,13 +9,14 @@ use Rattle.path_calls.specs.Bounds.{pair_breach, paths_bounded}
 use borrow.Author.Rules.{rules}
 use Rattle.path_calls.proofs.tree_paths.paths_meant.Goals as goal
 use Rattle.path_calls.proofs.tree_paths.paths_meant.Goals.{Else-fault-ne0}
+use Rattle.std.specs.Prelude.{Err}
 
 pub returns-then-fault-ne0 : goal.returns-then-fault-ne0
 unfolding pair_breach paths_bounded
 returns-then-fault-ne0 c =
     let taken = c.if-fault-ne0.true in
     rw (← judged-first c.judged_classes-fault.ensures _ taken)
-    (record { answer = sym (answered-refused Refused _ _ taken); lower = sym (filled-refused _ _ _ taken); upper = sym (filled-refused _ _ _ taken) })
+    (record { answer = sym (answered-refused Err _ _ taken); lower = sym (filled-refused _ _ _ taken); upper = sym (filled-refused _ _ _ taken) })
 
 pub hold-requires : goal.hold-requires
 hold-requires c =
