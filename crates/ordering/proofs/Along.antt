@@ -1,21 +1,18 @@
--- What carries the loop that goes along two rows of bytes once (`Along`): what stands from a place on decides the order, as many inputs are counted as have
--- begun up to there, and the rank of the one there is at hand.
-use Prim.Native.Nat.{ℕ, suc, ◌+◌, ◌*◌, ◌<◌, ◌≤◌}
-use mathlib.Core.Path.{◌≡◌, refl, sym, ap, ◌∙◌}
-use mathlib.Core.Bool.{Bool, true, false, cond, false≢true}
-use mathlib.Core.List.{List, [], ◌∷◌}
-use native.Mathlib.Numerals.{add-one}
-use native.Mathlib.Omega.{arith}
-use lib.Dec.{ltb}
-use lib.ListN.{length, get_or, drop, drop_of_length-le}
-use lib.Seq.{drop-cons}
-use borrow.Author.Tests.{lt-ltb, le-ltb}
+-- What carries the loop that goes along two rows of bytes once (`Along`): what stands from a place on decides the order, and as many inputs are counted as
+-- have begun up to there.
+use Rattle.std.proofs.Common.{◌≡◌, ℕ, suc, ◌+◌, ◌<◌, ◌≤◌, Bool, true, false, cond, ltb, List, [], ◌∷◌, length, get_or, drop, Some, None, refl, sym, ap, ◌∙◌, drop-cons, arith}
+use Rattle.std.proofs.Math.ListN.{drop_of_length-le}
+use Rattle.std.proofs.lemmas.Bool.{false≢true}
+use Rattle.std.specs.Ordering.{is_some_and, is_lt}
+use mir.Val.{bool_byte}
+use borrow.Author.Tests.{lt-ltb, le-ltb, ltb-true, ltb-false}
 use Rattle.lists.specs.Counting.{truth}
 use Rattle.lists.proofs.Sums.{truth-most}
 use Rattle.ordering.specs.Distinct.{same_input, distinct}
-use Rattle.ordering.specs.Thinning.{stands_next, thinned, Counts}
+use Rattle.ordering.specs.Thinning.{stands_next, thinned, counted}
 use Rattle.ordering.specs.Inputs.{Input, no_input, mask_values, ByteMask, rank, paired}
 use Rattle.ordering.specs.Sorting.{ascends}
+use Rattle.ordering.proofs.Compared.{input_at, compared, below-ranks}
 use Rattle.ordering.proofs.Pairs.{paired_long, get_or-paired}
 use Rattle.ordering.proofs.Rises.{ascends-kept}
 use Rattle.ordering.proofs.Sets.{same-told, same_self}
@@ -47,77 +44,84 @@ module _ (a b : Input) (row : List Input) where
 
 -- ---- along a row
 
+-- what is counted for a truth value
+pub byte-truth : (b : Bool) → bool_byte b ≡ truth b
+byte-truth true = refl
+byte-truth false = refl
+
+-- what it was found to be, by whether it is in order
+counted-not : (row : List Input) → ascends row ≡ false → None ≡ counted row
+counted-not row e = rw e refl
+
+counted-up : (row : List Input) (n : ℕ) → ascends row ≡ true → n ≡ length (distinct row) → Some n ≡ counted row
+counted-up row n e many = rw (e, many) refl
+
 -- one without inputs is in order
-pub along-none : (ns ms : List ℕ) → length ns ≡ 0 → Counts (paired ns ms) true 0
+pub along-none : (ns ms : List ℕ) → length ns ≡ 0 → Some 0 ≡ counted (paired ns ms)
 unfolding paired ascends distinct
-along-none [] ms e = record { order = refl; many = λ up. refl }
+along-none [] ms e = refl
 along-none (n ∷ ns) ms e = absurd (omega (arith, e))
 
-pub record Along (ns ms : List ℕ) (n at here : ℕ) : Type 0 where
-  pub inside : at < length ns
+pub record Along (ns ms : List ℕ) (n at : ℕ) : Type 0 where
   pub few : n ≤ at + 1
-  pub at_hand : here ≡ rank (get_or (paired ns ms) at no_input)
   pub order : ascends (paired ns ms) ≡ ascends (drop at (paired ns ms))
   pub due : n + length (thinned (drop at (paired ns ms))) ≡ length (thinned (paired ns ms)) + 1
 
-module _ (ns ms : List ℕ) (rows : length ns ≡ length ms) where
-  rank-at : (k : ℕ) → mask_values * get_or ns k 0 + get_or ms k 0 ≡ rank (get_or (paired ns ms) k no_input)
-  rank-at k = sym (ap rank (get_or-paired ns ms k rows))
+pub along-start : (ns ms : List ℕ) → Along ns ms 1 0
+along-start ns ms = record { few = omega arith; order = refl; due = omega arith }
 
-  pub along-start : (here : ℕ) → 0 < length ns → here ≡ mask_values * get_or ns 0 0 + get_or ms 0 0 → Along ns ms 1 0 here
-  along-start here some is = record { inside = some; few = omega arith; at_hand = is ∙ rank-at 0; order = refl; due = omega arith }
+module _ (ns ms : List ℕ) (rows : length ns ≡ length ms) (bytes : (k : ℕ) → get_or ms k 0 < mask_values) where
+  module _ {n at : ℕ} (along : Along ns ms n at) {next : ℕ} (is : next ≡ suc at) (inside : next < length ns) where
+    abbrev row : List Input
+    row = paired ns ms
 
-  module _ {n at here : ℕ} (along : Along ns ms n at here) (next : ℕ) (two : suc at < length ns)
-      (is : next ≡ mask_values * get_or ns (suc at) 0 + get_or ms (suc at) 0) where
     abbrev a : Input
-    a = get_or (paired ns ms) at no_input
+    a = input_at ns ms at
 
     abbrev b : Input
-    b = get_or (paired ns ms) (suc at) no_input
+    b = input_at ns ms next
 
-    next-at : next ≡ rank b
-    next-at = is ∙ rank-at (suc at)
-
-    long : length (paired ns ms) ≡ length ns
-    long = paired_long ns ms rows
+    abbrev behind : List Input
+    behind = drop (suc next) row
 
     -- what stands from the next place on, and from this one
-    rest : drop (suc at) (paired ns ms) ≡ b ∷ drop (suc (suc at)) (paired ns ms)
-    rest = drop-cons (paired ns ms) (suc at) no_input (omega (arith, two, long))
+    rest : drop next row ≡ b ∷ behind
+    rest = drop-cons row next no_input (omega (arith, inside, paired_long ns ms rows)) ∙ ap (λ (i : Input). i ∷ behind) (get_or-paired ns ms next rows)
 
-    both : drop at (paired ns ms) ≡ a ∷ b ∷ drop (suc (suc at)) (paired ns ms)
-    both = drop-cons (paired ns ms) at no_input (omega (arith, two, long)) ∙ ap (λ (row : List Input). a ∷ row) rest
+    both : drop at row ≡ a ∷ b ∷ behind
+    both =
+        drop-cons row at no_input (omega (arith, is, inside, paired_long ns ms rows))
+        ∙ ap (λ (i : Input). i ∷ drop (suc at) row) (get_or-paired ns ms at rows)
+        ∙ ap (λ (r : List Input). a ∷ r) (ap (λ (k : ℕ). drop k row) (sym is) ∙ rest)
 
-    pub along-fell : next < here → ascends (paired ns ms) ≡ false
-    along-fell less = along.order ∙ ap ascends both ∙ fell-two a b _ (omega (arith, less, along.at_hand, next-at))
+    pub along-fell : is_some_and is_lt (compared b a) ≡ true → None ≡ counted row
+    along-fell less =
+        counted-not row
+        (along.order ∙ ap ascends both ∙ fell-two a b behind (ltb-true (rank b) (rank a) (sym (below-ranks b a (bytes next) (bytes at)) ∙ less)))
 
-    pub along-more : ((k : ℕ) → get_or ms k 0 < mask_values) → here ≤ next → Along ns ms (n + truth (ltb here next)) (at + 1) next
-    along-more bytes most =
-        let byte : (k : ℕ) → ByteMask (get_or (paired ns ms) k no_input) = λ k. rw (get_or-paired ns ms k rows) (bytes k) in
-        let ranks : rank a ≤ rank b = omega (arith, most, along.at_hand, next-at) in
-        let one = thinned-two a b (drop (suc (suc at)) (paired ns ms)) (byte at) (byte (suc at)) ranks in
-        let from = ap (λ (row : List Input). length (thinned row)) both in
-        let on = ap (λ (row : List Input). length (thinned row)) rest in
-        let flag : truth (ltb here next) ≡ truth (ltb (rank a) (rank b)) = rw (along.at_hand, next-at) refl in
-        rw add-one
+    pub along-more : (k m : ℕ) → k ≡ next → m ≡ bool_byte (is_some_and is_lt (compared a b)) → is_some_and is_lt (compared b a) ≡ false → Along ns ms (n + m) k
+    along-more k m here more most =
+        let ranks : rank a ≤ rank b = ltb-false (rank b) (rank a) (sym (below-ranks b a (bytes next) (bytes at)) ∙ most) in
+        let one = thinned-two a b behind (bytes at) (bytes next) ranks in
+        let from = ap (λ (r : List Input). length (thinned r)) both in
+        let on = ap (λ (r : List Input). length (thinned r)) rest in
+        let counts : m ≡ truth (ltb (rank a) (rank b)) = more ∙ byte-truth _ ∙ ap truth (below-ranks a b (bytes at) (bytes next)) in
+        rw here
         (record {
-          inside = two;
-          few = omega (arith, along.few, truth-most (ltb here next));
-          at_hand = next-at;
-          order = along.order ∙ ap ascends both ∙ rose-two a b _ ranks ∙ sym (ap ascends rest);
-          due = omega (arith, along.due, one, from, on, flag);
+          few = omega (arith, is, along.few, counts, truth-most (ltb (rank a) (rank b)));
+          order = along.order ∙ ap ascends both ∙ rose-two a b behind ranks ∙ sym (ap ascends rest);
+          due = omega (arith, along.due, one, from, on, counts);
         })
 
-  pub along-done : {n at here : ℕ} → Along ns ms n at here → length ns ≤ at + 1 → ((k : ℕ) → get_or ms k 0 < mask_values) → Counts (paired ns ms) true n
+  pub along-done : {n at : ℕ} → Along ns ms n at → suc at ≡ length ns → Some n ≡ counted (paired ns ms)
   unfolding thinned stands_next ascends
-  along-done {n} {at} along end bytes =
+  along-done {n} {at} along end =
       let long = paired_long ns ms rows in
       let last : drop at (paired ns ms) ≡ get_or (paired ns ms) at no_input ∷ [] =
-      drop-cons (paired ns ms) at no_input (omega (arith, along.inside, long))
+      drop-cons (paired ns ms) at no_input (omega (arith, end, long))
       ∙ ap (λ (row : List Input). get_or (paired ns ms) at no_input ∷ row) (drop_of_length-le (paired ns ms) {i = suc at} (omega (arith, end, long))) in
       let one : length (thinned (drop at (paired ns ms))) ≡ 1 = ap (λ (row : List Input). length (thinned row)) last in
       let all : n ≡ length (thinned (paired ns ms)) = omega (arith, along.due, one) in
-      record {
-        order = sym (along.order ∙ ap ascends last);
-        many = λ up. all ∙ ap (λ (row : List Input). length row) (thinned-distinct ns ms rows bytes (ascends-kept (paired ns ms) up));
-      }
+      let up : ascends (paired ns ms) ≡ true = along.order ∙ ap ascends last in
+      counted-up (paired ns ms) n up
+      (all ∙ ap (λ (row : List Input). length row) (thinned-distinct ns ms rows bytes (ascends-kept (paired ns ms) up)))

@@ -1,10 +1,10 @@
 pub mod Along
+pub mod Compared
 pub mod Moving
 pub mod Ordered
 pub mod Pairs
 pub mod Rises
 pub mod Sets
 pub mod Sorted
-pub mod Steps
 pub mod Thinned
 pub mod Unique

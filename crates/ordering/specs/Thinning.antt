@@ -1,6 +1,6 @@
 -- How the distinct inputs of a row in order are found, by looking at the next input alone. Only the code needs these:
 -- what they come to is said in `Laws`.
-use Rattle.std.specs.Prelude.{ℕ, ◌≡◌, Bool, true, false, cond, List, [], ◌∷◌, length}
+use Rattle.std.specs.Prelude.{ℕ, ◌≡◌, Bool, false, cond, List, [], ◌∷◌, length, Option, Some, None}
 use Rattle.lists.specs.Rows.{put}
 use Rattle.ordering.specs.Distinct.{same_input, distinct}
 use Rattle.ordering.specs.Inputs.{Input, numbers, masks}
@@ -22,10 +22,9 @@ thinned (a ∷ row) = cond (stands_next a row) (thinned row) (a ∷ thinned row)
 abbrev pub most_counted : ℕ
 most_counted = 255
 
--- a row was found to be in order or not, and then to have so many distinct inputs
-pub record Counts (row : List Input) (in_order : Bool) (n : ℕ) : Type 0 where
-  pub order : in_order ≡ ascends row
-  pub many : ascends row ≡ true → n ≡ length (distinct row)
+-- what a row was found to be: in order with so many distinct inputs, or not in order
+abbrev pub counted : List Input → Option ℕ
+counted row = cond (ascends row) (Some (length (distinct row))) None
 
 -- two rows of bytes were n₀ and m₀, and now hold a row of inputs at their front, so many, and what they held behind it
 pub record Fronted (n₀ m₀ : List ℕ) (row : List Input) (n m : List ℕ) (count : ℕ) : Type 0 where
