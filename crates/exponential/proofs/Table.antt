@@ -1,16 +1,13 @@
 -- The factors of the table, each shown right by a partial sum: one test that is computed over the whole table.
-use Prim.Native.Nat.{ℕ, suc, ◌+◌, ◌*◌, ◌^◌, ◌<◌}
+use Prim.Native.Nat.{ℕ, suc, ◌+◌, ◌*◌, ◌^◌}
 use mathlib.Core.Path.{◌≡◌, refl}
 use mathlib.Core.Bool.{Bool, true, ◌&&◌, and-eq-true_iff}
 use mathlib.Core.List.{List, [], ◌∷◌}
 use lib.Dec.{leb, ltb}
-use lib.ListN.{get_or}
 use borrow.Author.Tests.{leb-true, ltb-true}
-use Rattle.lists.specs.Counting.{all_below}
-use Rattle.lists.proofs.Tests.{all-below-true}
 use Rattle.units.specs.One.{one}
 use Rattle.exponential.specs.Series.{whole, partial}
-use Rattle.exponential.specs.Worked.{grain, powers, factors}
+use Rattle.exponential.specs.Worked.{grain, factors}
 use Rattle.exponential.proofs.Enclosing.{Factor}
 use Rattle.exponential.proofs.Certificates.{below-shown, above-shown}
 
@@ -45,16 +42,3 @@ factor-right x f e =
       above = above-shown x (f + 1) last (leb-true _ _ most.0);
       most = ltb-true _ _ most.1;
     }
-
--- ---- for the code: a factor is less than one
-
-less-at : ℕ → Bool
-less-at k = ltb (get_or factors k 0) one
-
-all-less : all_below less-at powers ≡ true
-unfolding less-at factors all_below
-all-less = refl
-
-pub factor-less : (k : ℕ) → k < powers → get_or factors k 0 < one
-unfolding less-at
-factor-less k h = ltb-true _ _ (all-below-true less-at powers all-less k h)

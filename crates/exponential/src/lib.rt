@@ -2,9 +2,9 @@
 // bound rounded down and the upper one up.
 #![tactic(auto)]
 
-ghost use Rattle.std.specs.Prelude.{◌<◌, ◌≡◌};
+ghost use Rattle.std.specs.Prelude.{◌<◌, ◌≤◌, ◌≡◌};
 ghost use Rattle.units.specs.One.{one};
-ghost use Rattle.exponential.specs.Worked.{grain, factors, raised, line as line_of, Units, times as times_of, survival_of};
+ghost use Rattle.exponential.specs.Worked.{grain, raised, line as line_of, Units, times as times_of, survival_of};
 
 use units::{DOWN, ONE, UP, scale};
 
@@ -29,36 +29,30 @@ pub struct Bounds {
 }
 
 // A unit more, and at most one.
+#[tactic(auto, unfolding(crate::specs::Worked::raised))]
 fn raise(bound: u64) -> u64
-    ensures { result ≡ raised bound }
+    ensures raised { result ≡ raised bound }
+    ensures most { result ≤ one }
 {
-    if bound < ONE as u64 {
-        return bound + 1;
-    }
-    ONE as u64
+    bound.saturating_add(1).min(u64::from(ONE))
 }
 
 // The bounds of an exponent below the grain.
+#[tactic(auto, unfolding(crate::specs::Worked::line))]
 fn line(rest: u64) -> Bounds
     requires { rest < grain }
     ensures line { result ≡ line_of rest }
     ensures units { Units result }
 {
-    let lower = ONE as u64 - rest;
+    let lower = u64::from(ONE) - rest;
     Bounds {
-        lower: lower,
+        lower,
         upper: raise(lower),
     }
 }
 
-// The table, to be held by whoever goes along it: each place of a constant that is read puts all of it anew.
-fn factor_table() -> [u64; POWERS]
-    ensures { result ≡ factors }
-{
-    FACTORS
-}
-
 // The bounds times the factor of a bit, where the bit stands.
+#[tactic(auto, unfolding(crate::specs::Worked::times))]
 fn times(bit: u64, factor: u64, b: Bounds) -> Bounds
     requires units { Units b }
     requires less { factor < one }
@@ -79,17 +73,14 @@ pub fn survival(exponent: u64) -> Bounds
     ensures pair { result ≡ survival_of exponent }
     ensures units { Units result }
 {
-    let factors = factor_table();
     let mut b = line(exponent % GRAIN);
     let mut bits = exponent / GRAIN;
-    let mut place: usize = 0;
-    while place < POWERS {
-        b = times(bits % 2, factors[place], b);
-        bits = bits / 2;
-        place = place + 1;
+    for factor in FACTORS {
+        b = times(bits % 2, factor, b);
+        bits /= 2;
     }
     Bounds {
-        lower: b.lower,
         upper: raise(b.upper),
+        ..b
     }
 }
