@@ -1,13 +1,8 @@
 -- What carries the reading of a joint state's number, component by component from component 0 on: what is read so far weighs as many joint states as
 -- the components that are left have, and the number of their joint state is to be added.
-use Prim.Native.Nat.{ℕ, suc, ◌+◌, ◌*◌, ◌<◌, ◌≤◌}
-use mathlib.Core.Path.{◌≡◌}
-use mathlib.Core.List.{List, ◌∷◌}
-use native.Mathlib.Nat.{mul-le-mul_left}
-use native.Mathlib.Numerals.{add-one}
-use native.Mathlib.Omega.{arith}
-use lib.ListN.{length, get_or, drop, drop_of_length-le}
-use lib.Seq.{drop-cons}
+use Rattle.std.proofs.Common.{◌≡◌, ℕ, suc, ◌+◌, ◌*◌, ◌<◌, ◌≤◌, List, ◌∷◌, length, get_or, drop, add-one, drop-cons, arith}
+use Rattle.std.proofs.Math.Nat.{mul-le-mul_left}
+use Rattle.std.proofs.Math.ListN.{drop_of_length-le}
 use Rattle.lists.specs.Product.{product}
 use Rattle.joint_states.specs.JointStates.{JointState, number_of}
 use Rattle.joint_states.proofs.Numbered.{joint-tail, number-below}
@@ -19,9 +14,6 @@ pub record NumberLeft (counts x : List ℕ) (i number : ℕ) : Type 0 where
   pub left : number * product (drop i counts) + number_of (drop i counts) (drop i x) ≡ number_of counts x
 
 module _ {counts x : List ℕ} where
-  pub left-start : JointState counts x → NumberLeft counts x 0 0
-  left-start j = record { joint = j; rest = j; left = omega arith }
-
   module _ {i number : ℕ} (l : NumberLeft counts x i number) where
     pub left-more : i < length counts → NumberLeft counts x (i + 1) (number * get_or counts i 0 + get_or x i 0)
     unfolding product number_of

@@ -1,11 +1,7 @@
 -- Moving on by one: a carry goes from the last component towards component 0, as with the digits of a number.
-use Prim.Native.Nat.{ℕ, zero, suc, ◌+◌, ◌-◌, ◌*◌, ◌%◌, ◌<◌, ◌≤◌}
-use mathlib.Core.Path.{◌≡◌, sym, ap, subst, ◌∙◌}
-use mathlib.Core.List.{List, [], ◌∷◌}
-use native.Mathlib.Nat.{not-suc-le-zero, le_of_suc-le-suc, mod-eq_of_lt, mod_self}
-use native.Mathlib.Omega.{arith}
-use lib.ListN.{length, get_or, drop, set, length-set, drop_of_length-le}
-use lib.Seq.{drop-cons}
+use Rattle.std.proofs.Common.{◌≡◌, ℕ, zero, suc, ◌+◌, ◌*◌, ◌%◌, ◌<◌, ◌≤◌, List, [], ◌∷◌, length, get_or, drop, set, sym, ap, subst, ◌∙◌, drop-cons, arith}
+use Rattle.std.proofs.Math.Nat.{not-suc-le-zero, le_of_suc-le-suc, mod-eq_of_lt, mod_self}
+use Rattle.std.proofs.Math.ListN.{length-set, drop_of_length-le}
 use Rattle.lists.specs.Product.{product}
 use Rattle.lists.proofs.Sets.{set_keeps}
 use Rattle.joint_states.specs.JointStates.{JointState, number_of}
@@ -50,7 +46,7 @@ module _ (counts x₀ : List ℕ) where
   carry-start j = record { inside = omega arith; joint = j; due = ap (λ (l : List ℕ). number_of counts x₀ + product l) (drop_of_length-le counts {i = length counts} (omega arith)) }
 
   -- component k stands at its last state: it goes back to 0, and carries on
-  pub carry-more : (i k : ℕ) (x : List ℕ) → Carried counts x₀ i x → suc k ≡ i → get_or counts k 0 - 1 ≤ get_or x k 0 → Carried counts x₀ k (set x k 0)
+  pub carry-more : (i k : ℕ) (x : List ℕ) → Carried counts x₀ i x → suc k ≡ i → get_or counts k 0 ≤ get_or x k 0 + 1 → Carried counts x₀ k (set x k 0)
   carry-more i k x c e last =
       let less : k < length counts = omega (arith, c.inside) in
       let below = c.joint.below k less in
@@ -63,7 +59,7 @@ module _ (counts x₀ : List ℕ) where
       }
 
   -- component k has a further state
-  pub carry-stops : (i k : ℕ) (x : List ℕ) → Carried counts x₀ i x → suc k ≡ i → get_or x k 0 < get_or counts k 0 - 1 → Next counts x₀ (set x k (get_or x k 0 + 1))
+  pub carry-stops : (i k : ℕ) (x : List ℕ) → Carried counts x₀ i x → suc k ≡ i → get_or x k 0 + 1 < get_or counts k 0 → Next counts x₀ (set x k (get_or x k 0 + 1))
   carry-stops i k x c e further =
       let y = set x k (get_or x k 0 + 1) in
       let moved = number-set counts x k (get_or x k 0 + 1) c.joint.long (omega (arith, c.inside)) in

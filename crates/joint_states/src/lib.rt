@@ -11,12 +11,9 @@ pub fn next_joint_state(counts: &[u8], x: &mut [u8])
     ensures joint_state { JointState counts.now x.new }
     ensures x_after { number_of counts.now x.new ≡ (number_of counts.now x.old + 1) % product counts.now }
 {
-    let mut i = counts.len();
-    while i > 0 {
-        i = i - 1;
-        let last = counts[i] - 1;
-        if x[i] < last {
-            x[i] = x[i] + 1;
+    for i in (0..counts.len()).rev() {
+        if x[i] + 1 < counts[i] {
+            x[i] += 1;
             return;
         }
         x[i] = 0;
@@ -30,11 +27,9 @@ pub fn number_of(counts: &[u8], x: &[u8]) -> usize
     requires counts_bound { product counts.now ≤ most_numbered }
     ensures { result ≡ number_of counts.now x.now }
 {
-    let mut number: usize = 0;
-    let mut i: usize = 0;
-    while i < counts.len() {
-        number = number * counts[i] as usize + x[i] as usize;
-        i = i + 1;
+    let mut number = 0;
+    for i in 0..counts.len() {
+        number = number * usize::from(counts[i]) + usize::from(x[i]);
     }
     number
 }

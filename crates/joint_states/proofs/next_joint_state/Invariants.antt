@@ -5,7 +5,3 @@ use Rattle.joint_states.proofs.next_joint_state.Given as goal
 abbrev pub invariant-loop-i : goal.invariant-loop-i
 invariant-loop-i l =
     Carried l.counts l.initial.x l.i l.x
-
-abbrev pub decreases-loop-i : goal.decreases-loop-i
-decreases-loop-i l =
-    l.i
