@@ -1,4 +1,3 @@
-pub mod Boundable
 pub mod Bounded
 pub mod Exact
 pub mod Factors

@@ -1,6 +1,6 @@
 -- What carries the total of one class: the entries below k are in it. The next one brings its bounds where it bears the class, and else nothing.
 use Prim.Native.Nat.{ℕ, ◌+◌, ◌*◌, ◌≤◌, min}
-use mathlib.Core.Path.{◌≡◌, refl, sym, subst, ◌∙◌}
+use mathlib.Core.Path.{◌≡◌, sym, ◌∙◌}
 use mathlib.Core.Bool.{Bool, true, false}
 use mathlib.Core.List.{List}
 use native.Mathlib.Omega.{arith}
@@ -67,12 +67,12 @@ module _ {probabilities : List ℕ} {n class : ℕ} (list : List ℕ) (k : ℕ) 
       with-next probabilities n class list k false none before (omega arith) (omega arith) (omega (arith, before.upper))
 
   -- it bears the class
-  pub own-borne : {borne low high sum : ℕ} → borne ≡ class_borne n (entry_at n list k) → borne ≡ class
-      → Bounded down probabilities n (entry_at n list k) low → Bounded up probabilities n (entry_at n list k) high → sum ≡ min one (t.upper + high)
-      → TotalOf probabilities n class (entries_of n (k + 1) list) (record { paths = t.paths + 1; lower = t.lower + low; upper = sum })
-  own-borne is own low high e =
+  pub own-borne : {borne low high : ℕ} {r : ClassTotal} → borne ≡ class_borne n (entry_at n list k) → borne ≡ class
+      → Bounded down probabilities n (entry_at n list k) low → Bounded up probabilities n (entry_at n list k) high
+      → r.paths ≡ t.paths + 1 → r.lower ≡ t.lower + low → r.upper ≡ min one (t.upper + high) → TotalOf probabilities n class (entries_of n (k + 1) list) r
+  own-borne is own low high paths lower upper =
       let one_more = eq-eqb (class_borne n (entry_at n list k)) class (sym is ∙ own) in
-      with-next probabilities n class list k true one_more before refl (omega (arith, low.is)) (omega (arith, e, high.is))
+      with-next probabilities n class list k true one_more before paths (omega (arith, lower, low.is)) (omega (arith, upper, high.is))
 
   -- ---- it fits
 
@@ -87,19 +87,9 @@ module _ {probabilities : List ℕ} {n class : ℕ} (list : List ℕ) (k : ℕ) 
       let most = total-most down (omega arith) probabilities table n (λ (c : ℕ). eqb c class) (entries_of n k list) in
       omega (arith, before.lower, most, entries-long n k list)
 
--- ---- in a loop
+-- ---- before the first entry
 
-pub record OneClass (probabilities : List ℕ) (n class : ℕ) (list : List ℕ) (paths k : ℕ) (t : ClassTotal) : Type 0 where
-  pub inside : k ≤ paths
-  pub made : TotalOf probabilities n class (entries_of n k list) t
-
-module _ {probabilities : List ℕ} {n class : ℕ} {list : List ℕ} {paths : ℕ} where
-  pub class-start : OneClass probabilities n class list paths 0 (record { paths = 0; lower = 0; upper = 0 })
-  unfolding entries_of tabulate total those sum_over
-  class-start = record { inside = omega arith; made = record { paths = refl; lower = refl; upper = refl } }
-
-  pub class-done : {k : ℕ} {t : ClassTotal} → OneClass probabilities n class list paths k t → paths ≤ k
-      → TotalOf probabilities n class (entries_of n paths list) t
-  class-done {k} {t} done h =
-      let all : k ≡ paths = omega (arith, h, done.inside) in
-      subst (λ (m : ℕ). TotalOf probabilities n class (entries_of n m list) t) all done.made
+pub class-start : {probabilities : List ℕ} {n class : ℕ} (list : List ℕ) {t : ClassTotal} → t.paths ≡ 0 → t.lower ≡ 0 → t.upper ≡ 0
+    → TotalOf probabilities n class (entries_of n 0 list) t
+unfolding entries_of tabulate total those sum_over
+class-start list paths lower upper = record { paths = paths; lower = lower; upper = upper }

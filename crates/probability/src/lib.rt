@@ -3,11 +3,13 @@
 #![tactic(auto)]
 
 mod classes;
+mod listed;
 mod path;
 mod probabilities;
 mod sums;
 
-pub use classes::{ClassTotal, class_total};
-pub use path::{factored, path_bound, path_bounds};
+pub use classes::ClassTotal;
+pub use listed::ListedPaths;
+pub use path::{factored, path_bound};
 pub use probabilities::first_components;
 pub use sums::sum_at_most;

@@ -10,11 +10,8 @@ pub fn probability_at(probabilities: &[u32], i: usize, s: u8) -> u32
     requires { i < most_components }
     ensures { result ≡ probability_at probabilities.now i s }
 {
-    let at = i * STATE_PLACES + s as usize;
-    if at < probabilities.len() {
-        return probabilities[at];
-    }
-    0
+    let place = i * STATE_PLACES + usize::from(s);
+    probabilities.get(place).copied().unwrap_or(0)
 }
 
 // The part of a table that belongs to its first n components.

@@ -9,9 +9,5 @@ pub fn sum_at_most(most: u64, a: u64, b: u64) -> u64
     requires b_le_one { b ≤ one }
     ensures { result ≡ min most (a + b) }
 {
-    let sum = a + b;
-    if most < sum {
-        return most;
-    }
-    sum
+    most.min(a + b)
 }

@@ -1,33 +1,21 @@
--- `probability::path::path_bound` meets its contract. The bound has the factors of the components below i (`Factored`).
-use Prim.Native.Nat.{◌-◌}
-use native.Mathlib.Omega.{arith}
-use Rattle.probability.proofs.Factors.{factors-start, factors-more, factors-done}
+-- `probability::path::path_bound` meets its contract: a component more brings its factor, and behind the last one all have.
+use Rattle.std.proofs.Common.{◌<◌, ◌≡◌, arith}
+use Rattle.std.proofs.Math.Seq.{length-take-le}
+use Rattle.std.proofs.lemmas.List.{get_or-take}
+use Rattle.probability.proofs.Factors.{factors-start, factors-more}
 use Rattle.probability.proofs.path.path_bound.Goals as goal
 
 pub loop-i-init : goal.loop-i-init
-loop-i-init c =
-    factors-start
-
-pub bounds-entry-i : goal.bounds-entry-i
-bounds-entry-i c =
-    omega (arith, c.loop-i-test.true, c.requires.n_in_bounds)
-
-pub factored-bound-requires : goal.factored-bound-requires
-factored-bound-requires c =
-    record { rounding_le_up = c.requires.rounding_le_up; at_most_one = c.requires.at_most_one; i_lt_most_components = omega (arith, c.loop-i-test.true, c.requires.n_le_most_components); bound_le_one = c.loop-i.invariant.most }
-
-pub overflow_add-i : goal.overflow_add-i
-overflow_add-i c =
-    omega arith
-
-pub loop-i-smaller : goal.loop-i-smaller
-loop-i-smaller c =
-    omega (arith, c.loop-i-test.true)
+loop-i-init c = rw c.from-bound.ensures factors-start
 
 pub loop-i-preserved : goal.loop-i-preserved
 loop-i-preserved c =
-    factors-more c.loop-i.invariant c.loop-i-test.true c.requires.n_in_bounds c.factored-bound.ensures.value c.factored-bound.ensures.upper_bound
+    let entry = c.args.entry.now in
+    let inside : c.loop-i.i < c.args.n = omega (arith, length-take-le c.args.n entry c.requires.n_in_bounds) in
+    let made = rw (get_or-take c.args.n entry c.loop-i.i 0 inside) at c.factored-bound.ensures.value in
+    factors-more c.loop-i.invariant (omega arith) made c.factored-bound.ensures.upper_bound
 
 pub returns : goal.returns
 returns c =
-    record { is = factors-done c.loop-i.invariant c.loop-i-test.false; most = c.loop-i.invariant.most }
+    let all : c.loop-i.i ≡ c.args.n = omega (arith, length-take-le c.args.n c.args.entry.now c.requires.n_in_bounds) in
+    rw all at c.loop-i.invariant

@@ -1,12 +1,6 @@
--- `probability::path::path_bound` meets its contract. The bound has the factors of the components below i (`Factored`).
-use Prim.Native.Nat.{◌-◌}
-use Rattle.probability.proofs.Factors.{Factored}
+-- `probability::path::path_bound`: the bound is that of the path as far as the components below i.
+use Rattle.probability.specs.Bounded.{Bounded}
 use Rattle.probability.proofs.path.path_bound.Given as goal
 
 abbrev pub invariant-loop-i : goal.invariant-loop-i
-invariant-loop-i l =
-    Factored l.rounding l.probabilities l.entry l.n l.i l.bound
-
-abbrev pub decreases-loop-i : goal.decreases-loop-i
-decreases-loop-i l =
-    l.n - l.i
+invariant-loop-i l = Bounded l.rounding l.probabilities l.i l.entry l.bound

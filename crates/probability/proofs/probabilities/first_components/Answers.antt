@@ -1,9 +1,0 @@
--- `probability::probabilities::first_components` meets its contract: the part is as long as it should be.
-use mathlib.Core.Path.{sym}
-use native.Mathlib.Omega.{arith}
-use lib.Seq.{length-take-le}
-use Rattle.probability.proofs.probabilities.first_components.Goals as goal
-
-pub slice_bounds-result-end : goal.slice_bounds-result-end
-slice_bounds-result-end c =
-    sym (length-take-le _ _ (omega arith))
