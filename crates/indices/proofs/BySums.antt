@@ -8,10 +8,7 @@ use Rattle.answers.specs.declared.figures.Caidi.{Caidi}
 use Rattle.answers.specs.declared.figures.Figures.{Figures}
 use Rattle.indices.specs.declared.sums.Sums.{Sums}
 use Rattle.indices.specs.Figures.{quotients, caidi, figures_of}
-use Rattle.indices.specs.Sums.{SumsFit, SumsOf}
-
-pub sums-fit : {losses : List ℕ} {loads : List Load} {sums : Sums} → SumsOf losses loads sums → SumsFit sums
-sums-fit are = record { loss = are.loss.fits; minutes = are.minutes.fits; momentary = are.momentary.fits }
+use Rattle.indices.specs.Sums.{SumsOf}
 
 module _ {lower upper : List ℕ} {loads : List Load} {low high : Sums} (lows : SumsOf lower loads low) (highs : SumsOf upper loads high) where
   pub figures-by-sums : {saifi saidi maifi : Enclosure} {c : Caidi} (customers : ℕ)

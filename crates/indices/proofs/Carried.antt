@@ -1,5 +1,6 @@
 -- What carries the loop that adds up the sums over P: those of the loads below j are added (`Summed`), and so the next ones fit.
 use Prim.Native.Nat.{ℕ, ◌+◌, ◌*◌, ◌<◌, ◌≤◌}
+use mathlib.Core.Path.{◌≡◌}
 use mathlib.Core.List.{List}
 use lib.ListN.{length, get_or}
 use Rattle.units.specs.One.{one}
@@ -21,13 +22,14 @@ pub record Carried (losses : List ℕ) (loads : List Load) (j : ℕ) (sums : Sum
   pub momentary : Summed short (customers_lost (bound_of losses)) one loads j sums.momentary
 
 module _ {losses : List ℕ} {loads : List Load} where
-  pub carried-start : Sizes loads → AtMostOne losses (length loads) → Carried losses loads 0 (record { loss = 0; minutes = 0; momentary = 0 })
-  carried-start sizes most =
+  pub carried-start : {sums : Sums} → Sizes loads → AtMostOne losses (length loads) → sums.loss ≡ 0 → sums.minutes ≡ 0 → sums.momentary ≡ 0
+      → Carried losses loads 0 sums
+  carried-start sizes most loss minutes momentary =
       let served = served-few loads sizes in
       record {
-        loss = summed-start served (loss-limited sustained loads most);
-        minutes = summed-start served (minutes-limited sustained loads most sizes);
-        momentary = summed-start served (loss-limited short loads most);
+        loss = rw loss (summed-start served (loss-limited sustained loads most));
+        minutes = rw minutes (summed-start served (minutes-limited sustained loads most sizes));
+        momentary = rw momentary (summed-start served (loss-limited short loads most));
       }
 
   module _ {j : ℕ} {sums : Sums} (c : Carried losses loads j sums) where

@@ -2,9 +2,9 @@ pub mod Bare
 pub mod BySums
 pub mod Carried
 pub mod Enclosed
-pub mod Front
 pub mod Most
 pub mod Ordering
 pub mod Parted
 pub mod Stated
 pub mod Summed
+pub mod ListSum

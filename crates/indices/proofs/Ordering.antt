@@ -1,10 +1,5 @@
 -- What follows where each lower bound is at most its upper one: it is at most one too, and so is the lower sum of P × C at most the upper one.
-use Prim.Native.Nat.{ℕ, ◌≤◌}
-use mathlib.Core.Bool.{Bool}
-use mathlib.Core.List.{List}
-use native.Mathlib.Nat.{mul-le-mul_right, min-le_left}
-use native.Mathlib.Omega.{arith}
-use lib.ListN.{length, get_or, take, length-take}
+use Rattle.std.proofs.Common.{ℕ, ◌≤◌, Bool, List, arith, length, get_or, mul-le-mul_right}
 use Rattle.lists.proofs.SumBelow.{sum-most}
 use Rattle.lists.proofs.SumOver.{counted-ordered}
 use Rattle.study.specs.declared.Load.{Load}
@@ -16,12 +11,11 @@ module _ {lower upper : List ℕ} {n : ℕ} (bounds : LossBounds lower upper n) 
   pub lower-most : AtMostOne lower n
   lower-most = record { most = λ j h. omega (arith, bounds.ordered j h, bounds.uppers.most j h) }
 
-  pub loss-ordered : (takes_part : Load → Bool) (load : List Load)
-      → loss_sum takes_part (bound_of lower) (take n load) ≤ loss_sum takes_part (bound_of upper) (take n load)
+  pub loss-ordered : (takes_part : Load → Bool) (loads : List Load) → length loads ≤ n
+      → loss_sum takes_part (bound_of lower) loads ≤ loss_sum takes_part (bound_of upper) loads
   unfolding loss_sum loads_sum
-  loss-ordered takes_part load =
-      sum-most _ _ (length (take n load))
+  loss-ordered takes_part loads few =
+      sum-most _ _ (length loads)
       (λ j h.
-      counted-ordered (takes_part (get_or (take n load) j zero_load))
-      (mul-le-mul_right (get_or (take n load) j zero_load).customers
-      (bounds.ordered j (omega (arith, h, length-take n load, min-le_left n (length load))))))
+      counted-ordered (takes_part (get_or loads j zero_load))
+      (mul-le-mul_right (get_or loads j zero_load).customers (bounds.ordered j (omega (arith, h)))))

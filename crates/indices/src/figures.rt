@@ -1,5 +1,5 @@
 // SAIFI, SAIDI, CAIDI and MAIFI.
-ghost use Rattle.std.specs.Prelude.{◌<◌, ◌≤◌, ◌≡◌, take};
+ghost use Rattle.std.specs.Prelude.{◌<◌, ◌≤◌, ◌≡◌};
 ghost use Rattle.rules.specs.Limits.{most_loads, most_served};
 ghost use Rattle.model.specs.Good.{Sizes};
 ghost use Rattle.indices.specs.Figures.{quotients as figures_quotients, caidi, figures_of};
@@ -11,6 +11,14 @@ use answers::{Caidi, Enclosure, Figures};
 use rules::LOAD_PLACES;
 use study::Load;
 use units::{quotient_down, quotient_up};
+
+// Bounds for the losses of all load places.
+#[derive(Clone, Copy)]
+pub struct Losses {
+    pub lower: [u64; LOAD_PLACES],
+    pub upper: [u64; LOAD_PLACES],
+    pub ghost bounds: { LossBounds lower upper most_loads },
+}
 
 // A lower sum over its divisor, rounded down, and an upper sum over its own, rounded up.
 fn quotients(low: u64, low_divisor: u64, high: u64, high_divisor: u64) -> Enclosure
@@ -27,6 +35,7 @@ fn quotients(low: u64, low_divisor: u64, high: u64, high_divisor: u64) -> Enclos
 }
 
 // CAIDI, from lower and upper sums.
+#[tactic(auto, unfolding(crate::specs::Figures::caidi))]
 fn caidi_of(low: Sums, high: Sums) -> Caidi
     requires loss_le_loss { low.loss ≤ high.loss }
     requires sums_fit { SumsFit low }
@@ -39,28 +48,19 @@ fn caidi_of(low: Sums, high: Sums) -> Caidi
     Caidi::Bounds(quotients(low.minutes, high.loss, high.minutes, low.loss))
 }
 
-// The figures of n loads, from the customers served, and lower and upper bounds for the loss of each load.
-pub fn figures_of(
-    customers: u64,
-    lower: [u64; LOAD_PLACES],
-    upper: [u64; LOAD_PLACES],
-    load: [Load; LOAD_PLACES],
-    n: u8,
-) -> Figures
-    requires n_le_most_loads { n ≤ most_loads }
-    requires sizes { Sizes (take n load) }
-    requires loss_bounds { LossBounds lower upper n }
+// The figures of loads, from the customers served, and lower and upper bounds for the loss of each load.
+pub fn figures_of(customers: u64, losses: &Losses, loads: &[Load]) -> Figures
+    requires sizes { Sizes loads.now }
     requires customers_nonzero { 0 < customers }
     requires customers_le_most_served { customers ≤ most_served }
-    ensures { result ≡ figures_of customers lower upper (take n load) }
+    ensures { result ≡ figures_of customers losses.now.lower losses.now.upper loads.now }
 {
-    let low = sums_of(lower, load, n);
-    let high = sums_of(upper, load, n);
-    let caidi = caidi_of(low, high);
+    let low = sums_of(&losses.lower, loads);
+    let high = sums_of(&losses.upper, loads);
     Figures {
         saifi: quotients(low.loss, customers, high.loss, customers),
         saidi: quotients(low.minutes, customers, high.minutes, customers),
-        caidi,
+        caidi: caidi_of(low, high),
         maifi: quotients(low.momentary, customers, high.momentary, customers),
     }
 }

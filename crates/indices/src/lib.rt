@@ -6,5 +6,5 @@ mod figures;
 mod parts;
 mod sums;
 
-pub use figures::figures_of;
+pub use figures::{Losses, figures_of};
 pub use sums::customers_sum;

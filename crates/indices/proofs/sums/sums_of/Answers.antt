@@ -1,60 +1,50 @@
--- `indices::sums::sums_of` meets its contract. The sums of the loads below j are added (`Carried`); the loads left fall.
-use borrow.Author.Rules.{rules}
-use Prim.Native.Nat.{◌-◌}
-use mathlib.Core.Path.{◌≡◌, sym}
-use native.Mathlib.Omega.{arith}
-use lib.ListN.{length, take}
-use Rattle.rules.specs.Limits.{most_loads}
+-- `indices::sums::sums_of` meets its contract: each turn adds the load that comes next, and none is left where either list ends.
+use Rattle.std.proofs.Common.{rules, ℕ, ◌≡◌, ◌≤◌, arith, length, length-append, length-drop, ap, inl, inr}
+use Rattle.study.specs.Zero.{zero_load}
 use Rattle.indices.proofs.Carried.{carried-start, carried-fits, carried-more, carried-done}
-use Rattle.indices.proofs.Front.{InUse, front_long, in_use}
+use Rattle.indices.proofs.ListSum.{next-at}
 use Rattle.indices.proofs.sums.sums_of.Goals as goal
-use Rattle.indices.proofs.sums.sums_of.Goals.{In-loop-j, Start}
 
--- as many loads are in use as are asked for
-long : (c : Start) → length (take c.args.n c.args.load) ≡ c.args.n
-long c =
-    let places : length c.args.load ≡ most_loads = search rules in
-    front_long _ _ places c.requires.n_le_most_loads
+pub loop-loss-init : goal.loop-loss-init
+loop-loss-init c =
+    let zero = c.default-sums.ensures in
+    record {
+      can_next = search rules;
+      finite = search rules;
+      losses_left = search rules;
+      loads_left = search rules;
+      carried = carried-start c.requires.sizes c.requires.at_most_one zero.0 zero.1.0 zero.1.1;
+    }
 
--- a turn reads one of them
-in-turn : (c : In-loop-j) → InUse c.args.load c.args.n c.loop-j.j
-in-turn c =
-    let long : length (take c.args.n c.args.load) ≡ c.args.n = let places : length c.args.load ≡ most_loads = search rules in
-    front_long _ _ places c.requires.n_le_most_loads in
-    in_use _ _ long _ c.loop-j-test.true
+pub add-requires : goal.add-requires
+add-requires c =
+    let kept = c.loop-loss.invariant in
+    let loss = next-at 0 c.args.losses.now (length c.loop-loss.yielded) kept.losses_left c.in-Some.ensures.steps.0 in
+    let load = next-at zero_load c.args.loads.now (length c.loop-loss.yielded) kept.loads_left c.in-Some.ensures.steps.1 in
+    rw (loss.is, load.is) (carried-fits kept.carried load.inside)
 
-pub loop-j-init : goal.loop-j-init
-loop-j-init c =
-    carried-start c.requires.sizes (rw (long c) c.requires.at_most_one)
-
-pub offset_bounds-load-j : goal.offset_bounds-load-j
-offset_bounds-load-j c =
-    omega arith
-
-pub bounds-load-j : goal.bounds-load-j
-bounds-load-j c =
-    omega (arith, c.requires.n_le_most_loads)
-
-pub bounds-losses-j : goal.bounds-losses-j
-bounds-losses-j c =
-    omega (arith, c.loop-j-test.true, c.requires.n_le_most_loads)
-
-pub add_load-sums-requires : goal.add_load-sums-requires
-add_load-sums-requires c =
-    rw (sym (in-turn (goal.at.add_load-sums-requires c).In-loop-j).read) (carried-fits c.loop-j.invariant (in-turn (goal.at.add_load-sums-requires c).In-loop-j).inside)
-
-pub overflow_add-j : goal.overflow_add-j
-overflow_add-j c =
-    omega arith
-
-pub loop-j-smaller : goal.loop-j-smaller
-loop-j-smaller c =
-    omega (arith, c.loop-j-test.true)
-
-pub loop-j-preserved : goal.loop-j-preserved
-loop-j-preserved c =
-    rw (c.add_load-sums.ensures, sym (in-turn (goal.at.loop-j-preserved c).In-loop-j).read) (carried-more c.loop-j.invariant (in-turn (goal.at.loop-j-preserved c).In-loop-j).inside)
+pub loop-loss-preserved : goal.loop-loss-preserved
+loop-loss-preserved c =
+    let kept = c.loop-loss.invariant in
+    let loss = next-at 0 c.args.losses.now (length c.loop-loss.yielded) kept.losses_left c.in-Some.ensures.steps.0 in
+    let load = next-at zero_load c.args.loads.now (length c.loop-loss.yielded) kept.loads_left c.in-Some.ensures.steps.1 in
+    record {
+      can_next = search rules;
+      finite = search rules;
+      losses_left = simp length-append loss.behind;
+      loads_left = simp length-append load.behind;
+      carried = simp length-append (rw (c.add.ensures, loss.is, load.is) (carried-more kept.carried load.inside));
+    }
 
 pub returns : goal.returns
 returns c =
-    carried-done c.loop-j.invariant (rw (long (goal.at.returns c).Start) c.loop-j-test.false)
+    let kept = c.loop-loss.invariant in
+    let long : length c.args.losses.now ≡ 8 = search rules in
+    let j : ℕ = length c.loop-loss.yielded in
+    let all : length c.args.loads.now ≤ j =
+    elim c.in-None.ensures.steps [
+      | inl none ↦ omega (arith, long, ap length kept.losses_left, length-drop j c.args.losses.now, none.1.0)
+      | inr none ↦ omega (arith, ap length kept.loads_left, length-drop j c.args.loads.now, none.1.0)
+    ]
+    in
+    carried-done kept.carried all
