@@ -145,27 +145,17 @@ pub fn absent_load() -> Load
 }
 
 // The state counts of all twelve component places; those of the study's components stand first.
-pub fn state_counts(component: [Component; COMPONENT_PLACES]) -> [u8; COMPONENT_PLACES]
-    ensures { result ≡ states component }
+pub fn state_counts(component: &[Component; COMPONENT_PLACES]) -> [u8; COMPONENT_PLACES]
+    ensures { result ≡ states component.now }
 {
-    let mut counts = [0u8; COMPONENT_PLACES];
-    let mut i: usize = 0;
-    while i < COMPONENT_PLACES {
-        counts[i] = component[i].states;
-        i = i + 1;
-    }
-    counts
+    component.map(|place| place.states)
 }
 
 // The state count of a component, and 0 for one that is not in the study.
 pub fn states_of(counts: &[u8], component: u8) -> u8
     ensures { result ≡ get_or counts.now component 0 }
 {
-    let i = component as usize;
-    if i < counts.len() {
-        return counts[i];
-    }
-    0
+    counts.get(usize::from(component)).copied().unwrap_or(0)
 }
 
 // The number of joint states of components with these state counts, each at most 4.
@@ -175,10 +165,8 @@ pub fn joint_states(counts: &[u8]) -> u32
     ensures { result ≡ product counts.now }
 {
     let mut joint: u32 = 1;
-    let mut i: usize = 0;
-    while i < counts.len() {
-        joint = joint * counts[i] as u32;
-        i = i + 1;
+    for count in counts {
+        joint *= u32::from(*count);
     }
     joint
 }

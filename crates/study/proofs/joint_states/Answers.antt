@@ -1,14 +1,8 @@
--- `study::joint_states` meets its contract. What is multiplied so far, times the product of the counts that are left, is the whole product; with
--- each count at most 4 it is at most 4 to the number of counts passed, so that it fits. The counts left fall.
-use Prim.Native.Nat.{ℕ, suc, ◌+◌, ◌*◌, ◌^◌, ◌≤◌, ◌<◌}
-use mathlib.Core.Path.{◌≡◌, sym, ap, ◌∙◌}
-use mathlib.Core.List.{List}
-use native.Mathlib.Nat.{one-mul, mul-one, mul_assoc, mul-le-mul, pow-suc, le_trans, pow-le-pow_right}
-use native.Mathlib.Numerals.{add-one}
-use native.Mathlib.Omega.{arith}
-use lib.ListN.{length, get_or, drop, drop_of_length-le}
-use lib.Seq.{drop-cons}
-use lib.Dec.{lit<}
+-- `study::joint_states` meets its contract: a count more is multiplied, and none is left.
+use Rattle.std.proofs.Common.{ℕ, suc, ◌+◌, ◌*◌, ◌^◌, ◌≤◌, ◌<◌, ◌≡◌, ◌∙◌, sym, ap, List, arith, length, get_or, drop, drop-cons, add-one, mul_assoc, mul-le-mul}
+use Rattle.std.proofs.Math.Nat.{one-mul, mul-one, pow-suc, le_trans, pow-le-pow_right}
+use Rattle.std.proofs.Math.ListN.{drop_of_length-le}
+use Rattle.std.proofs.Math.Dec.{lit<}
 use Rattle.rules.specs.Limits.{most_components, most_states}
 use Rattle.lists.specs.Product.{product}
 use Rattle.study.proofs.joint_states.Invariants.{JointLeft}
@@ -20,7 +14,6 @@ unfolding product
 joint-more counts i joint l four h =
     let split : product (drop i counts) ≡ get_or counts i 0 * product (drop (suc i) counts) = ap product (drop-cons counts i 0 h) in
     record {
-      inside = omega arith;
       left = rw (add-one, mul_assoc) (ap (λ (n : ℕ). joint * n) (sym split) ∙ l.left);
       bound = rw (add-one, pow-suc) (mul-le-mul l.bound (four i h));
     }
@@ -33,36 +26,17 @@ joint-done counts i joint l h = sym (mul-one joint) ∙ ap (λ (rest : List ℕ)
 joint-fits : (i joint : ℕ) → joint ≤ most_states ^ i → i ≤ most_components → joint ≤ most_states ^ most_components
 joint-fits i joint h most = le_trans h (pow-le-pow_right (lit< tt) most)
 
-pub loop-i-init : goal.loop-i-init
+pub loop-count-init : goal.loop-count-init
 unfolding product
-loop-i-init c =
-    record { inside = omega arith; left = one-mul _; bound = omega arith }
+loop-count-init c = record { left = one-mul _; bound = omega arith }
 
-pub bounds-counts-i : goal.bounds-counts-i
-bounds-counts-i c =
-    omega arith
-
-pub overflow_cast-joint : goal.overflow_cast-joint
-overflow_cast-joint c =
-    omega (arith, c.shared_slice_known-1.given c.loop-i.i)
-
-pub loop-i-preserved : goal.loop-i-preserved
-loop-i-preserved c =
-    joint-more _ _ _ c.loop-i.invariant c.requires.small c.loop-i-test.true
+pub loop-count-preserved : goal.loop-count-preserved
+loop-count-preserved c =
+    rw c.from-joint.ensures (joint-more _ _ _ c.loop-count.invariant c.requires.small c.loop-count-test.true)
 
 pub overflow_mul-joint : goal.overflow_mul-joint
 overflow_mul-joint c =
-    let few : length c.args.counts.now ≤ most_components = c.requires.few in
-    record { fits = omega (arith, joint-fits _ _ (loop-i-preserved c).bound (omega (arith, few, c.loop-i-test.true))) }
-
-pub overflow_add-i : goal.overflow_add-i
-overflow_add-i c =
-    omega arith
-
-pub loop-i-smaller : goal.loop-i-smaller
-loop-i-smaller c =
-    omega arith
+    record { fits = omega (arith, joint-fits _ _ (loop-count-preserved c).bound (omega (arith, c.requires.few))) }
 
 pub returns : goal.returns
-returns c =
-    joint-done _ _ _ c.loop-i.invariant c.loop-i-test.false
+returns c = joint-done _ _ _ c.loop-count.invariant c.loop-count-test.false
