@@ -1,5 +1,5 @@
 pub mod Behind
 pub mod Compared
 pub mod Counted
-pub mod Fork
+pub mod Forked
 pub mod Listed

@@ -1,30 +1,22 @@
 // How many paths a block has.
 ghost use Rattle.std.specs.Prelude.{◌≤◌, ◌≡◌, length};
 ghost use Rattle.rules.specs.Limits.{most_joint_states};
-ghost use Rattle.paths.specs.Blocks.{Block};
 ghost use Rattle.paths.specs.Paths.{paths};
 
-use crate::blank::{part, ways_at};
+use crate::block::ClassBlock;
 use answers::PathCount;
-use entries::Class;
 
 // The number of paths of a block, before any of them is written.
-pub fn count_paths(counts: &[u8], block: &[Class]) -> PathCount
-    requires block { Block counts.now block.now }
-    requires block_len_bound { length block.now ≤ most_joint_states }
-    ensures { result.paths ≡ length (paths counts.now block.now) }
+pub fn count_paths(block: ClassBlock) -> PathCount
+    requires { length block.classes.now ≤ most_joint_states }
+    ensures { result.paths ≡ length (paths block.entry.counts.now block.entry.classes.now) }
 {
-    if counts.len() == 0 {
+    let Some(fork) = block.fork() else {
         return PathCount { paths: 1 };
-    }
-    let way = ways_at(counts, block);
-    let later = &counts[1..];
-    let mut paths: u32 = 0;
-    let mut s: u8 = 0;
-    while s < way.number {
-        let more = count_paths(later, part(way.size, s, block));
-        paths = paths + more.paths;
-        s = s + 1;
+    };
+    let mut paths = 0;
+    for s in 0..fork.ways.number() {
+        paths += count_paths(fork.part(s)).paths;
     }
     PathCount { paths }
 }

@@ -3,11 +3,14 @@
 #![tactic(auto)]
 
 mod blank;
+mod block;
 mod count;
 mod lent;
 mod list;
 mod marks;
+mod parts;
 
-pub use blank::{part, ways_at};
+pub use blank::Ways;
+pub use block::ClassBlock;
 pub use lent::list_lent;
-pub use marks::mark;
+pub use parts::Fork;

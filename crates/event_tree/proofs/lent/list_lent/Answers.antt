@@ -19,18 +19,18 @@ list_need-requires c =
 
 pub returns-then-fault-ne0 : goal.returns-then-fault-ne0
 returns-then-fault-ne0 c =
-    let entries : List (List ℕ) = paths c.args.counts.now c.args.block.now in
+    let entries : List (List ℕ) = paths c.args.block.counts.now c.args.block.classes.now in
     let fault-is : c.room_fault-fault.result ≡ room_fault (length (joined entries)) (length c.args.buffer.now) = room-is c.requires _ c.count_paths-count.ensures c.list_need.ensures c.room_fault-fault.ensures in
     rw (← fault-is) (record { answer = sym (answered-refused _ _ _ c.if-fault-ne0.true); buffer = sym (filled-refused _ _ _ c.if-fault-ne0.true) })
 
 pub list_paths-requires : goal.list_paths-requires
 list_paths-requires c =
-    let entries : List (List ℕ) = paths c.args.counts.now c.args.block.now in
+    let entries : List (List ℕ) = paths c.args.block.counts.now c.args.block.classes.now in
     let fault-is : c.room_fault-fault.result ≡ room_fault (length (joined entries)) (length c.args.buffer.now) = room-is c.requires _ c.count_paths-count.ensures c.list_need.ensures c.room_fault-fault.ensures in
-    let pre = c.requires in record { block = pre.whole; counts_len_bound = pre.components; block_in_bounds = room-kept _ _ (sym fault-is ∙ c.if-fault-ne0.false) }
+    let pre = c.requires in record { counts_len_bound = pre.components; block_in_bounds = room-kept _ _ (sym fault-is ∙ c.if-fault-ne0.false) }
 
 pub returns : goal.returns
 returns c =
-    let entries : List (List ℕ) = paths c.args.counts.now c.args.block.now in
+    let entries : List (List ℕ) = paths c.args.block.counts.now c.args.block.classes.now in
     let fault-is : c.room_fault-fault.result ≡ room_fault (length (joined entries)) (length c.args.buffer.now) = room-is c.requires _ c.count_paths-count.ensures c.list_need.ensures c.room_fault-fault.ensures in
     let none = sym fault-is ∙ c.if-fault-ne0.false in record { answer = ap (λ (n : ℕ). Ok (record { paths = n })) c.count_paths-count.ensures ∙ sym (answered-done _ _ _ none); buffer = c.list_paths.ensures ∙ sym (filled-done _ _ _ none) }
