@@ -6,7 +6,7 @@ use mathlib.Core.Bool.{Bool, true, false}
 use mathlib.Core.List.{List, ◌++◌}
 use native.Mathlib.Omega.{arith}
 use lib.Dec.{eqb, ltb}
-use lib.ListN.{length, get_or, drop, set, replicate, length-set, get_or-replicate}
+use lib.ListN.{length, get_or, drop, set, replicate, length-set, length-replicate, get_or-replicate}
 use lib.Seq.{drop_at, get_or-set_same, get_or-set_other, ext_get_or}
 use borrow.Author.Tests.{eqb-true, eqb-false, ltb-true, ltb-false}
 use Rattle.lists.specs.Rows.{put}
@@ -79,6 +79,17 @@ placed-put {places} {value} {d} {d'} a room =
 
 pub zeros-cleared : {places : ℕ} {d : List ℕ} → d ≡ replicate places 0 → Cleared places d d
 zeros-cleared {places} {d} e = record { size = refl; here = λ p h. rw e (get_or-replicate {A = ℕ} places p 0 0 h); behind = λ k h. refl }
+
+-- and so are places that zeros are written over
+pub zeros-written : {places : ℕ} {d x : List ℕ} → places ≤ length d → x ≡ replicate places 0 → Cleared places d (x ++ drop places d)
+zeros-written {places} {d} {x} room e =
+    let long : length x ≡ places = ap length e ∙ length-replicate places 0 in
+    rw (put_front d x long)
+    (record {
+      size = put-size d (put d 0 x) 0 x (omega (arith, long, room)) refl;
+      here = λ p h. get_or-put d x p 0 (omega (arith, h, long)) ∙ rw e (get_or-replicate {A = ℕ} places p 0 0 h);
+      behind = λ k h. put-behind d x k (omega (arith, h, long));
+    })
 
 -- what is put over values at the first places hides them
 pub placed-over : {places : ℕ} {value : ℕ → ℕ} {d d' : List ℕ} → Placed places value d d' → places ≤ length d → (x : List ℕ) → length x ≡ places

@@ -4,15 +4,13 @@ use Rattle.lists.specs.Counting.{counted, sum_over}
 use Rattle.units.specs.One.{one}
 use Rattle.rules.specs.Limits.{most_components}
 use Rattle.entries.specs.Entries.{blank_mark, class_borne}
-use Rattle.paths.specs.Blocks.{Block}
 use Rattle.paths.specs.Paths.{paths}
 use Rattle.probability.specs.Bounds.{factored, total}
 use Rattle.probability.specs.Probabilities.{AtMostOne}
 use Rattle.totals.specs.Places.{counts_at}
 
--- a path has come as far as component i, the first of a block, with these bounds
-pub record Reached (counts block probabilities : List ℕ) (i low high : ℕ) : Type 0 where
-  pub whole : Block counts block
+-- a path has come as far as component i, the first of those with these state counts, with these bounds
+pub record Reached (counts probabilities : List ℕ) (i low high : ℕ) : Type 0 where
   pub table : AtMostOne probabilities
   pub few : i + length counts ≤ most_components
   pub low_most : low ≤ one

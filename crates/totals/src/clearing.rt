@@ -12,11 +12,7 @@ pub fn clear(totals: &mut [u64])
     requires { class_places ≤ length totals.old }
     ensures { Cleared class_places totals.old totals.new }
 {
-    let mut c: usize = 0;
-    while c < CLASS_PLACES {
-        totals[c] = 0;
-        c = c + 1;
-    }
+    totals[..CLASS_PLACES].fill(0);
 }
 
 // A place for each load, cleared.

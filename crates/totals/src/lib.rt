@@ -6,5 +6,6 @@ mod adding;
 mod clearing;
 mod walk;
 
+pub use adding::{ByClass, ByLoad, Tally};
 pub use clearing::{clear, no_totals};
 pub use walk::add_totals;

@@ -4,9 +4,8 @@ ghost use Rattle.units.specs.Rounding.{down, up};
 ghost use Rattle.totals.specs.Places.{sums_most, places_of, Totals, Adds};
 ghost use Rattle.totals.specs.Walk.{Reached, brings, brings_all};
 
-use crate::adding::add_bound;
-use entries::Class;
-use event_tree::{mark, part, ways_at};
+use crate::adding::Tally;
+use event_tree::ClassBlock;
 use probability::factored;
 use units::{DOWN, ONE, UP};
 
@@ -15,10 +14,8 @@ const SUMS_MOST: u64 = 4096000000000;
 
 // Adds up the paths of a block whose first component is component i; `low` and `high` are the bounds of the path in front of it. Upper totals are at
 // most one.
-fn add_paths(
-    loadwise: bool,
-    counts: &[u8],
-    block: &[Class],
+fn add_paths<T: Tally>(
+    block: ClassBlock,
     probabilities: &[u32],
     i: usize,
     low: u64,
@@ -26,27 +23,24 @@ fn add_paths(
     lower: &mut [u64],
     upper: &mut [u64],
 )
-    requires reached { Reached counts.now block.now probabilities.now i low high }
-    requires totals { Totals sums_most (places_of loadwise) lower.old }
-    requires totals_2 { Totals one (places_of loadwise) upper.old }
-    ensures adds { Adds sums_most (places_of loadwise) (brings loadwise down probabilities.now i counts.now block.now low) lower.old lower.new }
-    ensures adds_2 { Adds one (places_of loadwise) (brings loadwise up probabilities.now i counts.now block.now high) upper.old upper.new }
+    requires reached { Reached block.counts.now probabilities.now i low high }
+    requires totals { Totals sums_most (places_of T.loadwise) lower.old }
+    requires totals_2 { Totals one (places_of T.loadwise) upper.old }
+    ensures adds { Adds sums_most (places_of T.loadwise)
+        (brings T.loadwise down probabilities.now i block.entry.counts.now block.entry.classes.now low) lower.old lower.new }
+    ensures adds_2 { Adds one (places_of T.loadwise)
+        (brings T.loadwise up probabilities.now i block.entry.counts.now block.entry.classes.now high) upper.old upper.new }
 {
-    if counts.len() == 0 {
-        let class = block[0];
-        add_bound(loadwise, SUMS_MOST, class, low, lower);
-        add_bound(loadwise, ONE as u64, class, high, upper);
+    let Some(fork) = block.fork() else {
+        let class = block.class();
+        T::add_bound(SUMS_MOST, class, low, lower);
+        T::add_bound(ONE as u64, class, high, upper);
         return;
-    }
-    let way = ways_at(counts, block);
-    let later = &counts[1..];
-    let mut s: u8 = 0;
-    while s < way.number {
-        let own = mark(way.blank, s);
-        add_paths(
-            loadwise,
-            later,
-            part(way.size, s, block),
+    };
+    for s in 0..fork.ways.number() {
+        let own = fork.ways.mark(s);
+        add_paths::<T>(
+            fork.part(s),
             probabilities,
             i + 1,
             factored(DOWN, probabilities, i, own, low),
@@ -54,35 +48,24 @@ fn add_paths(
             lower,
             upper,
         );
-        s = s + 1;
     }
 }
 
 // Adds the bounds of all paths of a block to totals by class or by load: lower ones to the first slice, upper ones to the second, at most one.
-pub fn add_totals(
-    loadwise: bool,
-    counts: &[u8],
-    block: &[Class],
+pub fn add_totals<T: Tally>(
+    block: ClassBlock,
     probabilities: &[u32],
     lower: &mut [u64],
     upper: &mut [u64],
 )
-    requires reached { Reached counts.now block.now probabilities.now 0 one one }
-    requires totals { Totals sums_most (places_of loadwise) lower.old }
-    requires totals_2 { Totals one (places_of loadwise) upper.old }
-    ensures adds { Adds sums_most (places_of loadwise) (brings_all loadwise down probabilities.now counts.now block.now) lower.old lower.new }
-    ensures adds_2 { Adds one (places_of loadwise) (brings_all loadwise up probabilities.now counts.now block.now) upper.old upper.new }
+    requires reached { Reached block.counts.now probabilities.now 0 one one }
+    requires totals { Totals sums_most (places_of T.loadwise) lower.old }
+    requires totals_2 { Totals one (places_of T.loadwise) upper.old }
+    ensures adds { Adds sums_most (places_of T.loadwise)
+        (brings_all T.loadwise down probabilities.now block.entry.counts.now block.entry.classes.now) lower.old lower.new }
+    ensures adds_2 { Adds one (places_of T.loadwise)
+        (brings_all T.loadwise up probabilities.now block.entry.counts.now block.entry.classes.now) upper.old upper.new }
 {
     let whole = ONE as u64;
-    add_paths(
-        loadwise,
-        counts,
-        block,
-        probabilities,
-        0,
-        whole,
-        whole,
-        lower,
-        upper,
-    );
+    add_paths::<T>(block, probabilities, 0, whole, whole, lower, upper);
 }

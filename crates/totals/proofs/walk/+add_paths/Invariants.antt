@@ -1,7 +1,6 @@
 -- `totals::walk::add_paths` meets its contract. The components left fall at each call; for each of the two bounds the paths of the ways below s are
 -- added (`Walked`).
-use Prim.Native.Nat.{◌-◌}
-use lib.ListN.{length}
+use Rattle.std.proofs.Common.{length}
 use Rattle.units.specs.One.{one}
 use Rattle.units.specs.Rounding.{down, up}
 use Rattle.totals.specs.Places.{sums_most}
@@ -9,13 +8,10 @@ use Rattle.totals.proofs.Walked.{Walked}
 use Rattle.totals.proofs.walk.+add_paths.Given as goal
 
 abbrev pub invariant-loop-s : goal.invariant-loop-s
-invariant-loop-s l =
-    Walked l.loadwise down sums_most l.probabilities l.i l.counts l.block l.way l.later l.low l.initial.lower l.s l.lower
-    × Walked l.loadwise up one l.probabilities l.i l.counts l.block l.way l.later l.high l.initial.upper l.s l.upper
-
-abbrev pub decreases-loop-s : goal.decreases-loop-s
-decreases-loop-s l =
-    l.way.number - l.s
+invariant-loop-s g l =
+    let loadwise = g.T.Tally.loadwise in
+    Walked loadwise down sums_most l.probabilities l.i l.fork l.low l.initial.lower l.s l.lower
+    × Walked loadwise up one l.probabilities l.i l.fork l.high l.initial.upper l.s l.upper
 
 abbrev pub decreases-add_paths : goal.decreases-add_paths
-decreases-add_paths l = length l.counts.now
+decreases-add_paths g l = length l.block.counts.now
