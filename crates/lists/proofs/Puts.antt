@@ -45,7 +45,7 @@ unfolding put
 put-none d at = rw (add-zero, append-nil) (take-append-drop at d)
 
 -- a piece, and another behind it
-put-put : (d : List ℕ) (at : ℕ) (x y : List ℕ) → at + length x ≤ length d → put (put d at x) (at + length x) y ≡ put d at (x ++ y)
+pub put-put : (d : List ℕ) (at : ℕ) (x y : List ℕ) → at + length x ≤ length d → put (put d at x) (at + length x) y ≡ put d at (x ++ y)
 unfolding put
 put-put d at x y h =
     let long = length_front d at x h in

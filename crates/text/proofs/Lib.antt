@@ -1,3 +1,4 @@
 pub mod Decimals
 pub mod Pieces
 pub mod Short
+pub mod Written

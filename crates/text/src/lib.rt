@@ -1,11 +1,11 @@
-// Text in a lent buffer: bytes, decimal numbers and lines. Each function writes from a place on and answers the place behind what it wrote; who
-// calls it has the room. Grids are not known here.
+// Text in a lent buffer: bytes, decimal numbers and lines. Grids are not known here.
 #![tactic(auto)]
 
 mod bytes;
 mod lines;
 mod numbers;
+mod writer;
 
 pub use bytes::copy;
-pub use lines::{bounds_end, bounds_line, item_line, number_line};
-pub use numbers::{ZERO, field};
+pub use numbers::ZERO;
+pub use writer::Writer;

@@ -1,0 +1,5 @@
+-- `text::writer::Writer::decimal`: the number falls at each call.
+use Rattle.text.proofs.writer.Writer.+decimal.Given as goal
+
+abbrev pub decreases-decimal : goal.decreases-decimal
+decreases-decimal l = l.n
