@@ -3,7 +3,7 @@
 use Prim.Native.Nat.{ℕ, ◌+◌, ◌-◌, ◌<◌, ◌≤◌}
 use mathlib.Core.Path.{◌≡◌, refl, sym, ap, subst, ◌∙◌}
 use mathlib.Core.Bool.{Bool, true, false, cond}
-use mathlib.Core.List.{List, [], ◌++◌}
+use mathlib.Core.List.{List, [], ◌∷◌, ◌++◌}
 use mathlib.Core.Logic.{inl, inr}
 use native.Mathlib.Decide.{dec_lt}
 use native.Mathlib.Omega.{arith}
@@ -11,7 +11,7 @@ use lib.Dec.{ltb}
 use lib.ListN.{length, drop, length-append, length-drop, take-append-drop}
 use lib.Seq.{drop-append-le, drop_at, drop-drop}
 use borrow.Author.Tests.{lt-ltb, le-ltb}
-use Rattle.reading.specs.Reader.{Read, refused, got}
+use Rattle.reading.specs.Reader.{Read, refused, got, byte_or}
 use Rattle.reading.proofs.Back.{Back}
 use Rattle.reading.proofs.Ends.{EndsIn, Ends}
 use Rattle.reading.proofs.Local.{Stands, Local, more}
@@ -85,3 +85,9 @@ module _ (end : ℕ) where
           let enough : class_bytes ≤ length bytes = omega arith in
           subst (λ (r : Read ℕ). SpelledIn class_code bytes r) (sym (class-got bytes enough))
           (ap (λ (l : List ℕ). l ++ drop class_bytes bytes) (read-code bytes enough) ∙ take-append-drop class_bytes bytes)
+
+-- The code reads a class as one byte.
+pub class_or_byte : (end : ℕ) (bytes : List ℕ) → class_or end bytes ≡ byte_or end bytes
+unfolding class_or class_read byte_or
+class_or_byte end [] = refl
+class_or_byte end (b ∷ rest) = class-got end (b ∷ rest) (omega arith)

@@ -34,6 +34,7 @@ pub fn entry_at(list: &[u8], n: usize, k: usize) -> &[u8]
 }
 
 // The class that an entry of n components bears.
+#[tactic(auto, unfolding(crate::specs::Entries::class_borne))]
 pub fn class_of(n: usize, entry: &[u8]) -> Class
     requires { entry_bytes n ≤ length entry.now }
     ensures { result ≡ class_borne n entry.now }

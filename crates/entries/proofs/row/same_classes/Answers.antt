@@ -1,33 +1,15 @@
--- `entries::row::same_classes` meets its contract. The places below i are compared (`SameLeft`).
-use Prim.Native.Nat.{◌-◌}
-use native.Mathlib.Omega.{arith}
-use Rattle.lists.proofs.Same.{same_start, same_more, same-done}
+-- `entries::row::same_classes` meets its contract: rows are equal where they hold the same numbers.
+use Rattle.std.proofs.Common.{◌≡◌, ℕ, List, [], ◌∷◌, ◌&&◌, refl, ap, ◌∙◌, nat_eq, Bool}
+use Rattle.std.specs.Cmp.Lexicographic.{pointwise}
+use Rattle.lists.specs.Rows.{same}
 use Rattle.entries.proofs.row.same_classes.Goals as goal
 
-pub loop-i-init : goal.loop-i-init
-loop-i-init c =
-    same_start c.requires
-
-pub bounds-a-i : goal.bounds-a-i
-bounds-a-i c =
-    omega arith
-
-pub bounds-b-i : goal.bounds-b-i
-bounds-b-i c =
-    omega (arith, c.loop-i.invariant.even, c.loop-i-test.true)
-
-pub overflow_add-i : goal.overflow_add-i
-overflow_add-i c =
-    omega arith
-
-pub loop-i-smaller : goal.loop-i-smaller
-loop-i-smaller c =
-    omega arith
-
-pub loop-i-preserved : goal.loop-i-preserved
-loop-i-preserved c =
-    same_more c.loop-i.invariant c.loop-i-test.true
+equal-same : (x y : List ℕ) → pointwise nat_eq x y ≡ same x y
+unfolding same
+equal-same [] [] = refl
+equal-same [] (n ∷ y) = refl
+equal-same (m ∷ x) [] = refl
+equal-same (m ∷ x) (n ∷ y) = ap (λ (b : Bool). nat_eq m n && b) (equal-same x y)
 
 pub returns : goal.returns
-returns c =
-    same-done c.loop-i.invariant c.loop-i-test.false
+returns c = c.eq.ensures ∙ equal-same c.args.a.now c.args.b.now
