@@ -1,42 +1,36 @@
 -- The fields of a record, read one behind the other: as many are left to read as bits stand in what is left of the map.
-use Prim.Native.Nat.{ℕ, zero, suc, ◌+◌, ◌-◌, ◌/◌, ◌^◌, ◌<◌}
-use mathlib.Core.Path.{◌≡◌, refl, sym, ap, ◌∙◌}
-use mathlib.Core.List.{List}
+use Rattle.std.proofs.Common.{ℕ, zero, suc, ◌+◌, ◌-◌, ◌/◌, ◌^◌, ◌<◌, ◌≡◌, refl, sym, ap, ◌∙◌, List, arith}
 use native.Mathlib.Nat.{div-one, div-eq_of_lt}
-use native.Mathlib.Omega.{arith}
 use lib.Pow.{shr-shr}
 use lib.Count.{ones, ones_step}
 use Rattle.lists.specs.Bits.{digit}
 use Rattle.lists.specs.Run.{each}
 use Rattle.reading.specs.Reader.{Read, Reader, refused, got, turn}
-use Rattle.reading.specs.Fields.{BitLeft, field_at, fields, map_bits}
+use Rattle.reading.specs.Fields.{BitLeft, field_at, fields, where_left, map_bits}
+use Rattle.reading.proofs.Repeats.{RepeatLeft, repeat-more}
+
+-- from bit k of a map on so many fields are left: as many as bits stand there
+pub record FieldsLeft (map left k : ℕ) : Type 0 where
+  pub ones_left : left ≡ ones (map / 2 ^ k)
 
 -- the bits from k on are bit k and those from k + 1 on
 ones-from : (map k : ℕ) → ones (map / 2 ^ k) ≡ digit map k + ones (map / 2 ^ (k + 1))
 ones-from map k = ones_step (map / 2 ^ k) ∙ ap (λ (n : ℕ). digit map k + ones n) (shr-shr map k 1)
 
--- what is left of a map behind each of its bits, and of a map below 8 or 16 behind its last but one
-pub first-left : (map : ℕ) → BitLeft map (ones map) 0
-first-left map = record { in_map = omega arith; counted = omega (arith, ones-from map 0, ap ones (div-one map)) }
+pub fields-left : (map : ℕ) → FieldsLeft map (ones map) 0
+fields-left map = record { ones_left = sym (ap ones (div-one map)) }
 
-pub second-left : (map left : ℕ) → left ≡ ones map - digit map 0 → BitLeft map left 1
-second-left map left e = record { in_map = omega arith; counted = omega (arith, e, ones-from map 0, ones-from map 1, ap ones (div-one map)) }
+module _ {map left k : ℕ} (l : FieldsLeft map left k) where
+  pub bit_left : k < map_bits → BitLeft map left k
+  bit_left h = record { in_map = h; counted = omega (arith, l.ones_left, ones-from map k) }
 
-pub third-left : (map left last : ℕ) → map < 8 → left ≡ ones map - digit map 0 → last ≡ left - digit map 1 → last ≡ digit map 2
-unfolding ones
-third-left map left last few e e' =
-    let none : ones (map / 2 ^ 3) ≡ 0 = ap ones (div-eq_of_lt few) in
-    omega (arith, e, e', none, ones-from map 0, ones-from map 1, ones-from map 2, ap ones (div-one map))
+  pub left_behind : FieldsLeft map (left - digit map k) (k + 1)
+  left_behind = record { ones_left = omega (arith, l.ones_left, ones-from map k) }
 
-module _ (map left next : ℕ) (e : left ≡ ones map - digit map 0) (e' : next ≡ left - digit map 1) where
-  pub third-bit : BitLeft map next 2
-  third-bit = record { in_map = omega arith; counted = omega (arith, e, e', ones-from map 0, ones-from map 1, ones-from map 2, ap ones (div-one map)) }
-
-  pub fourth-left : (last : ℕ) → map < 16 → last ≡ next - digit map 2 → last ≡ digit map 3
+  -- what is left at the last bit is that bit
+  last_left : map < 2 ^ (k + 1) → left ≡ digit map k
   unfolding ones
-  fourth-left last few e'' =
-      let none : ones (map / 2 ^ 4) ≡ 0 = ap ones (div-eq_of_lt few) in
-      omega (arith, e, e', e'', none, ones-from map 0, ones-from map 1, ones-from map 2, ones-from map 3, ap ones (div-one map))
+  last_left few = omega (arith, l.ones_left, ones-from map k, ap ones (div-eq_of_lt few))
 
 module _ {A : Type 0} (field : ℕ → A → Reader A) (map : ℕ) where
   -- a bit that is clear reads nothing
@@ -53,16 +47,13 @@ module _ {A : Type 0} (field : ℕ → A → Reader A) (map : ℕ) where
       let rest : ones (map / 2 ^ (k + 1)) ≡ 0 = omega (arith, ones-from map k) in
       ap (each (turn (field_at field map)) n (k + 1)) (clear-turn k r clear) ∙ none_left n (k + 1) r rest
 
-  module _ (absent : A) (bytes : List ℕ) where
-    -- a map below 8 has no bit from 3 on: its fields are those of the first three
-    pub three-fields : map < 8
-        → fields field map absent bytes ≡ turn (field_at field map) 2 (turn (field_at field map) 1 (field_at field map 0 absent bytes))
-    unfolding ones each
-    three-fields few = none_left (map_bits - 3) 3 _ (ap ones (div-eq_of_lt few))
-
-    -- a map below 16 has no bit from 4 on
-    pub four-fields : map < 16
-        → fields field map absent bytes
-        ≡ turn (field_at field map) 3 (turn (field_at field map) 2 (turn (field_at field map) 1 (field_at field map 0 absent bytes)))
-    unfolding ones each
-    four-fields few = none_left (map_bits - 4) 4 _ (ap ones (div-eq_of_lt few))
+  -- the last field is read where one is left, and with it all are
+  pub last-field : {left k last maps : ℕ} {absent a : A} {bytes rest : List ℕ} (read : Read A) → FieldsLeft map left k
+      → RepeatLeft (field_at field map) map_bits absent bytes (got a rest) k → k ≡ last → last < map_bits → map < maps → maps ≡ 2 ^ (last + 1)
+      → read ≡ where_left left (field last) a rest → read ≡ fields field map absent bytes
+  unfolding ones
+  last-field {left} {k} {last} {a = a} {rest = rest} read l here same in_map few all e =
+      let below : map < 2 ^ (k + 1) = rw (all, ← same) at few in
+      let last : RepeatLeft (field_at field map) map_bits _ _ read (k + 1)
+      = repeat-more here (omega arith) (rw (last_left l below, ← same) at e) in
+      sym (none_left (map_bits - (k + 1)) (k + 1) read (ap ones (div-eq_of_lt below))) ∙ last.turns.same

@@ -72,3 +72,8 @@ repeat step n a bytes = each (turn step) n 0 (got a bytes)
 abbrev pub read_of : {A : Type 0} → Result A Refusal → List ℕ → Read A
 read_of (Ok a) rest = got a rest
 read_of (Err refusal) rest = refused (row_of refusal)
+
+-- the same where the value was filled in place
+abbrev pub read_into : {A : Type 0} → Result (Unit {0}) Refusal → A → List ℕ → Read A
+read_into (Ok a) value rest = got value rest
+read_into (Err refusal) value rest = refused (row_of refusal)

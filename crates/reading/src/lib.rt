@@ -4,6 +4,8 @@
 
 mod cursor;
 mod fields;
+mod record;
 
 pub use cursor::Cursor;
 pub use fields::{field_count, fields_behind, map_digit};
+pub use record::{Fields, read_record};

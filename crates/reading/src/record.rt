@@ -1,0 +1,106 @@
+// Reading a record: its map, then the fields whose bit stands, lowest bit first.
+ghost use Rattle.std.specs.Prelude.{◌≡◌, ℕ, ◌+◌, ◌^◌, ◌<◌, ◌≤◌};
+ghost use Rattle.reading.specs.Fields.{map_bits, field_at, where_left, fields, fields_by_map};
+ghost use Rattle.reading.specs.Reader.{Reader, read_of, read_into};
+
+use crate::cursor::Cursor;
+use crate::fields::{field_count, fields_behind, map_digit};
+use rules::Refusal;
+
+// How the records of a kind are read: their fields, one for each bit of a map up to the last.
+pub trait Fields {
+    type Record: Copy;
+
+    // One above the largest map.
+    ghost MAPS: { ℕ };
+
+    const MAPS: u8;
+
+    // The bit of the last field.
+    ghost LAST: { ℕ };
+
+    const LAST: u8;
+
+    ghost absent: { Self → Self.Record };
+
+    ghost field: { Self → ℕ → Self.Record → Reader Self.Record };
+
+    // A record that gives no field.
+    fn absent(&self) -> Self::Record
+        ensures { result ≡ absent self.now };
+
+    // The field of bit k.
+    fn read_field(
+        &self,
+        bytes: &mut Cursor,
+        k: u8,
+        so_far: &mut Self::Record,
+    ) -> Result<(), Refusal>
+        requires { k ≤ LAST }
+        ensures { read_into result so_far.new bytes.new.rest.now ≡ field self.now k so_far.old bytes.old.rest.now };
+
+    // The last field has a bit, and no bit stands behind it.
+    ghost fit: { LAST < map_bits };
+
+    ghost all: { MAPS ≡ 2 ^ (LAST + 1) };
+}
+
+// The field of bit k, where the bit stands in the map.
+fn read_where_set<F: Fields>(
+    bytes: &mut Cursor,
+    of: &F,
+    map: u8,
+    k: u8,
+    so_far: &mut F::Record,
+) -> Result<(), Refusal>
+    requires { k < F.LAST }
+    ensures { read_into result so_far.new bytes.new.rest.now ≡ field_at (F.field of.now) map k so_far.old bytes.old.rest.now }
+{
+    if map_digit(map, k) != 1 {
+        return Ok(());
+    }
+    of.read_field(bytes, k, so_far)
+}
+
+// The last field, where one field is left to read.
+fn read_last<F: Fields>(
+    bytes: &mut Cursor,
+    of: &F,
+    left: u32,
+    so_far: &mut F::Record,
+) -> Result<(), Refusal>
+    ensures { read_into result so_far.new bytes.new.rest.now ≡ where_left left (F.field of.now F.LAST) so_far.old bytes.old.rest.now }
+{
+    if left != 1 {
+        return Ok(());
+    }
+    of.read_field(bytes, F::LAST, so_far)
+}
+
+// The fields whose bit stands in the map, lowest bit first: as many as the map has ones.
+fn read_fields<F: Fields>(
+    bytes: &mut Cursor,
+    of: &F,
+    map: u8,
+    so_far: &mut F::Record,
+) -> Result<(), Refusal>
+    requires { map < F.MAPS }
+    ensures { read_into result so_far.new bytes.new.rest.now ≡ fields (F.field of.now) map so_far.old bytes.old.rest.now }
+{
+    let mut left = field_count(map);
+    for k in 0..F::LAST {
+        read_where_set(bytes, of, map, k, so_far)?;
+        left = fields_behind(left, map, k);
+    }
+    read_last(bytes, of, left, so_far)
+}
+
+// One record: its map, then its fields over their absent values.
+pub fn read_record<F: Fields>(bytes: &mut Cursor, of: &F) -> Result<F::Record, Refusal>
+    ensures { read_of result bytes.new.rest.now ≡ fields_by_map F.MAPS (F.field of.now) (F.absent of.now) bytes.old.rest.now }
+{
+    let map = bytes.map(F::MAPS)?;
+    let mut so_far = of.absent();
+    read_fields(bytes, of, map, &mut so_far)?;
+    Ok(so_far)
+}
