@@ -1,7 +1,6 @@
--- Chances that are answered keep the promise: an exponent that is not too far is one that the table of factors reaches, of which `exponential` shows it.
-use Prim.Native.Nat.{ℕ, ◌≤◌}
-use mathlib.Core.Path.{refl, sym, ap, subst, ◌∙◌}
-use native.Mathlib.Omega.{arith}
+-- Chances that are answered keep the promise: an exponent that is not too far is one that the table of factors reaches,
+-- of which `exponential` shows it.
+use Rattle.std.proofs.Common.{ℕ, ◌≤◌, ◌≡◌, refl, sym, ap, subst, ◌∙◌, arith, Ok, Err}
 use Rattle.rules.specs.Limits.{farthest}
 use Rattle.rules.proofs.Kept.{list-last}
 use Rattle.rules.proofs.Rows.{far-kept}
@@ -10,8 +9,7 @@ use Rattle.answers.specs.Told.{chance_values, survival_told}
 use Rattle.answers.proofs.Answered.{answered-done, answered-tells, no-breach}
 use Rattle.exponential.proofs.Worked.{worked-survives}
 use Rattle.survival.specs.Chances.{exponent_of, survival_fault, chances_of, survival_given}
-use Rattle.survival.specs.Promise.{FourBounds, SurvivalPromises}
-use Rattle.std.specs.Prelude.{Ok, Err}
+use Rattle.survival.specs.Promise.{Answers, FourBounds, SurvivalPromises}
 use Rattle.answers.specs.Answers.{SurvivalAnswer}
 
 four-bounds : (exponent : ℕ) → exponent ≤ farthest → FourBounds exponent (chances_of exponent)
@@ -36,3 +34,7 @@ survival-promises fit hours c answer =
     let none = no-breach _ _ (chance_values c) told (ap survival_told answer) in
     let same = sym (answered-done Err _ _ none) ∙ answer in
     subst (FourBounds exponent) (ap chances_in same) (four-bounds exponent (far-kept exponent (sym (list-last _) ∙ none)))
+
+-- what is answered as it is given keeps it too
+pub answers : (fit hours : ℕ) (answer : SurvivalAnswer) → answer ≡ survival_given fit hours → Answers fit hours answer
+answers fit hours answer is = record { given = is; promise = λ c chances. survival-promises fit hours c (sym is ∙ chances) }

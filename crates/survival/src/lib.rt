@@ -2,20 +2,21 @@
 #![tactic(auto)]
 
 ghost use Rattle.std.specs.Prelude.{◌≡◌};
+ghost use Rattle.answers.specs.Answers.{by_number};
 ghost use Rattle.exponential.specs.Worked.{Units};
 ghost use Rattle.survival.specs.Chances.{exponent_of, chances_by};
 ghost use Rattle.survival.specs.Promise.{Answers};
 
-use answers::{Chances, Enclosure, SurvivalAnswer};
+use answers::{Chances, Enclosure};
 use exponential::Bounds;
-use rules::far_fault;
+use rules::{Refusal, far_fault};
 use units::ONE;
 
 // FIT times hours: the product of two numbers of four bytes needs eight.
 fn exponent(fit: u32, hours: u32) -> u64
     ensures { result ≡ exponent_of fit hours }
 {
-    fit as u64 * hours as u64
+    u64::from(fit) * u64::from(hours)
 }
 
 // The chance of surviving within these bounds, and that of failure: one less each, swapped.
@@ -23,7 +24,7 @@ fn chances(surviving: Bounds) -> Chances
     requires { Units surviving }
     ensures { result ≡ chances_by surviving }
 {
-    let one = ONE as u64;
+    let one = u64::from(ONE);
     Chances {
         survival: Enclosure {
             lower: surviving.lower,
@@ -37,13 +38,10 @@ fn chances(surviving: Bounds) -> Chances
 }
 
 // The chances of surviving so many hours at a rate in FIT, and of a failure in them. Refused by 23.
-pub fn survival(fit: u32, hours: u32) -> SurvivalAnswer
-    ensures { Answers fit hours result }
+pub fn survival(fit: u32, hours: u32) -> Result<Chances, Refusal>
+    ensures { Answers fit hours (by_number result) }
 {
     let x = exponent(fit, hours);
-    let breach = far_fault(x);
-    if breach != 0 {
-        return SurvivalAnswer::Refused(breach);
-    }
-    SurvivalAnswer::Chances(chances(exponential::survival(x)))
+    far_fault(x)?;
+    Ok(chances(exponential::survival(x)))
 }
