@@ -1,5 +1,5 @@
 -- The front part of the places that the code lends: as many as the count says, and no more than there are. It is the row of inputs that the count means.
-use Prim.Native.Nat.{ℕ, min, ◌+◌, ◌≤◌}
+use Prim.Native.Nat.{ℕ, min, ◌≤◌}
 use mathlib.Core.Path.{◌≡◌, sym, ap, ◌∙◌}
 use mathlib.Core.List.{List, ◌++◌, map, append_assoc}
 use native.Mathlib.Nat.{zero-add}
@@ -79,11 +79,6 @@ module _ (count size k : ℕ) (within : k ≡ min count size) where
     distinct-front n keeps = part-fronted (distinct row) n (omega (arith, distinct-most row, row_long)) (rw same at keeps)
 
 -- gate inputs, beside masks of 0
-pub inputs-front : (count k : ℕ) → k ≡ min count most_gate_inputs → (l m : List ℕ) → length l ≡ most_gate_inputs → m ≡ no_masks
-    → paired (take k l) (take k m) ≡ take count (map unmasked l)
+pub beside-no-masks : (l : List ℕ) → length l ≡ most_gate_inputs → paired l no_masks ≡ map unmasked l
 unfolding no_masks
-inputs-front count k within l m long none =
-    let beside : paired l m ≡ map unmasked l = ap (paired l) none ∙ ap (λ (n : ℕ). paired l (replicate n 0)) (sym long) ∙ paired-unmasked l in
-    paired-take k l m
-    ∙ ap (take k) beside
-    ∙ take-front count most_gate_inputs k within (map unmasked l) (length-map l unmasked ∙ long)
+beside-no-masks l long = ap (λ (n : ℕ). paired l (replicate n 0)) (sym long) ∙ paired-unmasked l

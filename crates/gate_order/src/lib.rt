@@ -1,89 +1,55 @@
 // Puts the inputs of gates in order, tells whether they are, and finds the distinct ones. Not for callers from outside.
 #![tactic(auto)]
 
-mod gate_inputs;
-mod tests;
+mod front;
 
-ghost use Rattle.std.specs.Prelude.{ℕ, min, ◌≡◌, length};
-ghost use Rattle.rules.specs.Limits.{most_tests, most_gate_inputs};
+ghost use Rattle.std.specs.Prelude.{◌≡◌, IfOk};
+ghost use Rattle.rules.specs.Refusals.{breach_of};
 ghost use Rattle.study.specs.Places.{ShapedGate};
 ghost use Rattle.gate_order.specs.Inputs.{input_count};
 ghost use Rattle.gate_order.specs.Rows.{distinct_gate};
 ghost use Rattle.gate_order.specs.Breach.{order_fault};
-ghost use Rattle.gate_order.specs.Lent.{gate_of, PutInOrder};
+ghost use Rattle.gate_order.specs.Lent.{PutInOrder};
 ghost use Rattle.gate_order.specs.Order.{InOrder};
 
-use gate_inputs::{count_gate_inputs, keep_distinct_gate_inputs, order_gate_inputs};
-use rules::{first, unsound_fault};
+use front::{count_front, keep_front, order_front};
+use rules::{INPUT_PLACES, Refusal};
 use study::Gate;
-use tests::{count_tests, keep_distinct_tests, order_tests};
 
-// As many places as a count says, and no more than there are.
-fn within(count: u8, places: usize) -> usize
-    ensures { result ≡ min count places }
+// What stands beside gate inputs, where tests have their masks.
+const NO_MASKS: [u8; INPUT_PLACES] = [0; INPUT_PLACES];
+
+// Puts the inputs of a gate in order, in their places, and says how many of them are distinct, tests and gates
+// together.
+pub fn put_in_order(g: &mut Gate) -> u32
+    ensures { PutInOrder g.old g.new result }
 {
-    let n = count as usize;
-    if n < places {
-        return n;
-    }
-    places
+    let mut masks = NO_MASKS;
+    let tests = order_front(g.tests, &mut g.component, &mut g.mask);
+    let gates = order_front(g.gates, &mut g.input, &mut masks);
+    u32::from(tests) + u32::from(gates)
 }
 
-// Puts the inputs of a gate in order, in the places that are lent, and says how many of them are distinct, tests and
-// gates together.
-pub fn put_in_order(
-    tests: u8,
-    component: &mut [u8],
-    mask: &mut [u8],
-    gates: u8,
-    input: &mut [u8],
-) -> u32
-    requires component { length component.old ≡ most_tests }
-    requires mask { length mask.old ≡ most_tests }
-    requires input { length input.old ≡ most_gate_inputs }
-    ensures { (threshold : ℕ) → PutInOrder
-        (gate_of threshold tests component.old mask.old gates input.old)
-        (gate_of threshold tests component.new mask.new gates input.new) result }
+// Goes along the inputs of a gate once: how many are distinct, tests and gates together, where they are in order.
+#[tactic(auto, using(rules::proofs::Judged::judged), unfolding(crate::specs::Breach::order_fault, crate::specs::Inputs::input_count))]
+pub fn judge_inputs(g: &Gate) -> Result<u32, Refusal>
+    ensures order { breach_of result ≡ order_fault g.now }
+    ensures many { IfOk result (λ distinct. distinct ≡ input_count g.now) }
 {
-    let distinct_tests = order_tests(tests, component, mask);
-    let distinct_gates = order_gate_inputs(gates, input);
-    distinct_tests as u32 + distinct_gates as u32
-}
-
-// What the inputs of a gate were found to be: 16 where they are out of order, and otherwise how many are distinct,
-// tests and gates together.
-#[derive(Clone, Copy)]
-pub struct InputsJudged {
-    pub refusal: u8,
-    pub distinct: u32,
-}
-
-// Goes along the inputs of a gate once.
-pub fn judge_inputs(g: Gate) -> InputsJudged
-    ensures order { result.refusal ≡ order_fault g }
-    ensures many { order_fault g ≡ 0 → result.distinct ≡ input_count g }
-{
-    let component = g.component;
-    let mask = g.mask;
-    let input = g.input;
-    let tests = count_tests(g.tests, component, mask);
-    let gates = count_gate_inputs(g.gates, input);
-    InputsJudged {
-        refusal: first(unsound_fault(tests.ascends), unsound_fault(gates.ascends)),
-        distinct: tests.distinct as u32 + gates.distinct as u32,
-    }
+    let tests = count_front(g.tests, &g.component, &g.mask)?;
+    let gates = count_front(g.gates, &g.input, &NO_MASKS)?;
+    Ok(u32::from(tests) + u32::from(gates))
 }
 
 // A gate in order with its distinct inputs alone. It has its places, as every gate that is given by value.
-pub fn without_repeats(g: Gate) -> Gate
-    ensures places { ShapedGate g }
-    ensures inputs { InOrder g → result ≡ distinct_gate g }
+pub fn without_repeats(g: &Gate) -> Gate
+    ensures places { ShapedGate g.now }
+    ensures inputs { InOrder g.now → result ≡ distinct_gate g.now }
 {
-    let mut component = g.component;
-    let mut mask = g.mask;
-    let mut input = g.input;
-    let tests = keep_distinct_tests(g.tests, &mut component, &mut mask) as u8;
-    let gates = keep_distinct_gate_inputs(g.gates, &mut input) as u8;
+    let (mut component, mut mask, mut input) = (g.component, g.mask, g.input);
+    let mut masks = NO_MASKS;
+    let tests = keep_front(g.tests, &mut component, &mut mask) as u8;
+    let gates = keep_front(g.gates, &mut input, &mut masks) as u8;
     Gate {
         threshold: g.threshold,
         tests,

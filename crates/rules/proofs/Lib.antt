@@ -1,4 +1,5 @@
 pub mod Firsts
+pub mod Judged
 pub mod Kept
 pub mod Rows
 pub mod Weights
