@@ -1,14 +1,12 @@
--- What carries the filling of a branch: settled marks in front lead to the one part that is left to fill (`Ahead`); at a blank mark the parts of its states
--- are filled one by one (`Filled`).
-use Prim.Native.Nat.{ℕ, zero, suc, ◌+◌, ◌-◌, ◌*◌, ◌/◌, ◌<◌, ◌≤◌}
-use mathlib.Core.Path.{◌≡◌, refl, sym, ap, ◌∙◌}
-use mathlib.Core.Bool.{Bool, true, false, ◌&&◌, ◌||◌}
-use mathlib.Core.List.{List, [], ◌∷◌, ◌++◌, map, append_assoc, append-nil}
-use native.Mathlib.Nat.{zero-mul, zero-add, add-zero, sub-zero, mul-le-mul_right, mul-div_cancel_left}
-use native.Mathlib.Omega.{arith}
+-- What carries the filling of a branch: a settled mark leads to the one part that is to be filled; at a blank one the parts of its states are filled
+-- one by one (`Filled`).
+use Rattle.std.proofs.Common.{ℕ, zero, suc, ◌+◌, ◌-◌, ◌*◌, ◌/◌, ◌<◌, ◌≤◌, ◌≡◌, refl, sym, ap, ◌∙◌, Bool, true, false, ◌&&◌, ◌||◌, List, [], ◌∷◌, ◌++◌, arith, length, get_or, take, drop, take-append-drop}
+use mathlib.Core.List.{map, append_assoc, append-nil}
+use native.Mathlib.Numerals.{add-one}
+use native.Mathlib.Nat.{zero-mul, zero-add, add-zero, sub-zero, add-sub_cancel_left}
 use lib.Dec.{eqb}
-use lib.ListN.{length, get_or, take, drop, set, length-map, length-drop, take-append-drop, drop_of_length-le}
-use lib.Seq.{length-take-le, take_all, take-add, drop-drop, drop-cons, get_or-drop, set_split}
+use lib.ListN.{set, length-map, length-drop}
+use lib.Seq.{length-take-le, take_all, take-add, drop-drop, get_or-drop}
 use borrow.Author.Tests.{eq-eqb, ne_eqb}
 use Rattle.lists.specs.Product.{product}
 use Rattle.lists.proofs.Lent.{lent_back, back-front, back-behind, back_long}
@@ -17,6 +15,7 @@ use Rattle.joint_states.proofs.Numbered.{length-joint_states}
 use Rattle.entries.specs.Entries.{blank_mark}
 use Rattle.paths.specs.Blocks.{Block}
 use Rattle.paths.specs.Words.{fits}
+use Rattle.paths.proofs.Sizes.{shares, part-size, part-inside, part-long, whole_parts}
 use Rattle.drawn_tree.specs.Filling.{painted, branch_filled}
 use Rattle.drawn_tree.proofs.Painted.{length-painted, painted-append, painted-map, painted-none}
 
@@ -127,208 +126,146 @@ module _ (class mark : ℕ) (later behind : List ℕ) where
         ∙ ap (λ (s : ℕ). take (mark * m) block ++ left s (suc n) rest) (zero-add mark)
         ∙ ap (λ (l : List ℕ). take (mark * m) block ++ l) (own-part n rest enough)
 
--- ---- the loop over the states of a component that is not asked
+-- ---- no component is left: the one class is put
 
--- the parts of the states below s are filled; that of s is next, from a place on
-pub record Filled (counts marks : List ℕ) (class : ℕ) (block₀ : List ℕ) (states size : ℕ) (later behind : List ℕ) (s from : ℕ) (block : List ℕ) : Type 0 where
-  pub fewer : length later < length counts
-  pub few : length later ≤ length behind
-  pub some : (k : ℕ) → k < length later → 0 < get_or later k 0
-  pub most : (k : ℕ) → k < length later → get_or later k 0 ≤ blank_mark
-  pub states_most : states ≤ blank_mark
-  pub is_size : size ≡ product later
+pub filled-one : (counts marks : List ℕ) (class : ℕ) (block : List ℕ) → length counts ≡ 0 → length block ≡ 1
+    → set block 0 class ≡ branch_filled counts marks class block
+unfolding branch_filled painted fits joint_states
+filled-one [] marks class [] none one = absurd (omega arith)
+filled-one [] marks class (x ∷ []) none one = refl
+filled-one [] marks class (x ∷ y ∷ xs) none one = absurd (omega arith)
+filled-one (c ∷ cs) marks class block none one = absurd (omega arith)
+
+-- ---- a component is left
+
+-- the later components, or their marks, as the code takes them
+pub later-is : (l : List ℕ) → take (length l - 1) (drop 1 l) ≡ drop 1 l
+later-is l = take_all (length l - 1) (drop 1 l) (rw (length-drop 1 l) (omega arith))
+
+first-and-later : (l : List ℕ) → 0 < length l → l ≡ get_or l 0 0 ∷ drop 1 l
+first-and-later [] some = absurd (omega arith)
+first-and-later (x ∷ xs) some = refl
+
+-- marks and a block of components, of which there is one at least
+pub record Branch (counts marks block : List ℕ) : Type 0 where
+  pub whole : Block counts block
+  pub some : 0 < length counts
+  pub few : length counts ≤ length marks
+
+module _ {counts marks block : List ℕ} (b : Branch counts marks block) where
+  -- the part of a state is a block of the later components
+  pub branch-part : (s : ℕ) (d : List ℕ) → length d ≡ length block → s < get_or counts 0 0
+      → Block (drop 1 counts) (take (length block / get_or counts 0 0) (drop (s * (length block / get_or counts 0 0)) d))
+  branch-part s d same h =
+      let m : ℕ = length block / get_or counts 0 0 in
+      record {
+        long = part-long (get_or counts 0 0) m s d (same ∙ whole_parts counts block b.whole b.some) h ∙ part-size counts block b.whole b.some;
+        some = λ k less. rw (get_or-drop 1 counts k 0) (b.whole.some (1 + k) (later-less k less));
+        most = λ k less. rw (get_or-drop 1 counts k 0) (b.whole.most (1 + k) (later-less k less));
+      }
+    where
+      later-less : (k : ℕ) → k < length (drop 1 counts) → 1 + k < length counts
+      later-less k less = omega (arith, less, length-drop 1 counts)
+
+  pub branch-inside : (s : ℕ) → s < get_or counts 0 0
+      → s * (length block / get_or counts 0 0) + length block / get_or counts 0 0 ≤ length block
+  branch-inside s h = part-inside (get_or counts 0 0) (length block / get_or counts 0 0) s (length block) (whole_parts counts block b.whole b.some) h
+
+  -- the later ones are fewer, and no more than their marks
+  pub branch-fewer : length (drop 1 counts) < length counts
+  branch-fewer = rw (length-drop 1 counts) (omega (arith, b.some))
+
+  pub branch-few : length (drop 1 counts) ≤ length (drop 1 marks)
+  branch-few = rw (length-drop 1 counts, length-drop 1 marks) (omega (arith, b.few))
+
+  split : (class : ℕ) → branch_filled (get_or counts 0 0 ∷ drop 1 counts) (get_or marks 0 0 ∷ drop 1 marks) class block ≡ branch_filled counts marks class block
+  split class =
+      λ i. branch_filled (sym (first-and-later counts b.some) i) (sym (first-and-later marks (omega (arith, b.some, b.few))) i) class block
+
+  whole-room : get_or counts 0 0 * product (drop 1 counts) ≤ length block
+  whole-room = omega (arith, shares counts block b.whole b.some)
+
+  -- ---- its mark is settled
+
+  module _ (class : ℕ) (settled : get_or marks 0 0 ≡ blank_mark → ⊥) where
+    -- and no state
+    pub settled-nowhere : get_or counts 0 0 ≤ get_or marks 0 0 → block ≡ branch_filled counts marks class block
+    settled-nowhere high =
+        sym (no_own class (get_or marks 0 0) (drop 1 counts) (drop 1 marks) settled (get_or counts 0 0) block whole-room high) ∙ split class
+
+    -- the part of its state is filled
+    pub settled-filled : get_or marks 0 0 < get_or counts 0 0 → (p : List ℕ)
+        → p ≡ branch_filled (drop 1 counts) (drop 1 marks) class
+        (take (length block / get_or counts 0 0) (drop (get_or marks 0 0 * (length block / get_or counts 0 0)) block))
+        → lent_back block p (get_or marks 0 0 * (length block / get_or counts 0 0)) (length block / get_or counts 0 0) ≡ branch_filled counts marks class block
+    settled-filled low p wrote =
+        let m : ℕ = length block / get_or counts 0 0 in
+        let n : ℕ = get_or marks 0 0 * m in
+        let is-size : m ≡ product (drop 1 counts) = part-size counts block b.whole b.some in
+        let rest : List ℕ = drop n block in
+        let enough : product (drop 1 counts) ≤ length rest = rw (length-drop n block) (omega (arith, is-size, branch-inside (get_or marks 0 0) low)) in
+        let first : p ++ drop m rest ≡ branch_filled (drop 1 counts) (drop 1 marks) class rest
+        = ap (λ (l : List ℕ). l ++ drop m rest) wrote
+        ∙ ap (λ (k : ℕ). branch_filled (drop 1 counts) (drop 1 marks) class (take k rest) ++ drop k rest) is-size
+        ∙ filled-first class blank_mark (drop 1 counts) (drop 1 marks) rest enough in
+        let own : branch_filled (get_or counts 0 0 ∷ drop 1 counts) (get_or marks 0 0 ∷ drop 1 marks) class block
+        ≡ take n block ++ branch_filled (drop 1 counts) (drop 1 marks) class rest
+        = rw is-size (own-only class (get_or marks 0 0) (drop 1 counts) (drop 1 marks) settled (get_or counts 0 0) block whole-room low) in
+        rw add-sub_cancel_left (ap (λ (l : List ℕ). take n block ++ l) first ∙ sym own ∙ split class)
+
+-- ---- its mark is blank: the parts of the states below s are filled
+
+pub record Filled (counts marks : List ℕ) (class : ℕ) (block₀ : List ℕ) (s : ℕ) (block : List ℕ) : Type 0 where
+  pub branch : Branch counts marks block₀
   pub long : length block ≡ length block₀
-  pub inside : from + (states - s) * size ≤ length block
-  pub same : take from block ++ left class blank_mark later behind s (states - s) (drop from block) ≡ branch_filled counts marks class block₀
+  pub same : take (s * (length block₀ / get_or counts 0 0)) block
+      ++ left class blank_mark (drop 1 counts) (drop 1 marks) s (get_or counts 0 0 - s) (drop (s * (length block₀ / get_or counts 0 0)) block)
+      ≡ branch_filled counts marks class block₀
 
-module _ {counts marks : List ℕ} {class : ℕ} {block₀ : List ℕ} {states size : ℕ} {later behind : List ℕ} {s from : ℕ} {block : List ℕ}
-    (f : Filled counts marks class block₀ states size later behind s from block) where
-  pub filled-done : states ≤ s → block ≡ branch_filled counts marks class block₀
+pub filled_start : {counts marks block : List ℕ} (class : ℕ) → Branch counts marks block → get_or marks 0 0 ≡ blank_mark → Filled counts marks class block 0 block
+unfolding branch_filled joint_states
+filled_start class b blank =
+    record { branch = b; long = refl; same = rw (zero-mul, sub-zero, sym blank) (split b class) }
+
+module _ {counts marks : List ℕ} {class : ℕ} {block₀ : List ℕ} {s : ℕ} {block : List ℕ} (f : Filled counts marks class block₀ s block) where
+  pub filled-done : get_or counts 0 0 ≤ s → block ≡ branch_filled counts marks class block₀
   filled-done h =
-      let none : states - s ≡ 0 = omega arith in
+      let from : ℕ = s * (length block₀ / get_or counts 0 0) in
+      let none : get_or counts 0 0 - s ≡ 0 = omega arith in
       sym (take-append-drop from block)
-      ∙ ap (λ (l : List ℕ). take from block ++ l) (sym (left-none class blank_mark later behind s (drop from block)))
+      ∙ ap (λ (l : List ℕ). take from block ++ l) (sym (left-none class blank_mark (drop 1 counts) (drop 1 marks) s (drop from block)))
       ∙ (rw none at f.same)
 
-  module _ (h : s < states) where
-    -- no state is numbered as the blank mark
-    pub filled-most : s < blank_mark
-    filled-most = omega (arith, h, f.states_most)
-
-    room : suc (states - (s + 1)) * size ≤ length block - from
-    room =
-        let more : states - s ≡ suc (states - (s + 1)) = omega arith in
-        let wide : from + suc (states - (s + 1)) * size ≤ length block = rw more at f.inside in
-        omega (arith, wide)
-
-    pub filled-inside : from + size ≤ length block
-    filled-inside = omega (arith, room, f.inside)
-
-    part-long : length (take size (drop from block)) ≡ size
-    part-long = length-take-le size (drop from block) (rw (length-drop from block) (omega (arith, filled-inside)))
-
-    pub filled-part : Block later (take size (drop from block))
-    filled-part = record { long = part-long ∙ f.is_size; some = f.some; most = f.most }
-
-    -- the part of state s is filled too
-    pub filled_more : {p : List ℕ} → p ≡ branch_filled later behind class (take size (drop from block))
-        → Filled counts marks class block₀ states size later behind (s + 1) (from + size) (lent_back block p from size)
-    unfolding branch_filled
-    filled_more {p = p} wrote =
-        let n = states - (s + 1) in
-        let old = take size (drop from block) in
-        let long : length p ≡ size = ap length wrote ∙ length-painted (λ x. fits x behind) (λ x. class) (joint_states later) old ∙ part-long in
-        let more : states - s ≡ suc n = omega arith in
-        let rest = left class blank_mark later behind (s + 1) n in
-        let enough : product later ≤ length (drop from block) = rw (length-drop from block, sym f.is_size) (omega (arith, filled-inside)) in
-        let next : p ++ rest (drop (from + size) block) ≡ left class blank_mark later behind s (states - s) (drop from block) =
-        (λ i. wrote i ++ rest (sym (drop-drop size from block) i))
-        ∙ ap (λ (k : ℕ). own class blank_mark later behind true (take k (drop from block)) ++ rest (drop k (drop from block))) f.is_size
-        ∙ sym (left-next class blank_mark later behind s n (drop from block) enough)
-        ∙ ap (λ (k : ℕ). left class blank_mark later behind s k (drop from block)) (sym more) in
-        let back-same = back_long block p from size filled-inside long in
-        record {
-          fewer = f.fewer;
-          few = f.few;
-          some = f.some;
-          most = f.most;
-          states_most = f.states_most;
-          is_size = f.is_size;
-          long = back-same ∙ f.long;
-          inside = rw back-same (omega (arith, room, filled-inside));
-          same =
-              rw (back-front block p from size filled-inside long, back-behind block p from size filled-inside long)
-              (append_assoc (take from block) p (rest (drop (from + size) block)) ∙ ap (λ (l : List ℕ). take from block ++ l) next ∙ f.same);
-        }
-
--- ---- the loop over the settled components in front
-
--- what is left to fill is the part of the components from next on, from a place on
-pub record Ahead (counts marks : List ℕ) (class : ℕ) (block₀ : List ℕ) (next from size : ℕ) (block : List ℕ) : Type 0 where
-  pub kept : block ≡ block₀
-  pub whole : Block counts block
-  pub few : length counts ≤ length marks
-  pub is_size : size ≡ product (drop next counts)
-  pub inside : from + size ≤ length block
-  pub same : take from block ++ branch_filled (drop next counts) (drop next marks) class (drop from block) ≡ branch_filled counts marks class block
-
-pub ahead-start : (counts marks : List ℕ) (class : ℕ) (block : List ℕ) → Block counts block → length counts ≤ length marks
-    → Ahead counts marks class block 0 0 (length block) block
-ahead-start counts marks class block b few =
-    record { kept = refl; whole = b; few = few; is_size = b.long; inside = omega arith; same = refl }
-
-cons-next : (l : List ℕ) (k : ℕ) → k < length l → drop k l ≡ get_or l k 0 ∷ drop (k + 1) l
-cons-next l k h = let next : suc k ≡ k + 1 = omega arith in drop-cons l k 0 h ∙ ap (λ (j : ℕ). get_or l k 0 ∷ drop j l) next
-
-module _ {counts marks : List ℕ} {class : ℕ} {block₀ : List ℕ} {next from size : ℕ} {block : List ℕ}
-    (a : Ahead counts marks class block₀ next from size block) where
-  -- no component is left
-  module _ (none : length counts ≤ next) where
-    size-one : size ≡ 1
-    unfolding product
-    size-one = a.is_size ∙ ap product (drop_of_length-le counts none)
-
-    pub ahead-place : from < length block
-    ahead-place = omega (arith, size-one, a.inside)
-
-    pub ahead-one : set block from class ≡ branch_filled counts marks class block₀
-    unfolding branch_filled painted fits joint_states
-    ahead-one =
-        set_split block from class ahead-place
-        ∙ ap (λ (l : List ℕ). take from block ++ l)
-        (λ i. branch_filled (sym (drop_of_length-le counts none) i) (drop next marks) class (cons i))
-        ∙ a.same
-        ∙ ap (branch_filled counts marks class) a.kept
-      where
-        cons : get_or block from 0 ∷ drop (suc from) block ≡ drop from block
-        cons = sym (drop-cons block from 0 ahead-place)
-
-  module _ (h : next < length counts) where
-    abbrev states : ℕ
-    states = get_or counts next 0
-
-    abbrev mark : ℕ
-    mark = get_or marks next 0
-
-    abbrev later : List ℕ
-    later = drop (next + 1) counts
-
-    abbrev behind : List ℕ
-    behind = drop (next + 1) marks
-
-    pub ahead-some : 0 < states
-    ahead-some = a.whole.some next h
-
-    pub ahead-most : states ≤ blank_mark
-    ahead-most = a.whole.most next h
-
-    shares : size ≡ states * product later
-    unfolding product
-    shares = a.is_size ∙ ap product (cons-next counts next h)
-
-    part-size : size / states ≡ product later
-    part-size = ap (λ (n : ℕ). n / states) shares ∙ mul-div_cancel_left (product later) ahead-some
-
-    ahead-room : states * product later ≤ length (drop from block)
-    ahead-room = rw (length-drop from block) (omega (arith, shares, a.inside))
-
-    ahead-same : take from block ++ branch_filled (states ∷ later) (mark ∷ behind) class (drop from block) ≡ branch_filled counts marks class block
-    ahead-same =
-        (λ i. take from block ++ branch_filled (sym (cons-next counts next h) i) (sym (cons-next marks next (omega (arith, a.few))) i) class (drop from block))
-        ∙ a.same
-
-    -- its mark is settled
-    module _ (settled : mark ≡ blank_mark → ⊥) where
-      pub ahead-nowhere : states ≤ mark → block ≡ branch_filled counts marks class block₀
-      ahead-nowhere high =
-          sym (take-append-drop from block)
-          ∙ ap (λ (l : List ℕ). take from block ++ l) (sym (no_own class mark later behind settled states (drop from block) ahead-room high))
-          ∙ ahead-same
-          ∙ ap (branch_filled counts marks class) a.kept
-
-      module _ (low : mark < states) where
-        pub ahead-inside : from + mark * (size / states) + size / states ≤ length block
-        ahead-inside =
-            let part : suc mark * product later ≤ states * product later = mul-le-mul_right (product later) low in
-            rw part-size (omega (arith, part, shares, a.inside))
-
-        pub ahead-settled : Ahead counts marks class block₀ (next + 1) (from + mark * (size / states)) (size / states) block
-        ahead-settled =
-            let m = product later in
-            record {
-              kept = a.kept;
-              whole = a.whole;
-              few = a.few;
-              is_size = part-size;
-              inside = ahead-inside;
-              same =
-                  rw part-size
-                  ((λ i. take-add from (mark * m) block i ++ branch_filled later behind class (sym (drop-drop (mark * m) from block) i))
-                  ∙ append_assoc (take from block) (take (mark * m) (drop from block)) (branch_filled later behind class (drop (mark * m) (drop from block)))
-                  ∙ ap (λ (l : List ℕ). take from block ++ l) (sym (own-only class mark later behind settled states (drop from block) ahead-room low))
-                  ∙ ahead-same);
-            }
-
-    counted : (k : ℕ) → k < length later → next + 1 + k < length counts
-    counted k less = omega (arith, less, length-drop (next + 1) counts)
-
-    -- its mark is blank: its states are to be filled one by one
-    pub ahead-blank : mark ≡ blank_mark
-        → Filled counts marks class block states (size / states) (take (length counts - (next + 1)) later) (take (length marks - (next + 1)) behind) 0 from block
-    unfolding branch_filled joint_states
-    ahead-blank blank =
-        rw (
-          take_all (length counts - (next + 1)) later (rw (length-drop (next + 1) counts) (omega arith)),
-          take_all (length marks - (next + 1)) behind (rw (length-drop (next + 1) marks) (omega arith)),
-        )
-        (record {
-          fewer = rw (length-drop (next + 1) counts) (omega arith);
-          few = rw (length-drop (next + 1) counts, length-drop (next + 1) marks) (omega (arith, a.few));
-          some = λ k less. rw (get_or-drop (next + 1) counts k 0) (a.whole.some (next + 1 + k) (counted k less));
-          most = λ k less. rw (get_or-drop (next + 1) counts k 0) (a.whole.most (next + 1 + k) (counted k less));
-          states_most = ahead-most;
-          is_size = part-size;
-          long = refl;
-          inside = rw (part-size, sub-zero) (omega (arith, shares, a.inside));
-          same = rw (sub-zero, sym blank) ahead-same;
-        })
+  -- the part of state s is filled too
+  pub filled_more : {p : List ℕ} → s < get_or counts 0 0
+      → p ≡ branch_filled (drop 1 counts) (drop 1 marks) class
+      (take (length block₀ / get_or counts 0 0) (drop (s * (length block₀ / get_or counts 0 0)) block))
+      → Filled counts marks class block₀ (s + 1) (lent_back block p (s * (length block₀ / get_or counts 0 0)) (length block₀ / get_or counts 0 0))
+  unfolding branch_filled
+  filled_more {p = p} h wrote =
+      let later : List ℕ = drop 1 counts in
+      let behind : List ℕ = drop 1 marks in
+      let size : ℕ = length block₀ / get_or counts 0 0 in
+      let from : ℕ = s * size in
+      let n : ℕ = get_or counts 0 0 - (s + 1) in
+      let is-size : size ≡ product later = part-size counts block₀ f.branch.whole f.branch.some in
+      let inside : from + size ≤ length block = omega (arith, branch-inside f.branch s h, f.long) in
+      let old : List ℕ = take size (drop from block) in
+      let long : length p ≡ size = ap length wrote ∙ length-painted (λ x. fits x behind) (λ x. class) (joint_states later) old
+      ∙ length-take-le size (drop from block) (rw (length-drop from block) (omega (arith, inside))) in
+      let more : get_or counts 0 0 - s ≡ suc n = omega arith in
+      let rest = left class blank_mark later behind (s + 1) n in
+      let enough : product later ≤ length (drop from block) = rw (length-drop from block, sym is-size) (omega (arith, inside)) in
+      let next : p ++ rest (drop (from + size) block) ≡ left class blank_mark later behind s (get_or counts 0 0 - s) (drop from block) =
+      (λ i. wrote i ++ rest (sym (drop-drop size from block) i))
+      ∙ ap (λ (k : ℕ). own class blank_mark later behind true (take k (drop from block)) ++ rest (drop k (drop from block))) is-size
+      ∙ sym (left-next class blank_mark later behind s n (drop from block) enough)
+      ∙ ap (λ (k : ℕ). left class blank_mark later behind s k (drop from block)) (sym more) in
+      let place : (s + 1) * size ≡ from + size = omega arith in
+      record {
+        branch = f.branch;
+        long = back_long block p from size inside long ∙ f.long;
+        same =
+            rw (place, back-front block p from size inside long, back-behind block p from size inside long)
+            (append_assoc (take from block) p (rest (drop (from + size) block)) ∙ ap (λ (l : List ℕ). take from block ++ l) next ∙ f.same);
+      }
