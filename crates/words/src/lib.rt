@@ -2,66 +2,63 @@
 #![tactic(auto)]
 
 ghost use Rattle.std.specs.Prelude.{◌≡◌};
-ghost use Rattle.lists.specs.Cleared.{Cleared};
-ghost use Rattle.text.specs.Writing.{Room, Wrote};
+ghost use Rattle.rules.specs.Refusals.{row_of};
+ghost use Rattle.answers.specs.Answers.{by_number};
 ghost use Rattle.lent_text.specs.Lent.{reported, written};
-ghost use Rattle.words.specs.Words.{word_bytes, refusal_word};
+ghost use Rattle.words.specs.Words.{refusal_word};
 
-use answers::CountAnswer;
 use lent_text::hand_over;
-use text::copy;
+use rules::Refusal;
 
-// Room for the longest word.
-const WORD_BYTES: usize = 12;
-
-// Writes the word of a refusal; nothing for a number that the table lacks.
-pub fn write_word(out: &mut [u8], at: usize, refusal: u8) -> usize
-    requires { Room out.old at (refusal_word refusal) }
-    ensures { Wrote out.old at (refusal_word refusal) out.new result }
+// The word of a refusal.
+#[tactic(auto, unfolding(crate::specs::Words::refusal_word, crate::specs::Words::refusal_words))]
+pub fn word(refusal: Refusal) -> &'static [u8]
+    ensures { result.now ≡ refusal_word (row_of refusal) }
 {
-    let word: &[u8] = match refusal {
-        1 => b"short",
-        2 => b"counts",
-        3 => b"stray bit",
-        4 => b"states",
-        5 => b"no state",
-        6 => b"over one",
-        7 => b"too wide",
-        8 => b"inputs",
-        9 => b"no component",
-        10 => b"mask",
-        11 => b"gate ahead",
-        12 => b"threshold",
-        13 => b"no gate",
-        14 => b"load size",
-        15 => b"left over",
-        16 => b"unsound",
-        17 => b"no item",
-        18 => b"no room",
-        19 => b"no customers",
-        20 => b"node",
-        21 => b"bad end",
-        22 => b"leaf",
-        23 => b"too far",
-        _ => b"",
-    };
-    copy(out, at, word)
+    match refusal {
+        Refusal::Short => b"short",
+        Refusal::Counts => b"counts",
+        Refusal::StrayBit => b"stray bit",
+        Refusal::States => b"states",
+        Refusal::NoState => b"no state",
+        Refusal::OverOne => b"over one",
+        Refusal::TooWide => b"too wide",
+        Refusal::Inputs => b"inputs",
+        Refusal::NoComponent => b"no component",
+        Refusal::Mask => b"mask",
+        Refusal::GateAhead => b"gate ahead",
+        Refusal::Threshold => b"threshold",
+        Refusal::NoGate => b"no gate",
+        Refusal::LoadSize => b"load size",
+        Refusal::LeftOver => b"left over",
+        Refusal::Unsound => b"unsound",
+        Refusal::NoItem => b"no item",
+        Refusal::NoRoom => b"no room",
+        Refusal::NoCustomers => b"no customers",
+        Refusal::Node => b"node",
+        Refusal::BadEnd => b"bad end",
+        Refusal::Leaf => b"leaf",
+        Refusal::TooFar => b"too far",
+    }
 }
 
-// A cleared buffer with room for any word.
-fn empty_word() -> [u8; WORD_BYTES]
-    ensures { Cleared word_bytes result }
+// The word of the refusal with a number; none for a number that the table lacks.
+#[tactic(auto, using(crate::proofs::Worded::unnumbered))]
+pub fn word_of_row(number: u8) -> &'static [u8]
+    ensures { result.now ≡ refusal_word number }
 {
-    [0; WORD_BYTES]
+    match Refusal::numbered(number) {
+        Some(refusal) => word(refusal),
+        None => b"",
+    }
 }
 
 // Writes the word of a refusal at the front of a lent buffer, and answers how many bytes it has: 0 for a number that
 // the table lacks. Refused by 18.
-pub fn refusal_word(number: u8, text: &mut [u8]) -> CountAnswer
-    ensures answer { result ≡ reported (refusal_word number) text.old }
+#[tactic(auto, using(crate::proofs::Worded::word_short))]
+pub fn refusal_word(number: u8, text: &mut [u8]) -> Result<u32, Refusal>
+    ensures answer { by_number result ≡ reported (refusal_word number) text.old }
     ensures buffer { text.new ≡ written (refusal_word number) text.old }
 {
-    let mut word = empty_word();
-    let size = write_word(&mut word, 0, number);
-    hand_over(&word[..size], text)
+    hand_over(word_of_row(number), text)
 }
