@@ -1,107 +1,120 @@
 -- What carries the code that reads a tree: each of its exits, and the loop over the subtrees of a node.
-use Prim.Native.Nat.{ℕ, suc, ◌+◌, ◌<◌, ◌≤◌}
-use mathlib.Core.Path.{◌≡◌, refl, subst, ◌∙◌}
-use mathlib.Core.List.{List}
-use native.Mathlib.Omega.{arith}
-use lib.ListN.{length, get_or, set}
+use Rattle.std.proofs.Common.{ℕ, zero, suc, Result, Ok, Err, IsErrAnd, ◌+◌, ◌<◌, ◌≤◌, ◌≡◌, refl, sym, ap, ◌∙◌, List, [], ◌∷◌, length, get_or, set, arith}
+use Rattle.std.proofs.lemmas.List.{set-get_or}
 use borrow.Author.Tests.{eq-eqb, ne_eqb}
+use Rattle.rules.specs.declared.refusal.Refusal.{Refusal}
+use Rattle.rules.specs.Refusals.{row_of}
 use Rattle.rules.specs.Table.{node_fault}
 use Rattle.entries.specs.Entries.{blank_mark}
 use Rattle.paths.specs.Blocks.{Block}
-use Rattle.reading.specs.Reader.{Read, Reader, Reads, ReadsAt, and_then, repeat, as_read}
-use Rattle.reading.proofs.After.{as_read_lem, stopped, going, judged}
-use Rattle.reading.proofs.Repeats.{RepeatLeft, repeat-start, repeat-turned, repeat-done}
+use Rattle.reading.specs.Reader.{Read, Reader, refused, got, judge, repeat, turn, ◌>>◌}
+use Rattle.reading.proofs.Repeats.{RepeatLeft, repeat-start, repeat-more, repeat-done, repeat-stopped}
 use Rattle.drawn_tree.specs.Reading.{leaf_mark, asked, tree_byte}
-use Rattle.drawn_tree.specs.Filling.{unasked, leaf_drawn, node_drawn, tree_drawn, branch_drawn}
+use Rattle.drawn_tree.specs.Filling.{unasked, leaf_drawn, node_drawn, tree_drawn, branch_drawn, filled_of}
 use Rattle.drawn_tree.proofs.Asked.{Free, unasked-less}
+
+-- no row has the number 0
+row-some : (r : Refusal) → row_of r ≡ 0 → ⊥
+row-some r e = grind (arith, e)
+
+-- what stands at a place is what was written there last
+set-set : (l : List ℕ) (i a b : ℕ) → set (set l i a) i b ≡ set l i b
+set-set [] i a b = refl
+set-set (x ∷ l) zero a b = refl
+set-set (x ∷ l) (suc i) a b = ap (λ (rest : List ℕ). x ∷ rest) (set-set l i a b)
 
 -- a subtree of a node that asks this component: that of state i
 abbrev pub subtree : List ℕ → ℕ → List ℕ → ℕ → ℕ → List ℕ → Reader (List ℕ)
 subtree counts loads marks component i = tree_drawn counts loads (unasked marks) (set marks component i)
 
+-- ---- a rule that is judged by the way
+
+judged-broken : {A : Type 0} {breach : ℕ} (k : Reader A) (bytes : List ℕ) (r : Refusal) → row_of r ≡ breach → refused (row_of r) ≡ (judge breach >> k) bytes
+judged-broken k bytes r broken = rw (← broken, ne_eqb (row_of r) 0 (row-some r)) refl
+
+judged-kept : {A : Type 0} {breach : ℕ} (k : Reader A) (bytes : List ℕ) → 0 ≡ breach → k bytes ≡ (judge breach >> k) bytes
+judged-kept k bytes kept = rw (← kept) refl
+
 -- ---- the exits
 
-module _ (counts : List ℕ) (loads : ℕ) (marks s table : List ℕ) (p n : ℕ) where
-  -- what is read from place n on, p being the refusal so far
+-- a refusal that is handed on
+pub handed-on : (answer : Result (Unit {0}) Refusal) (r : Refusal) {drawn : Read (List ℕ)} (table rest : List ℕ) → IsErrAnd answer (λ e. e ≡ r)
+    → refused (row_of r) ≡ drawn → filled_of answer table rest ≡ drawn
+handed-on (Ok u) r table rest same read = absurd same
+handed-on (Err e) r table rest same read = ap (λ (r : Refusal). refused (row_of r)) same ∙ read
+
+module _ (counts : List ℕ) (loads : ℕ) (marks table bytes : List ℕ) where
+  -- what the bytes draw
   abbrev pub below : Read (List ℕ)
-  below = and_then (as_read s p n table) (branch_drawn counts loads marks)
+  below = branch_drawn counts loads marks table bytes
 
-  -- the first byte is read, and nothing was refused before
-  module _ {q m first : ℕ} (none : p ≡ 0) (byte : ReadsAt s n tree_byte q m first) where
-    pub drawn-short : (q ≡ 0 → ⊥) → Reads s q m table below
+  pub drawn-short : (n : ℕ) → refused n ≡ tree_byte bytes → refused n ≡ below
+  unfolding tree_drawn
+  drawn-short n byte = rw (← byte) refl
+
+  -- the first byte is read
+  module _ {first : ℕ} {rest : List ℕ} (byte : got first rest ≡ tree_byte bytes) where
+    pub drawn-leaf : first ≡ leaf_mark → leaf_drawn counts loads marks table rest ≡ below
     unfolding tree_drawn
-    drawn-short some = going _ as_read_lem none (stopped _ byte some)
+    drawn-leaf leaf = rw (← byte, eq-eqb first leaf_mark leaf) refl
 
-    pub drawn-leaf : {r k : ℕ} {filled : List ℕ} → q ≡ 0 → first ≡ leaf_mark → ReadsAt s m (leaf_drawn counts loads marks table) r k filled
-        → Reads s r k filled below
+    node-there : (first ≡ leaf_mark → ⊥) → node_drawn counts marks first (subtree counts loads marks first) table rest ≡ below
     unfolding tree_drawn
-    drawn-leaf kept leaf there = going _ as_read_lem none (going _ byte kept (rw (eq-eqb first leaf_mark leaf) there))
+    node-there other = rw (← byte, ne_eqb first leaf_mark other) refl
 
-    node-there : {r k : ℕ} {filled : List ℕ} → q ≡ 0 → (first ≡ leaf_mark → ⊥)
-        → ReadsAt s m (node_drawn counts marks first (subtree counts loads marks first) table) r k filled → Reads s r k filled below
-    unfolding tree_drawn
-    node-there kept other there = going _ as_read_lem none (going _ byte kept (rw (ne_eqb first leaf_mark other) there))
-
-    pub drawn-refused : {fault : ℕ} → q ≡ 0 → (first ≡ leaf_mark → ⊥) → fault ≡ node_fault (length counts) first (asked marks first) → (fault ≡ 0 → ⊥)
-        → Reads s fault m table below
+    pub drawn-refused : (first ≡ leaf_mark → ⊥) → (r : Refusal) → row_of r ≡ node_fault (length counts) first (asked marks first) → refused (row_of r) ≡ below
     unfolding node_drawn
-    drawn-refused kept other rule some =
-        node-there kept other (stopped _ (judged {n = m} (node_fault (length counts) first (asked marks first)) rule) some)
+    drawn-refused other r broken = judged-broken _ rest r broken ∙ node-there other
 
-    pub drawn-node : {r k fault : ℕ} {filled : List ℕ} → q ≡ 0 → (first ≡ leaf_mark → ⊥) → fault ≡ node_fault (length counts) first (asked marks first)
-        → fault ≡ 0 → ReadsAt s m (repeat (subtree counts loads marks first) (get_or counts first 0) table) r k filled → Reads s r k filled below
+    pub drawn-node : (first ≡ leaf_mark → ⊥) → 0 ≡ node_fault (length counts) first (asked marks first)
+        → repeat (subtree counts loads marks first) (get_or counts first 0) table rest ≡ below
     unfolding node_drawn
-    drawn-node kept other rule free there =
-        node-there kept other (going _ (judged {n = m} (node_fault (length counts) first (asked marks first)) rule) free there)
+    drawn-node other kept = judged-kept _ rest kept ∙ node-there other
 
 -- ---- the loop
 
--- the code stands at a node that asks this component, of so many states
-pub record AtNode (counts marks : List ℕ) (component states : ℕ) : Type 0 where
-  pub free : Free (length counts) marks component
-  pub count : states ≡ get_or counts component 0
-  pub few : states ≤ blank_mark
-
-pub at_node : {counts marks table : List ℕ} {component states : ℕ} → Block counts table → Free (length counts) marks component
-    → states ≡ get_or counts component 0 → AtNode counts marks component states
-at_node {component = component} b free count =
-    record { free = free; count = count; few = omega (arith, count, b.most component free.inside) }
-
--- below the mark of a state one component fewer is left to ask
-one-asked : {counts marks : List ℕ} {component states : ℕ} (i : ℕ) → AtNode counts marks component states → i < states
-    → suc (unasked (set marks component i)) ≡ unasked marks
-one-asked {marks = marks} {component = component} i node h = unasked-less marks component i node.free.free (λ blank. omega (arith, blank, h, node.few))
-
-pub fewer-left : {counts marks marks' : List ℕ} {component states i : ℕ} → AtNode counts marks component states → marks' ≡ set marks component i → i < states
-    → unasked marks' < unasked marks
-fewer-left {i = i} node e h = let less = one-asked i node h in rw e (omega arith)
-
--- the subtrees of the states below i are drawn; the marks of the branch of i are at hand
-pub record Drawing (counts : List ℕ) (loads : ℕ) (marks s table₀ : List ℕ) (m component states i : ℕ) (marks' table : List ℕ) (p n : ℕ) : Type 0 where
-  pub marked : marks' ≡ set marks component i
-  pub node : AtNode counts marks component states
-  pub turns : RepeatLeft (subtree counts loads marks component) states table₀ s m p n table i
+-- the subtrees of the states below i are drawn; but for the component asked, the marks are those above the node
+pub record Drawing (counts : List ℕ) (loads : ℕ) (marks₀ table₀ bytes₀ : List ℕ) (component states i : ℕ) (marks table bytes : List ℕ) : Type 0 where
+  pub marked : set marks component blank_mark ≡ marks₀
+  pub turns : RepeatLeft (subtree counts loads marks₀ component) states table₀ bytes₀ (got table bytes) i
   pub whole : Block counts table
-  pub long : length table ≡ length table₀
 
-module _ {counts : List ℕ} {loads : ℕ} {marks s table₀ : List ℕ} {m component states : ℕ} where
-  pub drawing-start : {marks' : List ℕ} → AtNode counts marks component states → Block counts table₀ → marks' ≡ set marks component 0
-      → Drawing counts loads marks s table₀ m component states 0 marks' table₀ 0 m
-  drawing-start node b e = record { marked = e; node = node; turns = repeat-start refl; whole = b; long = refl }
+module _ {counts : List ℕ} {loads : ℕ} {marks₀ table₀ bytes₀ : List ℕ} {component states : ℕ} where
+  pub drawing-start : Free (length counts) marks₀ component → Block counts table₀
+      → Drawing counts loads marks₀ table₀ bytes₀ component states 0 marks₀ table₀ bytes₀
+  drawing-start free b = record { marked = rw free.free at (set-get_or marks₀ component 0); turns = repeat-start; whole = b }
 
-  module _ {i : ℕ} {marks' table : List ℕ} {p n : ℕ} (w : Drawing counts loads marks s table₀ m component states i marks' table p n) where
-    pub drawing-more : {next filled : List ℕ} {r k : ℕ} → i < states → next ≡ set marks component (i + 1) → length filled ≡ length table
-        → Reads s r k filled (below counts loads marks' s table p n) → Drawing counts loads marks s table₀ m component states (i + 1) next filled r k
-    drawing-more {filled = filled} {r = r} {k = k} h e long there =
-        let deeper : ℕ → Read (List ℕ) = λ levels. and_then (as_read s p n table) (tree_drawn counts loads levels (set marks component i)) in
-        let own : Reads s r k filled (deeper (suc (unasked (set marks component i)))) = rw w.marked at there in
+  module _ {i : ℕ} {marks table bytes : List ℕ} (w : Drawing counts loads marks₀ table₀ bytes₀ component states i marks table bytes)
+      (free : Free (length counts) marks₀ component) (few : states ≤ blank_mark) (h : i < states) where
+    -- the branch of state i
+    branch : set marks component i ≡ set marks₀ component i
+    branch = sym (set-set marks component blank_mark i) ∙ ap (λ (m : List ℕ). set m component i) w.marked
+
+    one-asked : suc (unasked (set marks₀ component i)) ≡ unasked marks₀
+    one-asked = unasked-less marks₀ component i free.free (λ blank. omega (arith, blank, h, few))
+
+    pub fewer-left : unasked (set marks component i) < unasked marks₀
+    fewer-left = rw branch (omega (arith, one-asked))
+
+    one-turn : branch_drawn counts loads (set marks component i) table bytes ≡ turn (subtree counts loads marks₀ component) i (got table bytes)
+    one-turn =
+        ap (λ (m : List ℕ). branch_drawn counts loads m table bytes) branch
+        ∙ ap (λ (levels : ℕ). tree_drawn counts loads levels (set marks₀ component i) table bytes) one-asked
+
+    pub drawing-more : {marks' table' bytes' : List ℕ} → got table' bytes' ≡ branch_drawn counts loads (set marks component i) table bytes
+        → marks' ≡ set marks component i → length table' ≡ length table
+        → Drawing counts loads marks₀ table₀ bytes₀ component states (i + 1) marks' table' bytes'
+    drawing-more read same long =
         record {
-          marked = e;
-          node = w.node;
-          turns = repeat-turned w.turns h (subst (λ (levels : ℕ). Reads s r k filled (deeper levels)) (one-asked i w.node h) own);
+          marked = ap (λ (m : List ℕ). set m component blank_mark) same ∙ set-set marks component i blank_mark ∙ w.marked;
+          turns = repeat-more w.turns h (read ∙ one-turn);
           whole = record { long = long ∙ w.whole.long; some = w.whole.some; most = w.whole.most };
-          long = long ∙ w.long;
         }
 
-    pub drawing-done : states ≤ i → ReadsAt s m (repeat (subtree counts loads marks component) (get_or counts component 0) table₀) p n table
-    drawing-done h = rw w.node.count at (repeat-done w.turns h)
+    pub drawing-stopped : {n : ℕ} → refused n ≡ branch_drawn counts loads (set marks component i) table bytes
+        → refused n ≡ repeat (subtree counts loads marks₀ component) states table₀ bytes₀
+    drawing-stopped read = repeat-stopped (repeat-more w.turns h (read ∙ one-turn))
+
+  pub drawing-done : {i : ℕ} {marks table bytes : List ℕ} → Drawing counts loads marks₀ table₀ bytes₀ component states i marks table bytes → states ≤ i
+      → got table bytes ≡ repeat (subtree counts loads marks₀ component) states table₀ bytes₀
+  drawing-done w h = repeat-done w.turns h

@@ -1,10 +1,12 @@
 -- What reading does to a class table while it goes: the class of each leaf stands at every joint state of its branch.
-use Rattle.std.specs.Prelude.{ℕ, zero, suc, ◌+◌, Bool, cond, List, [], ◌∷◌, eqb, length, get_or, set}
+use Rattle.std.specs.Prelude.{ℕ, zero, suc, ◌+◌, Bool, cond, List, [], ◌∷◌, eqb, length, get_or, set, Result, Ok, Err}
 use Rattle.lists.specs.Counting.{truth}
 use Rattle.rules.specs.Breach.{refuse}
+use Rattle.rules.specs.declared.refusal.Refusal.{Refusal}
+use Rattle.rules.specs.Refusals.{row_of}
 use Rattle.rules.specs.Table.{node_fault, leaf_fault}
 use Rattle.joint_states.specs.JointStates.{joint_states}
-use Rattle.reading.specs.Reader.{refused, Reader, byte_or, judge, return, repeat, ◌>>=◌, ◌>>◌}
+use Rattle.reading.specs.Reader.{Read, refused, got, Reader, byte_or, judge, return, repeat, ◌>>=◌, ◌>>◌}
 use Rattle.entries.specs.ClassReader.{class_or}
 use Rattle.entries.specs.Entries.{blank_mark}
 use Rattle.paths.specs.Words.{fits}
@@ -51,3 +53,8 @@ tree_drawn counts loads (suc levels) marks table bytes =
 -- below a branch, as deep as components are left to ask
 abbrev pub branch_drawn : List ℕ → ℕ → List ℕ → List ℕ → Reader (List ℕ)
 branch_drawn counts loads marks table = tree_drawn counts loads (suc (unasked marks)) marks table
+
+-- what the code's drawing is: its refusal by the row's number, or the table with the bytes still to come
+abbrev pub filled_of : Result (Unit {0}) Refusal → List ℕ → List ℕ → Read (List ℕ)
+filled_of (Ok u) table rest = got table rest
+filled_of (Err refusal) table rest = refused (row_of refusal)

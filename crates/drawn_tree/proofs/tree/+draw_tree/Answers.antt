@@ -1,85 +1,67 @@
 -- `drawn_tree::tree::draw_tree` meets its contract. The components left to ask fall at each call; the subtrees of the states below s are drawn
 -- (`Drawing`).
-use Prim.Native.Nat.{ℕ, ◌<◌}
-use mathlib.Core.Path.{◌≡◌, refl, sym, ◌∙◌}
-use native.Mathlib.Omega.{arith}
-use lib.ListN.{length}
-use borrow.Author.Rules.{rules}
+use Rattle.std.proofs.Common.{ap, sym, ◌∙◌, ◌≡◌, ◌≤◌, ℕ, Bool, length, get_or, arith}
 use Rattle.rules.specs.Table.{node_fault}
-use Rattle.reading.proofs.After.{as_read_lem, stopped}
+use Rattle.entries.specs.Entries.{blank_mark}
 use Rattle.drawn_tree.specs.Reading.{asked as reading_asked}
-use Rattle.drawn_tree.proofs.Asked.{free-kept}
-use Rattle.drawn_tree.proofs.Steps.{drawn-short, drawn-leaf, drawn-refused, drawn-node, AtNode, at_node, fewer-left}
-use Rattle.drawn_tree.proofs.Steps.{drawing-start, drawing-more, drawing-done}
+use Rattle.drawn_tree.proofs.Asked.{Free, free-kept}
+use Rattle.drawn_tree.proofs.Steps.{handed-on, drawn-short, drawn-leaf, drawn-refused, drawn-node}
+use Rattle.drawn_tree.proofs.Steps.{drawing-start, fewer-left, drawing-more, drawing-stopped, drawing-done}
 use Rattle.drawn_tree.proofs.tree.+draw_tree.Goals as goal
-use Rattle.drawn_tree.proofs.tree.+draw_tree.Goals.{After-node_fault-fault, After-count_of-states}
+use Rattle.drawn_tree.proofs.tree.+draw_tree.Goals.{In_ok-node_fault}
 
--- row 20 is judged of the component that the byte names
-fault-is : {t : ℕ} (c : After-node_fault-fault t)
-    → let byte = c.byte_or-b.result.value in
-    c.node_fault-fault.result ≡ node_fault (length c.args.counts.now) byte (reading_asked c.args.marks byte)
-fault-is c = rw (← c.asked.ensures) c.node_fault-fault.ensures
+-- row 20 is kept
+kept : {t : ℕ} (c : In_ok-node_fault t) → let first = c.in_ok-first.first in 0 ≡ node_fault (length c.args.counts.now) first (reading_asked c.args.marks.now first)
+kept c = c.in_ok-node_fault.ensures ∙ ap (λ (above : Bool). node_fault (length c.args.counts.now) c.in_ok-first.first above) c.asked.ensures
 
--- and is kept there
-node-is : {t : ℕ} (c : After-count_of-states t) → AtNode c.args.counts.now c.args.marks c.byte_or-b.result.value c.count_of-states.result
-node-is c = at_node c.requires.block (free-kept _ _ _ (sym (rw (← c.asked.ensures) c.node_fault-fault.ensures) ∙ c.if-fault-ne0.false)) c.count_of-states.ensures
+-- a component of the study is asked, that no branch above has
+free : {t : ℕ} (c : In_ok-node_fault t) → Free (length c.args.counts.now) c.args.marks.now c.in_ok-first.first
+free c = free-kept _ _ _ (sym (kept c))
 
--- and its component has a mark
-marked : {t : ℕ} (c : After-count_of-states t) → c.byte_or-b.result.value < 12
-marked c = omega (arith, (node-is c).free.inside, c.requires.counts_len_bound)
+few : {t : ℕ} (c : In_ok-node_fault t) → get_or c.args.counts.now c.in_ok-first.first 0 ≤ blank_mark
+few c = c.requires.block.most c.in_ok-first.first (free c).inside
 
-pub returns-then-from-ne0 : goal.returns-then-from-ne0
-returns-then-from-ne0 t c =
-    stopped _ as_read_lem c.if-from-ne0.true
+pub returns-in_err-first-clause-read : goal.returns-in_err-first-clause-read
+returns-in_err-first-clause-read t c = handed-on _ _ _ _ c.from_residual.ensures.1 (drawn-short _ _ _ _ _ _ c.in_err-first.ensures)
 
-pub returns-then-b-ne0 : goal.returns-then-b-ne0
-returns-then-b-ne0 t c =
-    drawn-short _ _ _ _ _ _ _ c.if-from-ne0.false c.byte_or-b.ensures c.if-b-ne0.true
+pub returns-then-first-clause-read : goal.returns-then-first-clause-read
+returns-then-first-clause-read t c = c.draw_leaf.ensures ∙ drawn-leaf _ _ _ _ _ c.in_ok-first.ensures c.if-first.true
 
-pub draw_leaf-requires : goal.draw_leaf-requires
-draw_leaf-requires t c =
-    c.requires
+pub returns-in_err-node_fault-clause-read : goal.returns-in_err-node_fault-clause-read
+returns-in_err-node_fault-clause-read t c =
+    let above = ap (λ (above : Bool). node_fault (length c.args.counts.now) c.in_ok-first.first above) c.asked.ensures in
+    handed-on _ _ _ _ c.from_residual-in_err-node_fault.ensures.1
+    (drawn-refused _ _ _ _ _ c.in_ok-first.ensures c.if-first.false _ (c.in_err-node_fault.ensures ∙ above))
 
-pub returns-then-b : goal.returns-then-b
-returns-then-b t c =
-    drawn-leaf _ _ _ _ _ _ _ c.if-from-ne0.false c.byte_or-b.ensures c.if-b-ne0.false c.if-b.true c.draw_leaf.ensures
-
-pub returns-then-fault-ne0 : goal.returns-then-fault-ne0
-returns-then-fault-ne0 t c =
-    drawn-refused _ _ _ _ _ _ _ c.if-from-ne0.false c.byte_or-b.ensures c.if-b-ne0.false c.if-b.false (fault-is (goal.at.returns-then-fault-ne0 t c).After-node_fault-fault)
-    c.if-fault-ne0.true
-
-pub overflow_cast-c : goal.overflow_cast-c
-overflow_cast-c t c =
-    omega (arith, marked (goal.at.overflow_cast-c t c).After-count_of-states)
-
-pub bounds-own-c : goal.bounds-own-c
-bounds-own-c t c =
-    marked (goal.at.bounds-own-c t c).After-count_of-states
+pub bounds-counts-c : goal.bounds-counts-c
+bounds-counts-c t c = (free (goal.at.bounds-counts-c t c).In_ok-node_fault).inside
 
 pub loop-s-init : goal.loop-s-init
-loop-s-init t c =
-    drawing-start (node-is (goal.at.loop-s-init t c).After-count_of-states) c.requires.block refl
+loop-s-init t c = drawing-start (free (goal.at.loop-s-init t c).In_ok-node_fault) c.requires.block
 
-pub bounds-next-c : goal.bounds-next-c
-bounds-next-c t c =
-    marked (goal.at.bounds-next-c t c).After-count_of-states
+pub draw_tree-requires : goal.draw_tree-requires
+draw_tree-requires t c =
+    let here = (goal.at.draw_tree-requires t c).In_ok-node_fault in
+    let fewer = fewer-left c.loop-s.invariant (free here) (few here) c.loop-s-test.true in
+    (omega (arith, fewer, c.decreases), (c.loop-s.invariant.whole, (c.requires.counts_len_bound, c.requires.loads_le_most_loads)))
 
-pub draw_tree-place-requires : goal.draw_tree-place-requires
-draw_tree-place-requires t c =
-    let drawing = c.loop-s.invariant in
-    let fewer = fewer-left drawing.node drawing.marked (omega (arith, c.loop-s-test.true)) in
-    (omega (arith, fewer, c.decreases), (drawing.whole, (c.requires.counts_len_bound, c.requires.loads_le_most_loads)))
-
-pub loop-s-smaller : goal.loop-s-smaller
-loop-s-smaller t c =
-    omega (arith, c.loop-s-test.true)
+pub returns-in_err-draw_tree-clause-read : goal.returns-in_err-draw_tree-clause-read
+returns-in_err-draw_tree-clause-read t c =
+    let here = (goal.at.returns-in_err-draw_tree-clause-read t c).In_ok-node_fault in
+    handed-on _ _ _ _ c.from_residual-in_err-draw_tree.ensures.1
+    (drawing-stopped c.loop-s.invariant (free here) (few here) c.loop-s-test.true c.in_err-draw_tree.ensures.read
+    ∙ drawn-node _ _ _ _ _ c.in_ok-first.ensures c.if-first.false (kept here))
 
 pub loop-s-preserved : goal.loop-s-preserved
 loop-s-preserved t c =
-    drawing-more c.loop-s.invariant c.loop-s-test.true refl (search rules) c.draw_tree-place.ensures
+    let here = (goal.at.loop-s-preserved t c).In_ok-node_fault in
+    let drawn = c.in_ok-draw_tree.ensures in
+    drawing-more c.loop-s.invariant (free here) (few here) c.loop-s-test.true drawn.read drawn.marks c.draw_tree.auto.table
 
-pub returns : goal.returns
-returns t c =
-    drawn-node _ _ _ _ _ _ _ c.if-from-ne0.false c.byte_or-b.ensures c.if-b-ne0.false c.if-b.false (fault-is (goal.at.returns t c).After-node_fault-fault)
-    c.if-fault-ne0.false (drawing-done c.loop-s.invariant c.loop-s-test.false)
+pub bounds-marks-c-2 : goal.bounds-marks-c-2
+bounds-marks-c-2 t c = omega (arith, (free (goal.at.bounds-marks-c-2 t c).In_ok-node_fault).inside, c.requires.counts_len_bound)
+
+pub returns-clause-read : goal.returns-clause-read
+returns-clause-read t c =
+    let here = (goal.at.returns-clause-read t c).In_ok-node_fault in
+    drawing-done c.loop-s.invariant c.loop-s-test.false ∙ drawn-node _ _ _ _ _ c.in_ok-first.ensures c.if-first.false (kept here)
