@@ -1,137 +1,99 @@
 // Reads one load record. Not for callers from outside.
 #![tactic(auto)]
 
-ghost use Rattle.std.specs.Prelude.{◌<◌};
-ghost use Rattle.reading.specs.Reader.{ReadsAt};
+ghost use Rattle.std.specs.Prelude.{◌≡◌};
+ghost use Rattle.std.proofs.Common.{rules};
 ghost use Rattle.rules.specs.Limits.{load_maps};
-ghost use Rattle.reading.specs.Fields.{field_at, where_left, fields};
+ghost use Rattle.reading.specs.Reader.{read_of, read_into};
 ghost use Rattle.study.specs.Absent.{absent_load};
 ghost use Rattle.load_record.specs.Load.{loss_gate, size, customers, minutes, load_field, load};
 
-use reading::{WordRead, byte_at, field_count, fields_behind, map_at, map_digit, word_at};
-use rules::{LOAD_MAPS, MOST_CUSTOMERS, MOST_MINUTES, first, no_gate_fault, size_fault};
-use study::{Load, absent_load, with_customers, with_minutes};
-
-#[derive(Clone, Copy)]
-pub struct LoadRead {
-    pub refusal: u8,
-    pub next: usize,
-    pub load: Load,
-}
+use reading::{Cursor, Fields, read_record};
+use rules::{LOAD_MAPS, MOST_CUSTOMERS, MOST_MINUTES, Refusal, no_gate_fault, size_fault};
+use study::{Load, absent_load};
 
 // The field of bit 0.
-fn read_loss_gate(bytes: &[u8], at: usize, gates: u8, l: Load) -> LoadRead
-    ensures { ReadsAt bytes.now at (loss_gate gates l) result.refusal result.next result.load }
+#[tactic(auto, unfolding(crate::specs::Load::loss_gate))]
+fn read_loss_gate(bytes: &mut Cursor, gates: u8, l: &mut Load) -> Result<(), Refusal>
+    ensures { read_into result l.new bytes.new.rest.now ≡ loss_gate gates l.old bytes.old.rest.now }
 {
-    let b = byte_at(bytes, at);
-    LoadRead {
-        refusal: first(b.refusal, no_gate_fault(gates, b.value)),
-        next: b.next,
-        load: Load {
-            gate: b.value,
-            customers: l.customers,
-            minutes: l.minutes,
-        },
-    }
+    let gate = bytes.byte()?;
+    no_gate_fault(gates, gate)?;
+    l.gate = gate;
+    Ok(())
 }
 
 // A number of four bytes that is at most `most`.
-fn read_size(bytes: &[u8], at: usize, most: u32) -> WordRead
-    ensures { ReadsAt bytes.now at (size most) result.refusal result.next result.value }
+#[tactic(auto, unfolding(crate::specs::Load::size))]
+fn read_size(bytes: &mut Cursor, most: u32) -> Result<u32, Refusal>
+    ensures { read_of result bytes.new.rest.now ≡ size most bytes.old.rest.now }
 {
-    let w = word_at(bytes, at);
-    WordRead {
-        refusal: first(w.refusal, size_fault(most, w.value)),
-        next: w.next,
-        value: w.value,
-    }
+    let n = bytes.word()?;
+    size_fault(most, n)?;
+    Ok(n)
 }
 
 // The field of bit 1.
-fn read_customers(bytes: &[u8], at: usize, l: Load) -> LoadRead
-    ensures { ReadsAt bytes.now at (customers l) result.refusal result.next result.load }
+#[tactic(auto, unfolding(crate::specs::Load::customers))]
+fn read_customers(bytes: &mut Cursor, l: &mut Load) -> Result<(), Refusal>
+    ensures { read_into result l.new bytes.new.rest.now ≡ customers l.old bytes.old.rest.now }
 {
-    let n = read_size(bytes, at, MOST_CUSTOMERS);
-    LoadRead {
-        refusal: n.refusal,
-        next: n.next,
-        load: with_customers(n.value, l),
-    }
+    l.customers = read_size(bytes, MOST_CUSTOMERS)?;
+    Ok(())
 }
 
 // The field of bit 2.
-fn read_minutes(bytes: &[u8], at: usize, l: Load) -> LoadRead
-    ensures { ReadsAt bytes.now at (minutes l) result.refusal result.next result.load }
+#[tactic(auto, unfolding(crate::specs::Load::minutes))]
+fn read_minutes(bytes: &mut Cursor, l: &mut Load) -> Result<(), Refusal>
+    ensures { read_into result l.new bytes.new.rest.now ≡ minutes l.old bytes.old.rest.now }
 {
-    let n = read_size(bytes, at, MOST_MINUTES);
-    LoadRead {
-        refusal: n.refusal,
-        next: n.next,
-        load: with_minutes(n.value, l),
-    }
+    l.minutes = read_size(bytes, MOST_MINUTES)?;
+    Ok(())
 }
 
-// The field of bit 0 or 1, where the bit stands in the map.
-fn read_field(bytes: &[u8], at: usize, gates: u8, map: u8, k: u8, l: Load) -> LoadRead
-    requires { k < 2 }
-    ensures { ReadsAt bytes.now at (field_at (load_field gates) map k l) result.refusal result.next result.load }
-{
-    if map_digit(map, k) != 1 {
-        return LoadRead {
-            refusal: 0,
-            next: at,
-            load: l,
-        };
-    }
-    if k == 0 {
-        return read_loss_gate(bytes, at, gates, l);
-    }
-    read_customers(bytes, at, l)
+// The fields of a load of a study with so many gates: its loss gate, its customers and its minutes.
+#[derive(Clone, Copy)]
+struct LoadFields {
+    gates: u8,
 }
 
-// The last field, where one field is left to read.
-fn read_last(bytes: &[u8], at: usize, left: u32, l: Load) -> LoadRead
-    ensures { ReadsAt bytes.now at (where_left left minutes l) result.refusal result.next result.load }
-{
-    if left != 1 {
-        return LoadRead {
-            refusal: 0,
-            next: at,
-            load: l,
-        };
-    }
-    read_minutes(bytes, at, l)
-}
+impl Fields for LoadFields {
+    type Record = Load;
 
-// The fields whose bit stands in the map, lowest bit first, over their absent values: as many as the map has ones.
-fn read_fields(bytes: &[u8], at: usize, gates: u8, map: u8) -> LoadRead
-    requires { map < load_maps }
-    ensures { ReadsAt bytes.now at (fields (load_field gates) map absent_load) result.refusal result.next result.load }
-{
-    let gate = read_field(bytes, at, gates, map, 0, absent_load());
-    let customers = read_field(bytes, gate.next, gates, map, 1, gate.load);
-    let left = fields_behind(fields_behind(field_count(map), map, 0), map, 1);
-    let minutes = read_last(bytes, customers.next, left, customers.load);
-    let load = minutes.load;
-    LoadRead {
-        refusal: first(first(gate.refusal, customers.refusal), minutes.refusal),
-        next: minutes.next,
-        load,
+    ghost MAPS = { load_maps };
+
+    const MAPS: u8 = LOAD_MAPS;
+
+    ghost LAST = { 2 };
+
+    const LAST: u8 = 2;
+
+    ghost absent = { λ of. absent_load };
+
+    ghost field = { λ of. load_field of.gates };
+
+    fn absent(&self) -> Load {
+        absent_load()
     }
+
+    #[tactic(auto, unfolding(crate::specs::Load::load_field))]
+    fn read_field(&self, bytes: &mut Cursor, k: u8, l: &mut Load) -> Result<(), Refusal> {
+        match k {
+            0 => read_loss_gate(bytes, self.gates, l),
+            1 => read_customers(bytes, l),
+            _ => read_minutes(bytes, l),
+        }
+    }
+
+    ghost fit = { Prim.search rules };
+
+    ghost all = { Prim.search rules };
 }
 
 // One load record of a study with so many gates.
-pub fn read_load(bytes: &[u8], at: usize, gates: u8) -> LoadRead
-    ensures { ReadsAt bytes.now at (load gates) result.refusal result.next result.load }
+#[tactic(auto, unfolding(crate::specs::Load::load))]
+pub fn read_load(bytes: &mut Cursor, gates: u8) -> Result<Load, Refusal>
+    ensures { read_of result bytes.new.rest.now ≡ load gates bytes.old.rest.now }
 {
-    let m = map_at(bytes, at, LOAD_MAPS);
-    if m.refusal != 0 {
-        let load = absent_load();
-        return LoadRead {
-            refusal: m.refusal,
-            next: at,
-            load,
-        };
-    }
-    read_fields(bytes, m.next, gates, m.value)
+    read_record(bytes, &LoadFields { gates })
 }
