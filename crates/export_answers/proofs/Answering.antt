@@ -1,10 +1,5 @@
 -- A call that only fills what it was lent answers its breach below 0.
-use Prim.Native.Nat.{ℕ}
-use mathlib.Core.Path.{◌≡◌, refl, ap}
-use mathlib.Core.Bool.{Bool, true, false, cond}
-use mathlib.Core.List.{List}
-use lib.Dec.{eqb}
-use borrow.Author.Tests.{eqb-true}
+use Rattle.std.proofs.Common.{ℕ, ◌≡◌, Bool, true, false, List, cond, eqb, eqb-true, refl, ap}
 use Rattle.answers.specs.Answered.{answered}
 use Rattle.answers.specs.Told.{result, refusal, tells}
 use Rattle.export_answers.specs.Answers.{below, answered_by, done}

@@ -2,53 +2,50 @@
 #![tactic(auto)]
 
 ghost use Rattle.std.specs.Prelude.{◌≡◌, pos};
+ghost use Rattle.rules.specs.Refusals.{row_of};
+ghost use Rattle.answers.specs.Answers.{by_number};
 ghost use Rattle.answers.specs.Told.{outcome_told, listing_told, count_told};
 ghost use Rattle.export_answers.specs.Answers.{below, answered_by, done, count, two};
 
-use answers::{CountAnswer, Enclosure, Listing, Outcome};
+use answers::{Enclosure, PathCount};
+use rules::Refusal;
 
 // A count.
 pub fn counted(number: u32) -> i64
     ensures { result ≡ pos number }
 {
-    number as i64
+    i64::from(number)
 }
 
-// A refusal by its number; 0 where there is none.
-pub fn refused(number: u8) -> i64
-    ensures { result ≡ below number }
+// A refusal by the number of its row, below 0.
+pub fn refused(refusal: Refusal) -> i64
+    ensures { result ≡ below (row_of refusal) }
 {
-    -(number as i64)
-}
-
-// The answer of a call that only fills what it was lent.
-pub fn answer_outcome(outcome: Outcome) -> i64
-    ensures { result ≡ answered_by done (outcome_told outcome) }
-{
-    match outcome {
-        Outcome::Done => 0,
-        Outcome::Refused(number) => refused(number),
-    }
-}
-
-// The answer of the call for the list of paths.
-pub fn answer_listing(listing: Listing) -> i64
-    ensures { result ≡ answered_by count (listing_told listing) }
-{
-    match listing {
-        Listing::Listed(count) => counted(count.paths),
-        Listing::Refused(number) => refused(number),
-    }
+    -i64::from(refusal.number())
 }
 
 // The answer of a call that counts what it wrote.
-pub fn answer_count(answer: CountAnswer) -> i64
-    ensures { result ≡ answered_by count (count_told answer) }
+pub fn answer_count(answer: Result<u32, Refusal>) -> i64
+    ensures { result ≡ answered_by count (count_told (by_number answer)) }
 {
     match answer {
-        CountAnswer::Count(number) => counted(number),
-        CountAnswer::Refused(number) => refused(number),
+        Ok(number) => counted(number),
+        Err(refusal) => refused(refusal),
     }
+}
+
+// The answer of a call that only fills what it was lent.
+pub fn answer_outcome(outcome: Result<(), Refusal>) -> i64
+    ensures { result ≡ answered_by done (outcome_told (by_number outcome)) }
+{
+    answer_count(outcome.map(|()| 0))
+}
+
+// The answer of the call for the list of paths.
+pub fn answer_listing(listing: Result<PathCount, Refusal>) -> i64
+    ensures { result ≡ answered_by count (listing_told (by_number listing)) }
+{
+    answer_count(listing.map(|count| count.paths))
 }
 
 // Hands a pair of bounds over, in two numbers.
