@@ -31,7 +31,7 @@ pub fn put_in_order(g: &mut Gate) -> u32
 }
 
 // Goes along the inputs of a gate once: how many are distinct, tests and gates together, where they are in order.
-#[tactic(auto, using(rules::proofs::Judged::judged), unfolding(crate::specs::Breach::order_fault, crate::specs::Inputs::input_count))]
+#[tactic(auto, using(rules::proofs::Judged::judged), unfolding(crate::specs::Breach::order_fault))]
 pub fn judge_inputs(g: &Gate) -> Result<u32, Refusal>
     ensures order { breach_of result ≡ order_fault g.now }
     ensures many { IfOk result (λ distinct. distinct ≡ input_count g.now) }

@@ -1,4 +1,5 @@
-// Joint states: a state for each component, in order, component 0 varying slowest. Not for callers from outside: those call `planning`.
+// Joint states: a state for each component, in order, component 0 varying slowest. Not for callers from outside: those
+// call `planning`.
 #![tactic(auto)]
 
 ghost use Rattle.std.specs.Prelude.{◌+◌, ◌%◌, ◌≤◌, ◌≡◌};

@@ -1,4 +1,5 @@
 pub mod Checked
 pub mod Front
 pub mod Judged
+pub mod Places
 pub mod Ranges

@@ -1,31 +1,14 @@
--- `soundness::gates::gates_fault` meets its contract. Each turn judges one place, after the first breach so far (`FirstLeft`); the places left fall.
-use Prim.Native.Nat.{◌-◌}
-use native.Mathlib.Omega.{arith}
-use Rattle.soundness.specs.Check.{gates_fault, gate_place_fault}
-use Rattle.rules.proofs.Firsts.{first-start, first_more, first_done}
+-- `soundness::gates::gates_fault` meets its contract. No place so far is broken (`FirstLeft`), and the first that is ends the loop.
+use Rattle.std.proofs.Common.{arith}
+use Rattle.soundness.specs.Check.{gates_fault}
+use Rattle.soundness.proofs.Places.{place_broken, all_passed}
 use Rattle.soundness.proofs.gates.gates_fault.Goals as goal
 
-pub loop-i-init : goal.loop-i-init
-loop-i-init c =
-    first-start
-
-pub offset_bounds-gate-i : goal.offset_bounds-gate-i
-offset_bounds-gate-i c =
-    omega arith
-
-pub overflow_add-i : goal.overflow_add-i
-overflow_add-i c =
-    omega arith
-
-pub loop-i-smaller : goal.loop-i-smaller
-loop-i-smaller c =
-    omega arith
-
-pub loop-i-preserved : goal.loop-i-preserved
-loop-i-preserved c =
-    first_more c.loop-i.invariant c.loop-i-test.true c.gate_place_fault.ensures c.first-fault.ensures
+pub returns-in_err-gate_place_fault : goal.returns-in_err-gate_place_fault
+unfolding gates_fault
+returns-in_err-gate_place_fault c =
+    let first = place_broken c.loop-i.invariant _ c.loop-i-test.true c.in_err-gate_place_fault.ensures in grind arith
 
 pub returns : goal.returns
 unfolding gates_fault
-returns c =
-    first_done c.loop-i.invariant c.loop-i-test.false
+returns c = all_passed c.loop-i.invariant c.loop-i-test.false

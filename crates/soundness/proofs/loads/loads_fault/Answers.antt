@@ -1,32 +1,14 @@
--- `soundness::loads::loads_fault` meets its contract. Each turn judges one place, after the first breach so far (`FirstLeft`); the places left fall.
-use Prim.Native.Nat.{◌-◌}
-use native.Mathlib.Omega.{arith}
-use Rattle.rules.proofs.Firsts.{first-start, first_more, first_done}
-use Rattle.soundness.specs.Check.{load_place_fault, load_fault, unused_load_fault, loads_fault}
+-- `soundness::loads::loads_fault` meets its contract. No place so far is broken (`FirstLeft`), and the first that is ends the loop.
+use Rattle.std.proofs.Common.{arith}
+use Rattle.soundness.specs.Check.{loads_fault}
+use Rattle.soundness.proofs.Places.{place_broken, all_passed}
 use Rattle.soundness.proofs.loads.loads_fault.Goals as goal
 
-pub loop-j-init : goal.loop-j-init
-loop-j-init c =
-    first-start
-
-pub offset_bounds-load-j : goal.offset_bounds-load-j
-offset_bounds-load-j c =
-    omega arith
-
-pub overflow_add-j : goal.overflow_add-j
-overflow_add-j c =
-    omega arith
-
-pub loop-j-smaller : goal.loop-j-smaller
-loop-j-smaller c =
-    omega arith
-
-pub loop-j-preserved : goal.loop-j-preserved
-unfolding load_place_fault load_fault unused_load_fault
-loop-j-preserved c =
-    first_more c.loop-j.invariant c.loop-j-test.true (cc) c.first-fault.ensures
+pub returns-in_err-load_place_fault : goal.returns-in_err-load_place_fault
+unfolding loads_fault
+returns-in_err-load_place_fault c =
+    let first = place_broken c.loop-j.invariant _ c.loop-j-test.true c.in_err-load_place_fault.ensures in grind arith
 
 pub returns : goal.returns
 unfolding loads_fault
-returns c =
-    first_done c.loop-j.invariant c.loop-j-test.false
+returns c = all_passed c.loop-j.invariant c.loop-j-test.false
