@@ -1,5 +1,5 @@
 pub mod ClassBits
-pub mod GateRows
+pub mod GatesTold
 pub mod GateTruths
 pub mod OnesCounted
 pub mod SoundReadable

@@ -17,8 +17,8 @@ split n (suc k) =
     let next : ones (n / 2 ^ k) ≡ digit n k + ones (n / 2 ^ suc k) = rw (pow-suc, sym (div-div-eq-div-mul n (2 ^ k) 2)) (ones_step (n / 2 ^ k)) in
     omega (arith, split n k, next)
 
-pub ones-lost : (class : ℕ) → class < 2 ^ most_loads → ones class ≡ loads_lost class
+pub ones_lost : (class : ℕ) → class < 2 ^ most_loads → ones class ≡ loads_lost class
 unfolding loads_lost ones ones_in
-ones-lost class h =
+ones_lost class h =
     let none : class / 2 ^ most_loads ≡ 0 = div-eq_of_lt h in
     split class most_loads ∙ ap (λ (n : ℕ). loads_lost class + ones n) none ∙ add-zero (loads_lost class)

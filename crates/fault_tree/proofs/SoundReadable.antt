@@ -1,6 +1,6 @@
 -- A sound study and its joint states can be read: its gates name components, lower gates and states that are there.
-use Prim.Native.Nat.{ℕ, zero, suc, ◌*◌, ◌<◌}
-use mathlib.Core.Path.{◌≡◌, refl, sym, ◌∙◌}
+use Prim.Native.Nat.{ℕ, zero, suc, ◌<◌}
+use mathlib.Core.Path.{◌≡◌, refl, sym, ap, subst, ◌∙◌}
 use mathlib.Core.Bool.{Bool}
 use mathlib.Core.List.{List}
 use native.Mathlib.Omega.{arith}
@@ -9,9 +9,10 @@ use lib.Seq.{length-take-le}
 use Rattle.rules.specs.Limits.{most_components, most_gates}
 use Rattle.joint_states.specs.JointStates.{JointState}
 use Rattle.joint_states.proofs.Numbered.{number_up}
+use Rattle.study.specs.declared.Gate.{Gate}
 use Rattle.study.specs.declared.Study.{Study}
 use Rattle.study.specs.Joint.{state_counts}
-use Rattle.study.specs.Places.{gate_at}
+use Rattle.study.specs.Places.{no_gate, gate_at}
 use Rattle.ordering.specs.Inputs.{Input}
 use Rattle.gate_order.specs.Rows.{distinct_gate}
 use Rattle.gate_order.proofs.Distinct.{distinct-fits, distinct-tests-every, distinct-gate-inputs-every}
@@ -19,48 +20,41 @@ use Rattle.gate_order.proofs.InOrder.{Fits}
 use Rattle.soundness.specs.Sound.{Sound}
 use Rattle.soundness.proofs.Ranges.{components-most, gates-most, counts-long, counts-small, count-least}
 use Rattle.soundness.proofs.Ranges.{tests-most, gate-inputs-most, test-component, input-lower}
-use Rattle.fault_tree.specs.Readable.{RowReadable, all_up, TableBegins}
-use Rattle.fault_tree.specs.Rows.{row_places, RowsOf}
-use Rattle.fault_tree.proofs.GateRows.{row_room}
+use Rattle.fault_tree.specs.Readable.{GateReadable, all_up, TableBegins}
+use Rattle.fault_tree.specs.Told.{OnceEach, gate_told}
+use Rattle.fault_tree.specs.Truth.{gate_true}
+use Rattle.fault_tree.proofs.GatesTold.{gate-told}
 
-module _ (t : Study) (counts : List ℕ) (s : Sound t) (same : counts ≡ state_counts t) (rows : List ℕ) (rowed : RowsOf t.gate t.gates rows) (i : ℕ)
-    (h : i < t.gates) where
+module _ (t : Study) (s : Sound t) (once : List Gate) (each : OnceEach t.gate t.gates once) (i : ℕ) (h : i < t.gates) where
   -- gate i has its places, and no more inputs than those
-  pub gate-fits : Fits (gate_at t i)
-  gate-fits = record { shaped = rowed.shaped i h; tests = tests-most t s i h; gates = gate-inputs-most t s i h }
+  gate-fits : Fits (gate_at t i)
+  gate-fits = record { shaped = each.shaped i h; tests = tests-most t s i h; gates = gate-inputs-most t s i h }
 
-  -- its row, in joint state x, where the gates have these truths
-  pub row-readable : (x : List ℕ) (truths : List Bool) → JointState counts x → length truths ≡ most_gates → RowReadable rows (i * row_places) x truths
-  row-readable x truths j long =
-      let row = rowed.each i h in
-      let inside = row_room rowed (gates-most t s) h in
+  -- without its repeats it can be read in joint state x, where the gates have these truths
+  pub once-readable : (x : List ℕ) (truths : List Bool) → JointState (state_counts t) x → length truths ≡ most_gates
+      → GateReadable (get_or once i no_gate) x truths
+  once-readable x truths j long =
       let few = distinct-fits (gate_at t i) gate-fits in
       let component =
-      distinct-tests-every (λ (a : Input). a.number < length x) (gate_at t i) gate-fits (λ k less. rw (j.long, same) (test-component t s i h k less)) in
+      distinct-tests-every (λ (a : Input). a.number < length x) (gate_at t i) gate-fits (λ k less. rw j.long (test-component t s i h k less)) in
       let input =
       distinct-gate-inputs-every (λ (a : Input). a.number < length truths) (gate_at t i) gate-fits
       (λ k less. omega (arith, input-lower t s i h k less, gates-most t s, long)) in
+      let readable : GateReadable (distinct_gate (gate_at t i)) x truths =
       record {
         tests =
             record {
-              inside = inside;
-              count = omega (arith, row.tests, few.tests);
-              component =
-                  λ k less.
-                  let below : k < (distinct_gate (gate_at t i)).tests = omega (arith, less, row.tests) in
-                  omega (arith, row.component k (omega (arith, below, few.tests)), component k below);
-              state = λ k less. omega (arith, j.below k (omega (arith, j.long)), counts-small t s counts same k (omega (arith, j.long)));
+              count = few.tests;
+              component = component;
+              state = λ k less. omega (arith, j.below k (omega (arith, j.long)), counts-small t s (state_counts t) refl k (omega (arith, j.long)));
             };
-        inputs =
-            record {
-              inside = inside;
-              count = omega (arith, row.gates, few.gates);
-              input =
-                  λ k less.
-                  let below : k < (distinct_gate (gate_at t i)).gates = omega (arith, less, row.gates) in
-                  omega (arith, row.input k (omega (arith, below, few.gates)), input k below);
-            };
-      }
+        inputs = record { count = few.gates; input = input };
+      } in
+      subst (λ (g : Gate). GateReadable g x truths) (sym (each.each i h)) readable
+
+  -- and it tells the truth of the gate
+  pub once-told : (x : List ℕ) (holds : ℕ → Bool) → gate_told (get_or once i no_gate) x holds ≡ gate_true (gate_at t i) x holds
+  once-told x holds = ap (λ (g : Gate). gate_told g x holds) (each.each i h) ∙ gate-told (gate_at t i) gate-fits x holds
 
 -- ---- all components up
 

@@ -1,4 +1,4 @@
 pub mod Classes
 pub mod Readable
-pub mod Rows
+pub mod Told
 pub mod Truth

@@ -7,36 +7,30 @@ use entries::{Class, class_ones};
 use rules::{LOAD_PLACES, NEVER};
 use study::Load;
 
-fn lost(truths: &[bool], l: Load) -> bool
-    ensures { result ≡ classes_lost truths.now l }
+#[tactic(auto, unfolding(crate::specs::Classes::lost))]
+fn lost(truths: &[bool], l: &Load) -> bool
+    ensures { result ≡ classes_lost truths.now l.now }
 {
     if l.gate == NEVER {
         return false;
     }
-    let i = l.gate as usize;
-    if i < truths.len() {
-        return truths[i];
-    }
-    false
+    truths.get(l.gate as usize).copied().unwrap_or(false)
 }
 
 // The class of a joint state in which the gates have these truths.
-pub fn class_by(truths: &[bool], load: [Load; LOAD_PLACES], n: u8) -> Class
+pub fn class_by(truths: &[bool], load: &[Load; LOAD_PLACES], n: u8) -> Class
     requires { n ≤ most_loads }
-    ensures { result ≡ class_by truths.now load n }
+    ensures { result ≡ class_by truths.now load.now n }
 {
-    let loads = n as usize;
-    let mut class: Class = 0;
-    let mut j: usize = 0;
-    while j < loads {
-        let l = load[j];
-        class = class | ((lost(truths, l) as Class) << j);
-        j = j + 1;
+    let mut class = 0;
+    for j in 0..n as usize {
+        class |= (lost(truths, &load[j]) as Class) << j;
     }
     class
 }
 
 // How many loads are lost in a class.
+#[tactic(auto, using(crate::proofs::OnesCounted::ones_lost))]
 pub fn loads_lost(class: Class) -> u32
     ensures { result ≡ loads_lost class }
 {

@@ -3,7 +3,7 @@
 #![tactic(auto)]
 
 mod class;
-mod rows;
+mod gates;
 mod table;
 mod truth;
 

@@ -1,12 +1,16 @@
-// The truth of gates in a joint state, as their rows tell it.
-ghost use Rattle.std.specs.Prelude.{ℕ, ◌<◌, false, ◌≡◌, get_or, replicate};
+// The truth of gates in a joint state, told by gates without repeats.
+ghost use Rattle.std.specs.Prelude.{ℕ, ◌<◌, false, ◌≡◌, get_or};
 ghost use Rattle.lists.specs.Bits.{bit};
-ghost use Rattle.rules.specs.Limits.{most_gates, mask_bits};
-ghost use Rattle.fault_tree.specs.Readable.{TestsReadable, InputsReadable, RowReadable};
-ghost use Rattle.fault_tree.specs.Rows.{row_tests, row_gates, row_true};
+ghost use Rattle.rules.specs.Limits.{mask_bits};
+ghost use Rattle.joint_states.specs.JointStates.{JointState};
+ghost use Rattle.study.specs.Joint.{state_counts};
+ghost use Rattle.soundness.specs.Sound.{Sound};
+ghost use Rattle.fault_tree.specs.Readable.{TestsReadable, InputsReadable, GateReadable};
+ghost use Rattle.fault_tree.specs.Told.{OnceEach, tests_told, inputs_told, gate_told};
+ghost use Rattle.fault_tree.specs.Truth.{gate_truths};
 
-use crate::rows::{COMPONENTS, GATES, INPUTS, MASKS, TESTS};
 use rules::GATE_PLACES;
+use study::{Gate, Study};
 
 // Whether a mask has a component's state.
 fn test_true(mask: u8, state: u8) -> bool
@@ -16,52 +20,51 @@ fn test_true(mask: u8, state: u8) -> bool
     (mask >> state) & 1 == 1
 }
 
-// How many tests of the row from a place on are true in joint state x.
-fn true_tests(rows: &[u8], at: usize, x: &[u8]) -> u32
-    requires { TestsReadable rows.now at x.now }
-    ensures { result ≡ row_tests rows.now at x.now }
+// How many tests of a gate are true in joint state x.
+#[tactic(auto, unfolding(crate::specs::Told::tests_told))]
+fn true_tests(g: &Gate, x: &[u8]) -> u32
+    requires { TestsReadable g.now x.now }
+    ensures { result ≡ tests_told g.now x.now }
 {
-    let tests = rows[at + TESTS] as usize;
-    let components = at + COMPONENTS;
-    let masks = at + MASKS;
-    let mut n: u32 = 0;
-    let mut j: usize = 0;
-    while j < tests {
-        let c = rows[components + j] as usize;
-        n = n + test_true(rows[masks + j], x[c]) as u32;
-        j = j + 1;
+    let mut n = 0;
+    for j in 0..g.tests as usize {
+        n += test_true(g.mask[j], x[g.component[j] as usize]) as u32;
     }
     n
 }
 
-// How many gate inputs of the row from a place on are true, where these are the truths of the gates before it.
-fn true_gates(rows: &[u8], at: usize, truths: &[bool]) -> u32
-    requires { InputsReadable rows.now at truths.now }
-    ensures { result ≡ row_gates rows.now at (λ (k : ℕ). get_or truths.now k false) }
+// How many gate inputs of a gate are true, where these are the truths of the gates before it.
+#[tactic(auto, unfolding(crate::specs::Told::inputs_told))]
+fn true_inputs(g: &Gate, truths: &[bool]) -> u32
+    requires { InputsReadable g.now truths.now }
+    ensures { result ≡ inputs_told g.now (λ (k : ℕ). get_or truths.now k false) }
 {
-    let gates = rows[at + GATES] as usize;
-    let inputs = at + INPUTS;
-    let mut n: u32 = 0;
-    let mut j: usize = 0;
-    while j < gates {
-        let i = rows[inputs + j] as usize;
-        n = n + truths[i] as u32;
-        j = j + 1;
+    let mut n = 0;
+    for j in 0..g.gates as usize {
+        n += truths[g.input[j] as usize] as u32;
     }
     n
 }
 
-// Whether the gate of the row from a place on is true in joint state x, where these are the truths of the gates before it.
-pub fn gate_true(rows: &[u8], at: usize, x: &[u8], truths: &[bool]) -> bool
-    requires { RowReadable rows.now at x.now truths.now }
-    ensures { result ≡ row_true rows.now at x.now (λ (k : ℕ). get_or truths.now k false) }
+// Whether a gate is true in joint state x, where these are the truths of the gates before it.
+#[tactic(auto, unfolding(crate::specs::Told::gate_told))]
+fn gate_true(g: &Gate, x: &[u8], truths: &[bool]) -> bool
+    requires { GateReadable g.now x.now truths.now }
+    ensures { result ≡ gate_told g.now x.now (λ (k : ℕ). get_or truths.now k false) }
 {
-    rows[at] as u32 <= true_tests(rows, at, x) + true_gates(rows, at, truths)
+    u32::from(g.threshold) <= true_tests(g, x) + true_inputs(g, truths)
 }
 
-// No gate true yet.
-pub fn no_truths() -> [bool; GATE_PLACES]
-    ensures { result ≡ replicate most_gates false }
+// The truths of all gates of a sound study in joint state x, where `once` has these without their repeats.
+pub fn gate_truths(t: &Study, once: &[Gate; GATE_PLACES], x: &[u8]) -> [bool; GATE_PLACES]
+    requires sound { Sound t.now }
+    requires once { OnceEach t.now.gate t.now.gates once.now }
+    requires joint { JointState (state_counts t.now) x.now }
+    ensures { result ≡ gate_truths t.now.gate x.now t.now.gates }
 {
-    [false; GATE_PLACES]
+    let mut truths = [false; GATE_PLACES];
+    for i in 0..t.gates as usize {
+        truths[i] = gate_true(&once[i], x, &truths);
+    }
+    truths
 }
