@@ -12,12 +12,12 @@ use Rattle.study.specs.declared.Study.{Study}
 use Rattle.study.specs.Joint.{state_counts}
 use Rattle.soundness.specs.Sound.{Sound}
 use Rattle.soundness.proofs.Ranges.{joint-most}
-use Rattle.paths.specs.Blocks.{Listable, class_at}
+use Rattle.paths.specs.Blocks.{class_at}
 use Rattle.paths.specs.Paths.{paths}
 use Rattle.model.specs.declared.HeldModel.{HeldModel}
 use Rattle.model.specs.InHand.{held_counts, model_held, InHand}
 use Rattle.model.specs.Model.{Model, components, classes_of, paths_of, probability_table}
-use Rattle.model.proofs.Classes.{classes-long, class-at, good-listable}
+use Rattle.model.proofs.Classes.{classes-long, class-at}
 use Rattle.study_model.specs.Model.{model_with, model_by}
 
 -- ---- any model whose classes are those of a table
@@ -58,13 +58,7 @@ module _ {t : Study} (table : List ℕ) (sound : Sound t) (room : most_joint_sta
 
 -- ---- a model in hand, as the code cuts it
 
--- the state counts of its components, and the front of the table for them
-pub record Cut (h : HeldModel) (table counts block : List ℕ) : Type 0 where
-  pub hand : InHand h table
-  pub is_counts : counts ≡ held_counts h
-  pub is_block : block ≡ take (product counts) table
-
--- where the table may be cut
+-- the state counts of its components: the table may be cut behind their joint states
 pub cut_inside : {h : HeldModel} {table : List ℕ} (counts : List ℕ) → InHand h table → counts ≡ held_counts h
     → (length counts ≤ most_components) × (((k : ℕ) → k < length counts → get_or counts k 0 ≤ most_states) × (product counts ≤ length table))
 unfolding model_held
@@ -72,17 +66,10 @@ cut_inside {h} {table} counts hand e =
     let good = hand.good.counts in
     rw e (good.few, (good.most, omega (arith, good.joint, hand.room)))
 
-module _ {h : HeldModel} {table counts block : List ℕ} (cut : Cut h table counts block) where
-  cut-is : block ≡ classes_of (model_held h table)
-  unfolding model_held
-  cut-is =
-      let inside : product (held_counts h) ≤ length table = omega (arith, cut.hand.good.counts.joint, cut.hand.room) in
-      cut.is_block ∙ ap (λ (l : List ℕ). take (product l) table) cut.is_counts ∙ block-is (model_held h table) table inside refl
-
-  pub cut-listable : Listable counts block
-  unfolding model_held
-  cut-listable = rw (cut-is, cut.is_counts) (good-listable (model_held h table) cut.hand.good)
-
-  pub cut-paths : paths counts block ≡ paths_of (model_held h table)
-  unfolding paths_of model_held
-  cut-paths = rw (cut-is, cut.is_counts) refl
+-- the front of the table for them has the model's classes
+pub cut-classes : {h : HeldModel} {table counts block : List ℕ} → InHand h table → counts ≡ held_counts h → block ≡ take (product counts) table
+    → (counts ≡ (model_held h table).counts) × (block ≡ classes_of (model_held h table))
+unfolding model_held
+cut-classes {h} {table} {counts} {block} hand is_counts is_block =
+    let inside : product (held_counts h) ≤ length table = omega (arith, hand.good.counts.joint, hand.room) in
+    (is_counts, is_block ∙ ap (λ (l : List ℕ). take (product l) table) is_counts ∙ block-is (model_held h table) table inside refl)

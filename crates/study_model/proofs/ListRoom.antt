@@ -14,7 +14,6 @@ use Rattle.entries.specs.Entries.{list_bytes}
 use Rattle.model.specs.Listed.{Listed as Holds}
 use Rattle.model.specs.Good.{Good}
 use Rattle.model.specs.Model.{Model, paths_of}
-use Rattle.paths.specs.Paths.{paths}
 use Rattle.model.proofs.Listing.{list-most, listed}
 use Rattle.std.specs.Prelude.{Ok, Err}
 use Rattle.answers.specs.Answers.{Listing}

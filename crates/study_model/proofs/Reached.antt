@@ -1,45 +1,42 @@
--- Slices of a model in hand: a walk may begin there, and what it brings is what the model's paths bring.
-use Prim.Native.Nat.{ℕ}
-use mathlib.Core.Path.{◌≡◌, refl, ◌∙◌}
-use mathlib.Core.Bool.{Bool}
-use mathlib.Core.List.{List}
-use native.Mathlib.Omega.{arith}
+-- The block of a model: its list may be written, a walk may begin there, and what they bring is what the model's paths bring.
+use Rattle.std.proofs.Common.{ℕ, ◌≡◌, Bool, List, refl, arith}
 use Rattle.units.specs.One.{one}
-use Rattle.model.specs.declared.HeldModel.{HeldModel}
-use Rattle.model.specs.InHand.{held_table, model_held}
-use Rattle.model.specs.Model.{probability_table}
-use Rattle.model.proofs.InHand.{held-table}
+use Rattle.event_tree.specs.declared.block.ClassBlock.{ClassBlock}
+use Rattle.paths.specs.Blocks.{Listable}
+use Rattle.paths.specs.Paths.{paths}
+use Rattle.model.specs.Good.{Good}
+use Rattle.model.specs.Model.{Model, paths_of, probability_table}
+use Rattle.model.proofs.Classes.{good-listable}
 use Rattle.model.proofs.Table.{table-most}
 use Rattle.totals.specs.Places.{Adds}
 use Rattle.totals.specs.Walk.{Reached, brings_all}
 use Rattle.totals.proofs.Added.{adds-alike}
+use Rattle.study_model.specs.InHand.{BlockOf}
 use Rattle.study_model.specs.Totals.{paths_bring}
-use Rattle.study_model.proofs.ClassFront.{Cut, cut-listable, cut-paths}
 
-pub record Slices (h : HeldModel) (table counts block probabilities : List ℕ) : Type 0 where
-  pub cut : Cut h table counts block
-  pub is_front : probabilities ≡ held_table h
+module _ {m : Model} {block : ClassBlock} (own : BlockOf m block) where
+  pub block-listable : Good m → Listable block.counts.now block.classes.now
+  block-listable good = rw (own.counts, own.classes) (good-listable m good)
 
-module _ {h : HeldModel} {table counts block probabilities : List ℕ} (held : Slices h table counts block probabilities) where
-  is-table : probabilities ≡ probability_table (model_held h table)
-  is-table = held.is_front ∙ held-table h table
+  pub block-paths : paths block.counts.now block.classes.now ≡ paths_of m
+  unfolding paths_of
+  block-paths = rw (own.counts, own.classes) refl
 
-  pub slices-reached : Reached counts block probabilities 0 one one
-  slices-reached =
-      let listable = cut-listable held.cut in
+  pub block-reached : {probabilities : List ℕ} → Good m → probabilities ≡ probability_table m → Reached block.counts.now probabilities 0 one one
+  block-reached good is-table =
       record {
-        whole = listable.whole;
-        table = record { each = λ k. rw is-table (table-most (model_held h table) held.cut.hand.good k) };
-        few = omega (arith, listable.components);
+        table = record { each = λ k. rw is-table (table-most m good k) };
+        few = omega (arith, (block-listable good).components);
         low_most = omega arith;
         high_most = omega arith;
       }
 
-  brings-are : (loadwise : Bool) (rounding place : ℕ)
-      → brings_all loadwise rounding probabilities counts block place ≡ paths_bring loadwise rounding (model_held h table) place
-  unfolding brings_all paths_bring model_held
-  brings-are loadwise rounding place = rw (cut-paths held.cut, is-table, held.cut.is_counts) refl
+  brings-are : {probabilities : List ℕ} → probabilities ≡ probability_table m → (loadwise : Bool) (rounding place : ℕ)
+      → brings_all loadwise rounding probabilities block.counts.now block.classes.now place ≡ paths_bring loadwise rounding m place
+  unfolding brings_all paths_bring
+  brings-are is-table loadwise rounding place = rw (block-paths, is-table, own.counts) refl
 
-  pub slices-bring : (loadwise : Bool) (rounding : ℕ) {most places : ℕ} {d d' : List ℕ} → Adds most places (brings_all loadwise rounding probabilities counts block) d d'
-      → Adds most places (paths_bring loadwise rounding (model_held h table)) d d'
-  slices-bring loadwise rounding adds = adds-alike (λ p. brings-are loadwise rounding p) adds
+  pub block-brings : {probabilities : List ℕ} → probabilities ≡ probability_table m → (loadwise : Bool) (rounding : ℕ) {most places : ℕ} {d d' : List ℕ}
+      → Adds most places (brings_all loadwise rounding probabilities block.counts.now block.classes.now) d d'
+      → Adds most places (paths_bring loadwise rounding m) d d'
+  block-brings is-table loadwise rounding adds = adds-alike (λ p. brings-are is-table loadwise rounding p) adds

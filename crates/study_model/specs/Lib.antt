@@ -1,3 +1,4 @@
 pub mod Holding
+pub mod InHand
 pub mod Model
 pub mod Totals

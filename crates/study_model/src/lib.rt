@@ -6,10 +6,10 @@
 mod adding;
 mod block;
 mod holding;
+mod in_hand;
 mod listing;
 mod probabilities;
 
-pub use adding::add_paths;
 pub use block::counts_in_use;
 pub use holding::hold;
-pub use listing::{list_lent, list_whole};
+pub use in_hand::ModelInHand;
