@@ -1,13 +1,15 @@
 // The interruption figures of an opened study for C, by its gates or by a drawn tree, each in two numbers.
 ghost use Rattle.std.specs.Prelude.{◌+◌, ◌≡◌};
+ghost use Rattle.answers.specs.Answers.{by_number};
 ghost use Rattle.answers.specs.Told.{result as result_told, caidi_values};
 ghost use Rattle.meaning.specs.Sources.{meaning_of};
 ghost use Rattle.export_answers.specs.Answers.{pairs, two, left_by};
 ghost use Rattle.export_losses.specs.Figures.{TakesFigures, GivesFigures};
 
-use answers::{Caidi, FiguresAnswer};
+use answers::{Caidi, Figures};
 use export_answers::{counted, hand_pair, refused};
 use meaning::Source;
+use rules::Refusal;
 use study_image::read_image;
 
 // Hands CAIDI over where it is stated; answers how many figures are stated, the three others among them.
@@ -27,7 +29,7 @@ fn hand_caidi(caidi: Caidi, lower: &mut u64, upper: &mut u64) -> u32
 
 // Hands on the figures that a call answered.
 fn hand_figures(
-    answer: FiguresAnswer,
+    answer: Result<Figures, Refusal>,
     saifi_lower: &mut u64,
     saifi_upper: &mut u64,
     saidi_lower: &mut u64,
@@ -37,7 +39,7 @@ fn hand_figures(
     maifi_lower: &mut u64,
     maifi_upper: &mut u64,
 ) -> i64
-    ensures { TakesFigures answer
+    ensures { TakesFigures (by_number answer)
         (two saifi_lower.old saifi_upper.old)
         (two saidi_lower.old saidi_upper.old)
         (two caidi_lower.old caidi_upper.old)
@@ -48,23 +50,21 @@ fn hand_figures(
         (two maifi_lower.new maifi_upper.new) result }
 {
     match answer {
-        FiguresAnswer::Figures(figures) => {
-            let caidi = figures.caidi;
+        Ok(figures) => {
             hand_pair(figures.saifi, saifi_lower, saifi_upper);
             hand_pair(figures.saidi, saidi_lower, saidi_upper);
             hand_pair(figures.maifi, maifi_lower, maifi_upper);
-            counted(hand_caidi(caidi, caidi_lower, caidi_upper))
+            counted(hand_caidi(figures.caidi, caidi_lower, caidi_upper))
         }
-        FiguresAnswer::Refused(number) => refused(number),
+        Err(refusal) => refused(refusal),
     }
 }
 
 // SAIFI, SAIDI, CAIDI and MAIFI, lower and upper bound of each in a number of its own; answers how many are stated,
-// since CAIDI may not be. Gates look at no tree. Refused by 16, then 20, 21 or 22, then 19.
+// since CAIDI may not be. Refused by 16, then 20, 21 or 22, then 19.
 pub fn figures(
-    source: Source,
     study: &[u8],
-    tree: &[u8],
+    source: Source,
     saifi_lower: &mut u64,
     saifi_upper: &mut u64,
     saidi_lower: &mut u64,
@@ -74,7 +74,7 @@ pub fn figures(
     maifi_lower: &mut u64,
     maifi_upper: &mut u64,
 ) -> i64
-    ensures { GivesFigures (meaning_of source tree.now) study.now
+    ensures { GivesFigures (meaning_of source.entry) study.now
         (two saifi_lower.old saifi_upper.old)
         (two saidi_lower.old saidi_upper.old)
         (two caidi_lower.old caidi_upper.old)
@@ -85,7 +85,7 @@ pub fn figures(
         (two maifi_lower.new maifi_upper.new) result }
 {
     hand_figures(
-        loss_calls::figures_meant(source, read_image(study), tree),
+        loss_calls::figures(&read_image(study), source),
         saifi_lower,
         saifi_upper,
         saidi_lower,

@@ -1,43 +1,44 @@
 // The losses of an opened study's loads for C, by its gates or by a drawn tree, and the loads that a class loses.
+ghost use Rattle.answers.specs.Answers.{by_number};
 ghost use Rattle.answers.specs.Told.{bounds_told};
 ghost use Rattle.meaning.specs.Sources.{meaning_of};
 ghost use Rattle.export_answers.specs.Answers.{two};
 ghost use Rattle.export_losses.specs.Losses.{TakesPair, BoundsLoad, CountsLost};
 
-use answers::BoundsAnswer;
+use answers::Enclosure;
 use entries::Class;
 use export_answers::{counted, hand_pair, refused};
 use meaning::Source;
+use rules::Refusal;
 use study_image::read_image;
 
 // Hands on the bounds that a call answered.
-fn hand_bounds(answer: BoundsAnswer, lower: &mut u64, upper: &mut u64) -> i64
-    ensures { TakesPair (bounds_told answer)
+fn hand_bounds(answer: Result<Enclosure, Refusal>, lower: &mut u64, upper: &mut u64) -> i64
+    ensures { TakesPair (bounds_told (by_number answer))
         (two lower.old upper.old) (two lower.new upper.new) result }
 {
     match answer {
-        BoundsAnswer::Bounds(pair) => {
+        Ok(pair) => {
             hand_pair(pair, lower, upper);
             0
         }
-        BoundsAnswer::Refused(number) => refused(number),
+        Err(refusal) => refused(refusal),
     }
 }
 
-// Bounds for the loss of a load, in two numbers; gates look at no tree. Refused by 16, 17, then 20, 21 or 22.
+// Bounds for the loss of a load, in two numbers. Refused by 16, 17, then 20, 21 or 22.
 pub fn load_bounds(
-    source: Source,
     study: &[u8],
-    tree: &[u8],
+    source: Source,
     load: usize,
     lower: &mut u64,
     upper: &mut u64,
 ) -> i64
-    ensures { BoundsLoad (meaning_of source tree.now) study.now load
+    ensures { BoundsLoad (meaning_of source.entry) study.now load
         (two lower.old upper.old) (two lower.new upper.new) result }
 {
     hand_bounds(
-        loss_calls::load_meant(source, read_image(study), tree, load),
+        loss_calls::load_bounds(&read_image(study), source, load),
         lower,
         upper,
     )

@@ -19,7 +19,7 @@ pub extern "C" fn grid_load_bounds(
     ensures { BoundsLoad by_gates study.now load
         (two lower.old upper.old) (two lower.new upper.new) result }
 {
-    export_losses::load_bounds(Source::Gates, study, &[], load, lower, upper)
+    export_losses::load_bounds(study, Source::Gates, load, lower, upper)
 }
 
 // The same by a drawn tree in place of the study's gates. Refused by 16, 17, then 20, 21 or 22.
@@ -34,7 +34,7 @@ pub extern "C" fn grid_drawn_load_bounds(
     ensures { BoundsLoad (by_tree tree.now) study.now load
         (two lower.old upper.old) (two lower.new upper.new) result }
 {
-    export_losses::load_bounds(Source::Tree, study, tree, load, lower, upper)
+    export_losses::load_bounds(study, Source::Tree(tree), load, lower, upper)
 }
 
 // SAIFI, SAIDI, CAIDI and MAIFI, lower and upper bound of each in a number of its own; answers how many are stated,
@@ -62,9 +62,8 @@ pub extern "C" fn grid_figures(
         (two maifi_lower.new maifi_upper.new) result }
 {
     export_losses::figures(
-        Source::Gates,
         study,
-        &[],
+        Source::Gates,
         saifi_lower,
         saifi_upper,
         saidi_lower,
@@ -101,9 +100,8 @@ pub extern "C" fn grid_drawn_figures(
         (two maifi_lower.new maifi_upper.new) result }
 {
     export_losses::figures(
-        Source::Tree,
         study,
-        tree,
+        Source::Tree(tree),
         saifi_lower,
         saifi_upper,
         saidi_lower,

@@ -1,37 +1,25 @@
-// The calls for the figures of a study.
+// The call for the figures of a study.
 ghost use Rattle.std.specs.Prelude.{◌≡◌};
-ghost use Rattle.meaning.specs.Meaning.{by_gates, by_tree};
+ghost use Rattle.answers.specs.Answers.{by_number};
 ghost use Rattle.meaning.specs.Sources.{meaning_of};
 ghost use Rattle.loss_calls.specs.Figures.{figures_given};
 
-use answers::FiguresAnswer;
+use answers::Figures;
 use evaluation::figures_in;
 use meaning::{Source, judged_classes, no_classes};
+use rules::Refusal;
 use study::Study;
-use study_model::hold;
+use study_model::{ModelInHand, hold};
 
-// The figures by either source, of which gates look at no tree. Refused by 16, then 20, 21 or 22, then 19.
-pub fn figures_meant(source: Source, study: Study, tree: &[u8]) -> FiguresAnswer
-    ensures { result ≡ figures_given (meaning_of source tree.now) study }
+// SAIFI, SAIDI, CAIDI and MAIFI. Refused by 16, then 20, 21 or 22, then 19.
+pub fn figures(study: &Study, source: Source) -> Result<Figures, Refusal>
+    ensures { by_number result ≡ figures_given (meaning_of source.entry) study.now }
 {
     let mut classes = no_classes();
-    let fault = judged_classes(source, study, tree, &mut classes);
-    if fault != 0 {
-        return FiguresAnswer::Refused(fault);
-    }
-    figures_in(hold(study), &classes)
-}
-
-// SAIFI, SAIDI, CAIDI and MAIFI. Refused by 16, 19, in this order.
-pub fn figures(study: Study) -> FiguresAnswer
-    ensures { result ≡ figures_given by_gates study }
-{
-    figures_meant(Source::Gates, study, &[])
-}
-
-// The same by a drawn tree in place of the study's gates. Refused by 16, then 20, 21 or 22, then 19.
-pub fn drawn_figures(study: Study, tree: &[u8]) -> FiguresAnswer
-    ensures { result ≡ figures_given (by_tree tree.now) study }
-{
-    figures_meant(Source::Tree, study, tree)
+    judged_classes(source, study, &mut classes)?;
+    let model = ModelInHand {
+        held: &hold(study),
+        classes: &classes,
+    };
+    figures_in(model)
 }

@@ -1,4 +1,4 @@
--- The meaning of a call as the code holds it: where the classes come from, and the bytes of a tree, which gates do not look at.
+-- The meaning of a call as the code holds it: where the classes come from.
 use Rattle.std.specs.Prelude.{ℕ, ◌≡◌, List}
 use Rattle.lists.specs.Rows.{put}
 use Rattle.rules.specs.Breach.{first_breach}
@@ -9,9 +9,9 @@ use Rattle.meaning.specs.declared.Source.{Source}
 use Rattle.meaning.specs.declared.Source.TheVariants.{Gates, Tree}
 use Rattle.meaning.specs.Meaning.{Meaning, by_gates, by_tree, meaning_fault, model_of, meant_breaches}
 
-abbrev pub meaning_of : Source → List ℕ → Meaning
-meaning_of Gates tree = by_gates
-meaning_of Tree tree = by_tree tree
+abbrev pub meaning_of : Source → Meaning
+meaning_of Gates = by_gates
+meaning_of (Tree tree) = by_tree tree.now
 
 -- the classes of all joint states stand at the front of a table, and nothing else of it is changed
 pub record Tabled (m : Meaning) (t : Study) (was table : List ℕ) : Type 0 where

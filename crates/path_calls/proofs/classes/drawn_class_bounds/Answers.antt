@@ -1,6 +1,0 @@
--- `path_calls::classes::drawn_class_bounds` meets its contract: that of `classes_meant`, by the tree.
-use Rattle.path_calls.proofs.classes.drawn_class_bounds.Goals as goal
-
-pub returns : goal.returns
-returns c =
-    record { answer = c.classes_meant.ensures.answer; lower = c.classes_meant.ensures.lower; upper = c.classes_meant.ensures.upper }
