@@ -45,17 +45,21 @@ struct ComponentFields;
 impl Fields for ComponentFields {
     type Record = Component;
 
-    ghost MAPS = { component_maps };
+    ghost maps = { component_maps };
 
-    const MAPS: u8 = COMPONENT_MAPS;
-
-    ghost LAST = { 3 };
-
-    const LAST: u8 = 3;
+    ghost last = { 3 };
 
     ghost absent = { λ of. absent_component };
 
     ghost field = { λ of. component_field };
+
+    fn maps(&self) -> u8 {
+        COMPONENT_MAPS
+    }
+
+    fn last(&self) -> u8 {
+        3
+    }
 
     fn absent(&self) -> Component {
         absent_component()

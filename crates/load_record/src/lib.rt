@@ -60,17 +60,21 @@ struct LoadFields {
 impl Fields for LoadFields {
     type Record = Load;
 
-    ghost MAPS = { load_maps };
+    ghost maps = { load_maps };
 
-    const MAPS: u8 = LOAD_MAPS;
-
-    ghost LAST = { 2 };
-
-    const LAST: u8 = 2;
+    ghost last = { 2 };
 
     ghost absent = { λ of. absent_load };
 
     ghost field = { λ of. load_field of.gates };
+
+    fn maps(&self) -> u8 {
+        LOAD_MAPS
+    }
+
+    fn last(&self) -> u8 {
+        2
+    }
 
     fn absent(&self) -> Load {
         absent_load()

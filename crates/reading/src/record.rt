@@ -11,19 +11,21 @@ use rules::Refusal;
 pub trait Fields {
     type Record: Copy;
 
-    // One above the largest map.
-    ghost MAPS: { ℕ };
+    ghost maps: { ℕ };
 
-    const MAPS: u8;
-
-    // The bit of the last field.
-    ghost LAST: { ℕ };
-
-    const LAST: u8;
+    ghost last: { ℕ };
 
     ghost absent: { Self → Self.Record };
 
     ghost field: { Self → ℕ → Self.Record → Reader Self.Record };
+
+    // One above the largest map.
+    fn maps(&self) -> u8
+        ensures { result ≡ maps };
+
+    // The bit of the last field.
+    fn last(&self) -> u8
+        ensures { result ≡ last };
 
     // A record that gives no field.
     fn absent(&self) -> Self::Record
@@ -36,13 +38,13 @@ pub trait Fields {
         k: u8,
         so_far: &mut Self::Record,
     ) -> Result<(), Refusal>
-        requires { k ≤ LAST }
+        requires { k ≤ last }
         ensures { read_into result so_far.new bytes.new.rest.now ≡ field self.now k so_far.old bytes.old.rest.now };
 
     // The last field has a bit, and no bit stands behind it.
-    ghost fit: { LAST < map_bits };
+    ghost fit: { last < map_bits };
 
-    ghost all: { MAPS ≡ 2 ^ (LAST + 1) };
+    ghost all: { maps ≡ 2 ^ (last + 1) };
 }
 
 // The field of bit k, where the bit stands in the map.
@@ -53,7 +55,7 @@ fn read_where_set<F: Fields>(
     k: u8,
     so_far: &mut F::Record,
 ) -> Result<(), Refusal>
-    requires { k < F.LAST }
+    requires { k < F.last }
     ensures { read_into result so_far.new bytes.new.rest.now ≡ field_at (F.field of.now) map k so_far.old bytes.old.rest.now }
 {
     if map_digit(map, k) != 1 {
@@ -69,12 +71,12 @@ fn read_last<F: Fields>(
     left: u32,
     so_far: &mut F::Record,
 ) -> Result<(), Refusal>
-    ensures { read_into result so_far.new bytes.new.rest.now ≡ where_left left (F.field of.now F.LAST) so_far.old bytes.old.rest.now }
+    ensures { read_into result so_far.new bytes.new.rest.now ≡ where_left left (F.field of.now F.last) so_far.old bytes.old.rest.now }
 {
     if left != 1 {
         return Ok(());
     }
-    of.read_field(bytes, F::LAST, so_far)
+    of.read_field(bytes, of.last(), so_far)
 }
 
 // The fields whose bit stands in the map, lowest bit first: as many as the map has ones.
@@ -84,11 +86,11 @@ fn read_fields<F: Fields>(
     map: u8,
     so_far: &mut F::Record,
 ) -> Result<(), Refusal>
-    requires { map < F.MAPS }
+    requires { map < F.maps }
     ensures { read_into result so_far.new bytes.new.rest.now ≡ fields (F.field of.now) map so_far.old bytes.old.rest.now }
 {
     let mut left = field_count(map);
-    for k in 0..F::LAST {
+    for k in 0..of.last() {
         read_where_set(bytes, of, map, k, so_far)?;
         left = fields_behind(left, map, k);
     }
@@ -97,9 +99,9 @@ fn read_fields<F: Fields>(
 
 // One record: its map, then its fields over their absent values.
 pub fn read_record<F: Fields>(bytes: &mut Cursor, of: &F) -> Result<F::Record, Refusal>
-    ensures { read_of result bytes.new.rest.now ≡ fields_by_map F.MAPS (F.field of.now) (F.absent of.now) bytes.old.rest.now }
+    ensures { read_of result bytes.new.rest.now ≡ fields_by_map F.maps (F.field of.now) (F.absent of.now) bytes.old.rest.now }
 {
-    let map = bytes.map(F::MAPS)?;
+    let map = bytes.map(of.maps())?;
     let mut so_far = of.absent();
     read_fields(bytes, of, map, &mut so_far)?;
     Ok(so_far)

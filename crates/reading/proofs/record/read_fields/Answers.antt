@@ -27,5 +27,5 @@ loop-k-preserved g c =
 
 pub returns : goal.returns
 returns g c =
-    last-field _ _ _ c.loop-k.invariant.left c.loop-k.invariant.read (omega (arith, c.LAST-k-end.ensures)) g.met.F.Fields.fit c.requires g.met.F.Fields.all
+    last-field _ _ _ c.loop-k.invariant.left c.loop-k.invariant.read (omega (arith, c.last-k-end.ensures)) g.met.F.Fields.fit c.requires g.met.F.Fields.all
     c.read_last.ensures
