@@ -1,27 +1,22 @@
--- `gate_record::inputs::read_inputs` meets its contract: where a field is left, the count is read and judged, then so many are read.
-use Prim.Native.Nat.{◌≤◌}
-use native.Mathlib.Omega.{arith}
-use borrow.Author.Tests.{ne_eqb}
-use Rattle.rules.specs.Limits.{most_gate_inputs}
-use Rattle.reading.proofs.After.{returned, stopped, going}
+-- `gate_record::inputs::read_inputs` meets its contract: behind the count, the turns read what the definition repeats, up to the first that is refused.
+use Rattle.std.proofs.Common.{◌≡◌, ◌<◌, arith, rules}
+use Rattle.rules.specs.Refusals.{row_of}
+use Rattle.reading.specs.Reader.{refused}
+use Rattle.reading.proofs.Repeats.{repeat-more, repeat-done, repeat-stopped}
 use Rattle.gate_record.specs.Gate.{inputs}
 use Rattle.gate_record.proofs.inputs.read_inputs.Goals as goal
 
-pub returns-then-left-ne1 : goal.returns-then-left-ne1
-returns-then-left-ne1 c g =
-    rw (ne_eqb _ _ c.if-left-ne1.true) returned
-
-pub returns-then-n-ne0 : goal.returns-then-n-ne0
+pub returns-in_err-read_input : goal.returns-in_err-read_input
 unfolding inputs
-returns-then-n-ne0 c g =
-    rw c.if-left-ne1.false (stopped _ c.inputs_at-n.ensures.reads c.if-n-ne0.true)
+returns-in_err-read_input c =
+    let inside : c.loop-j.j < c.in_ok-n.n = omega arith in
+    let whole : refused (row_of c.in_err-read_input.field-0.0) ≡ inputs c.args.number c.args.g.now c.args.bytes.now.rest.now
+    = rw (← c.in_ok-n.ensures.reads) (repeat-stopped (repeat-more c.loop-j.invariant inside c.in_err-read_input.ensures)) in
+    search rules
 
-pub read_input_list-row-requires : goal.read_input_list-row-requires
-read_input_list-row-requires c =
-    let in-range : c.inputs_at-n.result.value ≤ most_gate_inputs = c.inputs_at-n.ensures.kept c.if-n-ne0.false in
-    omega (arith, in-range, c.requires)
+pub loop-j-preserved : goal.loop-j-preserved
+loop-j-preserved c = repeat-more c.loop-j.invariant (omega arith) c.in_ok-read_input.ensures
 
 pub returns : goal.returns
 unfolding inputs
-returns c g =
-    rw c.if-left-ne1.false (going _ c.inputs_at-n.ensures.reads c.if-n-ne0.false (c.read_input_list-row.ensures _ g))
+returns c = rw (← c.in_ok-n.ensures.reads) (repeat-done c.loop-j.invariant (omega arith))
