@@ -1,5 +1,5 @@
 pub mod ImageBack
-pub mod Owned
 pub mod Reading
 pub mod Standing
 pub mod Widths
+pub mod Writing

@@ -1,27 +1,24 @@
--- What carries the loops that read an image: the places below i hold their records.
-use Prim.Native.Nat.{ℕ, ◌+◌, ◌<◌, ◌≤◌}
-use mathlib.Core.Path.{◌≡◌, sym, subst, ◌∙◌}
-use mathlib.Core.List.{List}
-use native.Mathlib.Omega.{arith}
-use lib.ListN.{length, set}
+-- An array that is filled by calls of one function, which changes nothing, with the number of each place.
+use Rattle.std.proofs.Common.{◌≡◌, ℕ, zero, suc, ◌+◌, ◌<◌, List, get_or, subst, ◌∙◌, arith}
+use denote.Param.Members.{Mut, Called}
+use Rattle.std.specs.Array.{IsFromFnResult, IsFromFnResultFrom}
 use Rattle.lists.specs.Tabulate.{tabulate}
-use Rattle.lists.proofs.Filling.{Filling, filling-start, filling-more, filling-done}
-use Rattle.lists.proofs.Tabulated.{length-tabulate, get_or-tabulate}
+use Rattle.lists.proofs.Tabulated.{tabulated}
 
-pub record RecordsRead {A : Type 0} (f : ℕ → A) (n i : ℕ) (r : List A) : Type 0 where
-  pub filling : Filling (tabulate f n) i r
+module _ {F B : Type 0} (g : Mut F (ℕ × Unit {0}) B) (f : F) (v : ℕ → B) where
+  abbrev pub Gives : Type 0
+  Gives = (i : ℕ) (y : B) (f' : F) → Called g f (i, tt) y f' → (y ≡ v i) × (f' ≡ f)
 
-module _ {A : Type 0} {f : ℕ → A} {n : ℕ} where
-  pub records-start : {r : List A} → length r ≡ n → RecordsRead f n 0 r
-  records-start e = record { filling = filling-start (e ∙ sym (length-tabulate f n)) }
+  from : Gives → (n i : ℕ) (ys : List B) (d : B) → IsFromFnResultFrom g f ys i n → (k j : ℕ) → k < n → j ≡ i + k → get_or ys j d ≡ v j
+  from gives zero i ys d all k j h e = absurd (omega arith)
+  from gives (suc n) i ys d all zero j h e =
+      let at : j ≡ i = omega arith in
+      let called = gives i all.1 all.0 all.3 in
+      rw at (all.2.1 d ∙ called.0)
+  from gives (suc n) i ys d all (suc k) j h e =
+      let called = gives i all.1 all.0 all.3 in
+      from gives n (i + 1) ys d (subst (λ (q : F). IsFromFnResultFrom g q ys (i + 1) n) called.1 all.4) k j (omega arith) (omega arith)
 
-  pub records-more : {i : ℕ} {r : List A} {a : A} → RecordsRead f n i r → i < n → a ≡ f i → RecordsRead f n (i + 1) (set r i a)
-  records-more {i} {r} {a} s h e =
-      record {
-        filling =
-            subst (λ (x : A). Filling (tabulate f n) (i + 1) (set r i x)) (get_or-tabulate f n i a h ∙ sym e)
-            (filling-more a s.filling (omega (arith, length-tabulate f n)));
-      }
-
-  pub records-done : {i : ℕ} {r : List A} → RecordsRead f n i r → n ≤ i → r ≡ tabulate f n
-  records-done {i} {r} s h = filling-done s.filling (omega (arith, length-tabulate f n))
+module _ {F B : Type 0} {g : Mut F (ℕ × Unit {0}) B} {f : F} {ys : List B} {n : ℕ} (v : ℕ → B) (d : B) where
+  pub read-all : IsFromFnResult g f ys n → Gives g f v → ys ≡ tabulate v n
+  read-all all gives = tabulated v n ys d all.long (λ k h. from g f v gives n 0 ys d all.each k k h (omega arith))

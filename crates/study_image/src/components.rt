@@ -1,54 +1,44 @@
 // The component places of an image.
-ghost use Rattle.std.specs.Prelude.{◌<◌, ◌≤◌, ◌≡◌, length};
+ghost use Rattle.std.specs.Prelude.{ℕ, ◌+◌, ◌*◌, ◌<◌, ◌≤◌, ◌≡◌, length, get_or};
 ghost use Rattle.lists.specs.Tabulate.{tabulate};
 ghost use Rattle.rules.specs.Limits.{most_components};
-ghost use Rattle.text.specs.Writing.{Room, Wrote};
-ghost use Rattle.study_image.specs.Places.{image_bytes};
+ghost use Rattle.text.specs.Writer.{Wrote};
+ghost use Rattle.study.specs.Zero.{zero_component};
+ghost use Rattle.study_image.specs.Places.{component_bytes, image_bytes};
+ghost use Rattle.study_image.specs.Fits.{ComponentFits};
 ghost use Rattle.study_image.specs.Image.{component_row, component_rows, component_in};
 
 use crate::fields::read_number;
 use crate::places::{COMPONENT_BYTES, COMPONENTS_AT, P1_AT, P2_AT, P3_AT};
 use rules::COMPONENT_PLACES;
-use study::{Component, no_components};
+use std::array;
+use study::Component;
+use text::Writer;
 
-// The bytes of a component.
-fn component_row(c: Component) -> [u8; COMPONENT_BYTES]
-    ensures { result ≡ component_row c }
+// Writes a component, which fits its bytes.
+#[tactic(auto, using(text::proofs::Written::pieces))]
+fn write_component(c: &Component, image: &mut Writer)
+    requires { image.old.size + component_bytes ≤ length image.old.buffer.now }
+    ensures written { Wrote image.old (component_row c.now) image.new }
+    ensures fits { ComponentFits c.now }
 {
-    [
-        c.states,
-        (c.p1 % 256) as u8,
-        (c.p1 / 256 % 256) as u8,
-        (c.p1 / 65536 % 256) as u8,
-        (c.p1 / 16777216 % 256) as u8,
-        (c.p2 % 256) as u8,
-        (c.p2 / 256 % 256) as u8,
-        (c.p2 / 65536 % 256) as u8,
-        (c.p2 / 16777216 % 256) as u8,
-        (c.p3 % 256) as u8,
-        (c.p3 / 256 % 256) as u8,
-        (c.p3 / 65536 % 256) as u8,
-        (c.p3 / 16777216 % 256) as u8,
-    ]
+    image.put(&[c.states]);
+    image.put(&c.p1.to_le_bytes());
+    image.put(&c.p2.to_le_bytes());
+    image.put(&c.p3.to_le_bytes());
 }
 
-// Writes the components of all places.
-pub fn write_components(
-    component: [Component; COMPONENT_PLACES],
-    image: &mut [u8],
-    at: usize,
-) -> usize
-    requires { Room image.old at (component_rows component) }
-    ensures { Wrote image.old at (component_rows component) image.new result }
+// Writes the components of all places, each of which fits its bytes.
+pub fn write_components(component: &[Component; COMPONENT_PLACES], image: &mut Writer)
+    requires { image.old.size + most_components * component_bytes ≤ length image.old.buffer.now }
+    ensures written { Wrote image.old (component_rows component.now) image.new }
+    ensures behind { image.new.size ≡ image.old.size + most_components * component_bytes }
+    ensures long { length component.now ≡ most_components }
+    ensures fits { (i : ℕ) → i < most_components → ComponentFits (get_or component.now i zero_component) }
 {
-    let mut next = at;
-    let mut i: usize = 0;
-    while i < COMPONENT_PLACES {
-        let row = component_row(component[i]);
-        next = text::copy(image, next, &row);
-        i = i + 1;
+    for c in component {
+        write_component(c, image);
     }
-    next
 }
 
 // The component of a place.
@@ -71,12 +61,5 @@ pub fn read_components(image: &[u8]) -> [Component; COMPONENT_PLACES]
     requires { image_bytes ≤ length image.now }
     ensures { result ≡ tabulate (component_in image.now) most_components }
 {
-    let mut component = no_components();
-    let mut i: usize = 0;
-    while i < COMPONENT_PLACES {
-        let c = read_component(image, i);
-        component[i] = c;
-        i = i + 1;
-    }
-    component
+    array::from_fn(|i| read_component(image, i))
 }

@@ -1,50 +1,48 @@
 // The gate places of an image.
-ghost use Rattle.std.specs.Prelude.{◌<◌, ◌≤◌, ◌≡◌, length};
+ghost use Rattle.std.specs.Prelude.{ℕ, ◌+◌, ◌*◌, ◌<◌, ◌≤◌, ◌≡◌, length, get_or};
 ghost use Rattle.lists.specs.Tabulate.{tabulate};
 ghost use Rattle.rules.specs.Limits.{most_gates};
-ghost use Rattle.text.specs.Writing.{Room, Wrote};
-ghost use Rattle.study_image.specs.Places.{image_bytes};
+ghost use Rattle.text.specs.Writer.{Wrote};
+ghost use Rattle.study.specs.Places.{no_gate};
+ghost use Rattle.study_image.specs.Places.{gate_bytes, image_bytes};
+ghost use Rattle.study_image.specs.Fits.{GateFits};
 ghost use Rattle.study_image.specs.Image.{gate_row, gate_rows, gate_in};
 
-use crate::fields::{read_inputs, read_tests};
+use crate::fields::read_row;
 use crate::places::{
     GATE_BYTES, GATES_AT, INPUT_COUNT_AT, INPUTS_AT, TEST_COMPONENTS_AT, TEST_COUNT_AT,
     TEST_MASKS_AT,
 };
 use rules::GATE_PLACES;
-use study::{Gate, no_gates};
-use text::copy;
+use std::array;
+use study::Gate;
+use text::Writer;
 
-// Writes a gate.
-fn write_gate(g: Gate, image: &mut [u8], at: usize) -> usize
-    requires { Room image.old at (gate_row g) }
-    ensures { Wrote image.old at (gate_row g) image.new result }
+// Writes a gate, which fits its bytes.
+#[tactic(auto, using(text::proofs::Written::pieces), unfolding(crate::specs::Image::gate_row, lists::specs::Rows::joined))]
+fn write_gate(g: &Gate, image: &mut Writer)
+    requires { image.old.size + gate_bytes ≤ length image.old.buffer.now }
+    ensures written { Wrote image.old (gate_row g.now) image.new }
+    ensures fits { GateFits g.now }
 {
-    let component = g.component;
-    let mask = g.mask;
-    let input = g.input;
-    let front = [g.threshold, g.tests];
-    let gates = [g.gates];
-    let tests_at = copy(image, at, &front);
-    let masks_at = copy(image, tests_at, &component);
-    let count_at = copy(image, masks_at, &mask);
-    let inputs_at = copy(image, count_at, &gates);
-    copy(image, inputs_at, &input)
+    image.put(&[g.threshold, g.tests]);
+    image.put(&g.component);
+    image.put(&g.mask);
+    image.put(&[g.gates]);
+    image.put(&g.input);
 }
 
-// Writes the gates of all places.
-pub fn write_gates(gate: [Gate; GATE_PLACES], image: &mut [u8], at: usize) -> usize
-    requires { Room image.old at (gate_rows gate) }
-    ensures { Wrote image.old at (gate_rows gate) image.new result }
+// Writes the gates of all places, each of which fits its bytes.
+pub fn write_gates(gate: &[Gate; GATE_PLACES], image: &mut Writer)
+    requires { image.old.size + most_gates * gate_bytes ≤ length image.old.buffer.now }
+    ensures written { Wrote image.old (gate_rows gate.now) image.new }
+    ensures behind { image.new.size ≡ image.old.size + most_gates * gate_bytes }
+    ensures long { length gate.now ≡ most_gates }
+    ensures fits { (i : ℕ) → i < most_gates → GateFits (get_or gate.now i no_gate) }
 {
-    let mut next = at;
-    let mut i: usize = 0;
-    while i < GATE_PLACES {
-        let g = gate[i];
-        next = write_gate(g, image, next);
-        i = i + 1;
+    for g in gate {
+        write_gate(g, image);
     }
-    next
 }
 
 // The gate of a place.
@@ -54,16 +52,13 @@ fn read_gate(image: &[u8], i: usize) -> Gate
     ensures { result ≡ gate_in image.now i }
 {
     let at = GATES_AT + i * GATE_BYTES;
-    let component = read_tests(image, at + TEST_COMPONENTS_AT);
-    let mask = read_tests(image, at + TEST_MASKS_AT);
-    let input = read_inputs(image, at + INPUTS_AT);
     Gate {
         threshold: image[at],
         tests: image[at + TEST_COUNT_AT],
-        component,
-        mask,
+        component: read_row(image, at + TEST_COMPONENTS_AT),
+        mask: read_row(image, at + TEST_MASKS_AT),
         gates: image[at + INPUT_COUNT_AT],
-        input,
+        input: read_row(image, at + INPUTS_AT),
     }
 }
 
@@ -72,12 +67,5 @@ pub fn read_gates(image: &[u8]) -> [Gate; GATE_PLACES]
     requires { image_bytes ≤ length image.now }
     ensures { result ≡ tabulate (gate_in image.now) most_gates }
 {
-    let mut gate = no_gates();
-    let mut i: usize = 0;
-    while i < GATE_PLACES {
-        let g = read_gate(image, i);
-        gate[i] = g;
-        i = i + 1;
-    }
-    gate
+    array::from_fn(|i| read_gate(image, i))
 }

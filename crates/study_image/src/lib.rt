@@ -20,39 +20,37 @@ use loads::{read_loads, write_loads};
 pub use places::IMAGE_BYTES;
 use places::{COMPONENT_COUNT_AT, GATE_COUNT_AT, LOAD_COUNT_AT};
 use study::{Study, zero_study};
+use text::Writer;
 
-// Writes the image of a study at the front of a slice that has the room. Each study fits, so that its image holds it (`image-back`).
-pub fn write_image(t: Study, image: &mut [u8])
+// Writes the image of a study at the front of a slice that has the room. Each study fits, so that its image holds it
+// (`image-back`).
+#[tactic(auto, using(text::proofs::Written::pieces), unfolding(crate::specs::Image::image_of, lists::specs::Rows::joined))]
+pub fn write_image(study: &Study, image: &mut [u8])
     requires { image_bytes ≤ length image.old }
-    ensures written { image.new ≡ put image.old 0 (image_of t) }
-    ensures fits { StudyFits t }
+    ensures written { image.new ≡ put image.old 0 (image_of study.now) }
+    ensures fits { StudyFits study.now }
 {
-    let component = t.component;
-    let gate = t.gate;
-    let load = t.load;
-    let counts = [t.components, t.gates, t.loads];
-    let components_at = text::copy(image, 0, &counts);
-    let gates_at = write_components(component, image, components_at);
-    let loads_at = write_gates(gate, image, gates_at);
-    write_loads(load, image, loads_at);
+    let mut image = Writer::new(image);
+    image.put(&[study.components, study.gates, study.loads]);
+    write_components(&study.component, &mut image);
+    write_gates(&study.gate, &mut image);
+    write_loads(&study.load, &mut image);
 }
 
 // The study that an image holds; a slice too short for one holds a study of zeros.
+#[tactic(auto, unfolding(crate::specs::Image::study_in))]
 pub fn read_image(image: &[u8]) -> Study
     ensures { result ≡ study_in image.now }
 {
     if image.len() < IMAGE_BYTES {
         return zero_study();
     }
-    let component = read_components(image);
-    let gate = read_gates(image);
-    let load = read_loads(image);
     Study {
         components: image[COMPONENT_COUNT_AT],
         gates: image[GATE_COUNT_AT],
         loads: image[LOAD_COUNT_AT],
-        component,
-        gate,
-        load,
+        component: read_components(image),
+        gate: read_gates(image),
+        load: read_loads(image),
     }
 }

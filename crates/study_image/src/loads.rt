@@ -1,46 +1,43 @@
 // The load places of an image.
-ghost use Rattle.std.specs.Prelude.{◌<◌, ◌≤◌, ◌≡◌, length};
+ghost use Rattle.std.specs.Prelude.{ℕ, ◌+◌, ◌*◌, ◌<◌, ◌≤◌, ◌≡◌, length, get_or};
 ghost use Rattle.lists.specs.Tabulate.{tabulate};
 ghost use Rattle.rules.specs.Limits.{most_loads};
-ghost use Rattle.text.specs.Writing.{Room, Wrote};
-ghost use Rattle.study_image.specs.Places.{image_bytes};
+ghost use Rattle.text.specs.Writer.{Wrote};
+ghost use Rattle.study.specs.Zero.{zero_load};
+ghost use Rattle.study_image.specs.Places.{load_bytes, image_bytes};
+ghost use Rattle.study_image.specs.Fits.{LoadFits};
 ghost use Rattle.study_image.specs.Image.{load_row, load_rows, load_in};
 
 use crate::fields::read_number;
 use crate::places::{CUSTOMERS_AT, LOAD_BYTES, LOADS_AT, MINUTES_AT};
 use rules::LOAD_PLACES;
-use study::{Load, no_loads};
+use std::array;
+use study::Load;
+use text::Writer;
 
-// The bytes of a load.
-fn load_row(l: Load) -> [u8; LOAD_BYTES]
-    ensures { result ≡ load_row l }
+// Writes a load, which fits its bytes.
+#[tactic(auto, using(text::proofs::Written::pieces))]
+fn write_load(l: &Load, image: &mut Writer)
+    requires { image.old.size + load_bytes ≤ length image.old.buffer.now }
+    ensures written { Wrote image.old (load_row l.now) image.new }
+    ensures fits { LoadFits l.now }
 {
-    [
-        l.gate,
-        (l.customers % 256) as u8,
-        (l.customers / 256 % 256) as u8,
-        (l.customers / 65536 % 256) as u8,
-        (l.customers / 16777216 % 256) as u8,
-        (l.minutes % 256) as u8,
-        (l.minutes / 256 % 256) as u8,
-        (l.minutes / 65536 % 256) as u8,
-        (l.minutes / 16777216 % 256) as u8,
-    ]
+    image.put(&[l.gate]);
+    image.put(&l.customers.to_le_bytes());
+    image.put(&l.minutes.to_le_bytes());
 }
 
-// Writes the loads of all places.
-pub fn write_loads(load: [Load; LOAD_PLACES], image: &mut [u8], at: usize) -> usize
-    requires { Room image.old at (load_rows load) }
-    ensures { Wrote image.old at (load_rows load) image.new result }
+// Writes the loads of all places, each of which fits its bytes.
+pub fn write_loads(load: &[Load; LOAD_PLACES], image: &mut Writer)
+    requires { image.old.size + most_loads * load_bytes ≤ length image.old.buffer.now }
+    ensures written { Wrote image.old (load_rows load.now) image.new }
+    ensures behind { image.new.size ≡ image.old.size + most_loads * load_bytes }
+    ensures long { length load.now ≡ most_loads }
+    ensures fits { (i : ℕ) → i < most_loads → LoadFits (get_or load.now i zero_load) }
 {
-    let mut next = at;
-    let mut j: usize = 0;
-    while j < LOAD_PLACES {
-        let row = load_row(load[j]);
-        next = text::copy(image, next, &row);
-        j = j + 1;
+    for l in load {
+        write_load(l, image);
     }
-    next
 }
 
 // The load of a place.
@@ -62,12 +59,5 @@ pub fn read_loads(image: &[u8]) -> [Load; LOAD_PLACES]
     requires { image_bytes ≤ length image.now }
     ensures { result ≡ tabulate (load_in image.now) most_loads }
 {
-    let mut load = no_loads();
-    let mut j: usize = 0;
-    while j < LOAD_PLACES {
-        let l = read_load(image, j);
-        load[j] = l;
-        j = j + 1;
-    }
-    load
+    array::from_fn(|j| read_load(image, j))
 }

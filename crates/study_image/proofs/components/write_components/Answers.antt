@@ -1,25 +1,20 @@
--- `study_image::components::write_components` meets its contract. The rows of the components below i are written (`Tabled`).
-use Prim.Native.Nat.{◌-◌}
-use Rattle.text.proofs.Pieces.{tabled_start, tabled-room, tabled-more, tabled-done}
+-- `study_image::components::write_components` meets its contract: the rows of the components gone by are written, each as long as a place.
+use Rattle.std.proofs.Common.{ℕ, get_or, refl, arith}
+use borrow.Author.Count.{below_more}
+use Rattle.study.specs.Zero.{zero_component}
+use Rattle.study_image.specs.Fits.{ComponentFits}
+use Rattle.study_image.proofs.Writing.{placed_start, placed-more}
 use Rattle.study_image.proofs.components.write_components.Goals as goal
 
-pub loop-i-init : goal.loop-i-init
-loop-i-init c =
-    tabled_start _ _ c.requires
+pub loop-c-init : goal.loop-c-init
+loop-c-init c =
+    record { placed = placed_start (omega (arith, c.requires)); fits = λ i h. absurd (omega arith) }
 
-pub bounds-component-i : goal.bounds-component-i
-bounds-component-i c =
-    c.loop-i-test.true
-
-pub copy-next-requires : goal.copy-next-requires
-copy-next-requires c =
-    rw c.component_row-row.ensures (tabled-room c.loop-i.invariant c.loop-i-test.true)
-
-pub loop-i-preserved : goal.loop-i-preserved
-loop-i-preserved c =
-    let written = rw c.component_row-row.ensures at c.copy-next.ensures in
-    tabled-more c.loop-i.invariant c.loop-i-test.true written
-
-pub returns : goal.returns
-returns c =
-    tabled-done c.loop-i.invariant c.loop-i-test.false
+pub loop-c-preserved : goal.loop-c-preserved
+loop-c-preserved c =
+    let before = c.loop-c.invariant in
+    let next = c.write_component.ensures in
+    record {
+      placed = placed-more before.placed next.written refl (omega (arith, before.placed.size, next.written.behind));
+      fits = below_more (λ (i : ℕ). ComponentFits (get_or c.args.component.now i zero_component)) _ before.fits next.fits;
+    }

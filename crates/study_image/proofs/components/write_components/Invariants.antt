@@ -1,16 +1,15 @@
--- `study_image::components::write_components` meets its contract. The rows of the components below i are written (`Tabled`).
-use Prim.Native.Nat.{ℕ, ◌-◌}
-use lib.ListN.{get_or}
-use Rattle.rules.specs.Limits.{most_components}
+-- `study_image::components::write_components` meets its contract: the rows of the components gone by are written, each as long as a place.
+use Rattle.std.proofs.Common.{ℕ, ◌<◌, get_or}
 use Rattle.study.specs.Zero.{zero_component}
-use Rattle.text.proofs.Pieces.{Tabled}
+use Rattle.study_image.specs.Fits.{ComponentFits}
 use Rattle.study_image.specs.Image.{component_row}
+use Rattle.study_image.specs.Places.{component_bytes}
+use Rattle.study_image.proofs.Writing.{Placed}
 use Rattle.study_image.proofs.components.write_components.Given as goal
 
-abbrev pub invariant-loop-i : goal.invariant-loop-i
-invariant-loop-i l =
-    Tabled (λ (k : ℕ). component_row (get_or l.component k zero_component)) most_components l.initial.image l.at l.i l.image l.next
-
-abbrev pub decreases-loop-i : goal.decreases-loop-i
-decreases-loop-i l =
-    most_components - l.i
+abbrev pub invariant-loop-c : goal.invariant-loop-c
+invariant-loop-c l =
+    record {
+      placed : Placed (λ (i : ℕ). component_row (get_or l.component i zero_component)) component_bytes l.initial.image l.c-index l.image;
+      fits : (i : ℕ) → i < l.c-index → ComponentFits (get_or l.component i zero_component);
+    }

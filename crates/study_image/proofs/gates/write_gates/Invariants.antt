@@ -1,16 +1,15 @@
--- `study_image::gates::write_gates` meets its contract. The rows of the gates below i are written (`Tabled`).
-use Prim.Native.Nat.{ℕ, ◌-◌}
-use lib.ListN.{get_or}
-use Rattle.rules.specs.Limits.{most_gates}
+-- `study_image::gates::write_gates` meets its contract: the rows of the gates gone by are written, each as long as a place.
+use Rattle.std.proofs.Common.{ℕ, ◌<◌, get_or}
 use Rattle.study.specs.Places.{no_gate}
-use Rattle.text.proofs.Pieces.{Tabled}
+use Rattle.study_image.specs.Fits.{GateFits}
 use Rattle.study_image.specs.Image.{gate_row}
+use Rattle.study_image.specs.Places.{gate_bytes}
+use Rattle.study_image.proofs.Writing.{Placed}
 use Rattle.study_image.proofs.gates.write_gates.Given as goal
 
-abbrev pub invariant-loop-i : goal.invariant-loop-i
-invariant-loop-i l =
-    Tabled (λ (k : ℕ). gate_row (get_or l.gate k no_gate)) most_gates l.initial.image l.at l.i l.image l.next
-
-abbrev pub decreases-loop-i : goal.decreases-loop-i
-decreases-loop-i l =
-    most_gates - l.i
+abbrev pub invariant-loop-g : goal.invariant-loop-g
+invariant-loop-g l =
+    record {
+      placed : Placed (λ (i : ℕ). gate_row (get_or l.gate i no_gate)) gate_bytes l.initial.image l.g-index l.image;
+      fits : (i : ℕ) → i < l.g-index → GateFits (get_or l.gate i no_gate);
+    }

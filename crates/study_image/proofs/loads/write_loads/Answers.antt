@@ -1,25 +1,20 @@
--- `study_image::loads::write_loads` meets its contract. The rows of the loads below j are written (`Tabled`).
-use Prim.Native.Nat.{◌-◌}
-use Rattle.text.proofs.Pieces.{tabled_start, tabled-room, tabled-more, tabled-done}
+-- `study_image::loads::write_loads` meets its contract: the rows of the loads gone by are written, each as long as a place.
+use Rattle.std.proofs.Common.{ℕ, get_or, refl, arith}
+use borrow.Author.Count.{below_more}
+use Rattle.study.specs.Zero.{zero_load}
+use Rattle.study_image.specs.Fits.{LoadFits}
+use Rattle.study_image.proofs.Writing.{placed_start, placed-more}
 use Rattle.study_image.proofs.loads.write_loads.Goals as goal
 
-pub loop-j-init : goal.loop-j-init
-loop-j-init c =
-    tabled_start _ _ c.requires
+pub loop-l-init : goal.loop-l-init
+loop-l-init c =
+    record { placed = placed_start (omega (arith, c.requires)); fits = λ i h. absurd (omega arith) }
 
-pub bounds-load-j : goal.bounds-load-j
-bounds-load-j c =
-    c.loop-j-test.true
-
-pub copy-next-requires : goal.copy-next-requires
-copy-next-requires c =
-    rw c.load_row-row.ensures (tabled-room c.loop-j.invariant c.loop-j-test.true)
-
-pub loop-j-preserved : goal.loop-j-preserved
-loop-j-preserved c =
-    let written = rw c.load_row-row.ensures at c.copy-next.ensures in
-    tabled-more c.loop-j.invariant c.loop-j-test.true written
-
-pub returns : goal.returns
-returns c =
-    tabled-done c.loop-j.invariant c.loop-j-test.false
+pub loop-l-preserved : goal.loop-l-preserved
+loop-l-preserved c =
+    let before = c.loop-l.invariant in
+    let next = c.write_load.ensures in
+    record {
+      placed = placed-more before.placed next.written refl (omega (arith, before.placed.size, next.written.behind));
+      fits = below_more (λ (i : ℕ). LoadFits (get_or c.args.load.now i zero_load)) _ before.fits next.fits;
+    }

@@ -1,16 +1,15 @@
--- `study_image::loads::write_loads` meets its contract. The rows of the loads below j are written (`Tabled`).
-use Prim.Native.Nat.{ℕ, ◌-◌}
-use lib.ListN.{get_or}
-use Rattle.rules.specs.Limits.{most_loads}
+-- `study_image::loads::write_loads` meets its contract: the rows of the loads gone by are written, each as long as a place.
+use Rattle.std.proofs.Common.{ℕ, ◌<◌, get_or}
 use Rattle.study.specs.Zero.{zero_load}
-use Rattle.text.proofs.Pieces.{Tabled}
+use Rattle.study_image.specs.Fits.{LoadFits}
 use Rattle.study_image.specs.Image.{load_row}
+use Rattle.study_image.specs.Places.{load_bytes}
+use Rattle.study_image.proofs.Writing.{Placed}
 use Rattle.study_image.proofs.loads.write_loads.Given as goal
 
-abbrev pub invariant-loop-j : goal.invariant-loop-j
-invariant-loop-j l =
-    Tabled (λ (k : ℕ). load_row (get_or l.load k zero_load)) most_loads l.initial.image l.at l.j l.image l.next
-
-abbrev pub decreases-loop-j : goal.decreases-loop-j
-decreases-loop-j l =
-    most_loads - l.j
+abbrev pub invariant-loop-l : goal.invariant-loop-l
+invariant-loop-l l =
+    record {
+      placed : Placed (λ (i : ℕ). load_row (get_or l.load i zero_load)) load_bytes l.initial.image l.l-index l.image;
+      fits : (i : ℕ) → i < l.l-index → LoadFits (get_or l.load i zero_load);
+    }
