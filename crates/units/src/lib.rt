@@ -8,20 +8,28 @@ ghost use Rattle.units.specs.Rounding.{up, scale as rounding_scale, quotient_dow
 // Certainty in units of a billionth.
 pub const ONE: u32 = 1000000000;
 
-// What is added before a division by one: nothing rounds down, one less than the divisor rounds up.
-pub const DOWN: u64 = 0;
+// A direction to round in, by what is added before a division by one: at most one less than the divisor.
+#[derive(Clone, Copy)]
+pub struct Direction {
+    pub added: u64,
+    pub ghost below_one: { added ≤ up },
+}
 
-pub const UP: u64 = ONE as u64 - 1;
+// Nothing rounds down, one less than the divisor rounds up.
+pub const DOWN: Direction = Direction { added: 0 };
+
+pub const UP: Direction = Direction {
+    added: ONE as u64 - 1,
+};
 
 // A number of units times a probability, over one.
-pub fn scale(rounding: u64, a: u64, p: u64) -> u64
-    requires rounding { rounding ≤ up }
+pub fn scale(rounding: Direction, a: u64, p: u64) -> u64
     requires units { a ≤ one }
     requires probability { p ≤ one }
-    ensures scaled { result ≡ rounding_scale rounding a p }
+    ensures scaled { result ≡ rounding_scale rounding.added a p }
     ensures most { result ≤ one }
 {
-    (a * p + rounding) / ONE as u64
+    (a * p + rounding.added) / u64::from(ONE)
 }
 
 // A quotient, rounded down.

@@ -7,18 +7,18 @@ use Rattle.probability.proofs.listed.ListedPaths.path_bounds.Goals as goal
 pub loop-k-init : goal.loop-k-init
 loop-k-init c =
     let self = c.args.self.now in
-    let long = bounds-long c.args.rounding self.probabilities.now self.components self.list.now self.paths in
+    let long = bounds-long c.args.rounding.added self.probabilities.now self.components self.list.now self.paths in
     writing_start (omega (arith, long))
 
 pub loop-k-preserved : goal.loop-k-preserved
 loop-k-preserved c =
     let self = c.args.self.now in
-    let long = bounds-long c.args.rounding self.probabilities.now self.components self.list.now self.paths in
-    let own = bound-is c.args.rounding self.probabilities.now self.components self.list.now self.paths c.loop-k-test.true c.bound_at.ensures in
+    let long = bounds-long c.args.rounding.added self.probabilities.now self.components self.list.now self.paths in
+    let own = bound-is c.args.rounding.added self.probabilities.now self.components self.list.now self.paths c.loop-k-test.true c.bound_at.ensures in
     writing_more c.loop-k.invariant (omega (arith, long)) own
 
 pub returns : goal.returns
 returns c =
     let self = c.args.self.now in
-    let long = bounds-long c.args.rounding self.probabilities.now self.components self.list.now self.paths in
+    let long = bounds-long c.args.rounding.added self.probabilities.now self.components self.list.now self.paths in
     writing-done c.loop-k.invariant (omega (arith, long))

@@ -7,4 +7,4 @@ use Rattle.probability.proofs.listed.ListedPaths.path_bounds.Given as goal
 abbrev pub invariant-loop-k : goal.invariant-loop-k
 invariant-loop-k l =
     let paths = entries_of l.self.components l.self.paths l.self.list.now in
-    Writing (path_bounds l.rounding l.self.probabilities.now l.self.components paths) l.initial.out 0 l.k l.out l.k
+    Writing (path_bounds l.rounding.added l.self.probabilities.now l.self.components paths) l.initial.out 0 l.k l.out l.k
