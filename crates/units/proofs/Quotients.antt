@@ -1,7 +1,7 @@
 -- What a rounded quotient tells of its dividend.
-use Prim.Native.Nat.{ℕ, ◌+◌, ◌-◌, ◌*◌, ◌<◌, ◌≤◌}
-use native.Mathlib.Nat.{div-mul-le_self, lt-div-mul-add}
-use native.Mathlib.Omega.{arith}
+use Rattle.std.proofs.Common.{◌≡◌, ℕ, suc, ◌+◌, ◌-◌, ◌*◌, ◌/◌, ◌%◌, ◌<◌, ◌≤◌, min, arith}
+use Rattle.std.proofs.Math.Nat.{div-mul-le_self, lt-div-mul-add, lt_of_mul-lt-mul_right}
+use Rattle.std.proofs.lemmas.Grind.{div_ceil_times}
 use Rattle.units.specs.Laws.{QuotientsRound}
 use Rattle.units.specs.Rounding.{quotient_down, quotient_up}
 
@@ -21,6 +21,16 @@ module _ (a b : ℕ) where
   pub quotient-near-above : 0 < b → quotient_up a b * b < a + b
   unfolding quotient_up
   quotient-near-above some = omega (arith, div-mul-le_self (a + (b - 1)) b)
+
+  -- it is what the code's division comes to, which adds one to the quotient where something remains
+  pub quotient-more : 0 < b → a / b + min 1 (a % b) ≡ quotient_up a b
+  quotient-more some =
+      let more = a / b + min 1 (a % b) in
+      let up = quotient_up a b in
+      let bounds = div_ceil_times a b some in
+      let least : more < suc up = lt_of_mul-lt-mul_right b (omega (arith, bounds.1, quotient-above some)) in
+      let most : up < suc more = lt_of_mul-lt-mul_right b (omega (arith, bounds.0, quotient-near-above some)) in
+      omega arith
 
 pub quotients-round : QuotientsRound
 quotients-round =

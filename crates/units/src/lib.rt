@@ -1,4 +1,5 @@
-// Fixed-point probability: whole billionths, how many of them make certainty, and products and quotients that are rounded down or up.
+// Fixed-point probability: whole billionths, how many of them make certainty, and products and quotients that are
+// rounded down or up.
 #![tactic(auto)]
 
 ghost use Rattle.std.specs.Prelude.{◌<◌, ◌≤◌, ◌≡◌};
@@ -40,12 +41,10 @@ pub fn quotient_down(a: u64, b: u64) -> u64
     a / b
 }
 
-// A quotient, rounded up. Within these limits what rounding adds fits.
+// A quotient, rounded up.
 pub fn quotient_up(a: u64, b: u64) -> u64
-    requires dividend { a ≤ 16000000000000000000 }
-    requires some { 0 < b }
-    requires divisor { b ≤ 1000000000000000 }
+    requires { 0 < b }
     ensures { result ≡ quotient_up a b }
 {
-    (a + (b - 1)) / b
+    a.div_ceil(b)
 }

@@ -1,9 +1,7 @@
--- `units::quotient_up` meets its contract: the code adds and divides as the definition does, and the limits let the sum fit.
-use mathlib.Core.Path.{refl}
-use Rattle.units.specs.Rounding.{quotient_up}
+-- `units::quotient_up` meets its contract: the quotient and one more where something remains is the definition's.
+use Rattle.std.proofs.Common.{◌∙◌}
+use Rattle.units.proofs.Quotients.{quotient-more}
 use Rattle.units.proofs.quotient_up.Goals as goal
 
 pub returns : goal.returns
-unfolding quotient_up
-returns c =
-    refl
+returns c = c.div_ceil.ensures ∙ quotient-more c.args.a c.args.b c.requires
