@@ -1,4 +1,4 @@
--- The list of a good model can be bounded, and totals that were cleared first hold the bounds of its classes or loads. What carries the lower ones:
+-- Totals that were cleared first hold the bounds of a good model's classes or loads. What carries the lower ones:
 -- a limit of one for each of 4,096 paths is none.
 use Prim.Native.Nat.{ℕ, ◌≤◌, min}
 use mathlib.Core.Path.{◌≡◌, refl, sym, ap, ◌∙◌}
@@ -14,14 +14,9 @@ use Rattle.rules.specs.Limits.{most_loads}
 use Rattle.units.specs.One.{one}
 use Rattle.units.specs.Rounding.{down, up}
 use Rattle.model.specs.Good.{Good}
-use Rattle.model.specs.declared.HeldModel.{HeldModel}
-use Rattle.model.specs.InHand.{held_table, model_held, InHand}
-use Rattle.model.specs.Listed.{Listed}
 use Rattle.model.specs.Model.{Model, components, paths_of, probability_table}
-use Rattle.model.proofs.InHand.{held-table, listed-room}
 use Rattle.model.proofs.Listing.{paths-few}
 use Rattle.model.proofs.Table.{table-most}
-use Rattle.probability.specs.Bounded.{Boundable}
 use Rattle.probability.specs.Probabilities.{AtMostOne}
 use Rattle.probability.proofs.Most.{total-most}
 use Rattle.totals.specs.Places.{sums_most, counts_at, Cleared, Adds}
@@ -29,16 +24,6 @@ use Rattle.totals.proofs.Added.{cleared-adds}
 use Rattle.totals.proofs.Placed.{placed-put, zeros-cleared}
 use Rattle.study_model.specs.Totals.{paths_bring}
 use Rattle.evaluation.specs.Bounds.{lower_of, upper_of, load_lowers, load_uppers}
-
--- ---- paths, from a list
-
-pub hand-boundable : {h : HeldModel} {classes list : List ℕ} {paths : ℕ} → InHand h classes → Listed (model_held h classes) paths list
-    → Boundable (held_table h) h.components list paths
-hand-boundable {h} {classes} hand listed =
-    record {
-      table = record { each = λ k. rw (held-table h classes) (table-most (model_held h classes) hand.good k) };
-      room = listed-room hand listed;
-    }
 
 -- ---- classes and loads, in totals
 

@@ -10,6 +10,6 @@ mod tree_paths;
 
 pub use classes::{bound_classes, write_classes};
 pub use figures::{figures_from, figures_in};
-pub use losses::{Losses, loss_bounds};
+pub use losses::loss_bounds;
 pub use rooms::pair_fault;
 pub use tree_paths::bound_paths;

@@ -1,35 +1,35 @@
 -- `evaluation::figures::figures_from` meets its contract: without customers it is refused, and otherwise there is something to divide by.
-use Prim.Native.Nat.{ℕ, ◌<◌}
-use mathlib.Core.Path.{◌≡◌, sym, ap, ◌∙◌}
-use mathlib.Core.List.{List}
-use lib.ListN.{take}
+use Rattle.std.proofs.Common.{rules, ℕ, List, ◌≡◌, ◌∙◌, sym, ap, Ok, Err}
+use Rattle.rules.specs.declared.refusal.Refusal.{Refusal}
+use Rattle.rules.specs.Refusals.{row_of}
 use Rattle.rules.specs.Table.{customers_fault}
 use Rattle.rules.proofs.Rows.{customers-kept}
 use Rattle.study.specs.declared.Load.{Load}
-use Rattle.answers.specs.declared.figures.Figures.{Figures as FigureValues}
-use Rattle.answers.proofs.Answered.{answered-done, answered-refused}
-use Rattle.indices.specs.Figures.{customers_sum, figures_of}
+use Rattle.answers.specs.Answers.{by_number}
+use Rattle.answers.proofs.Answered.{answered-done}
+use Rattle.answers.proofs.ByNumber.{answered-by}
+use Rattle.indices.specs.Figures.{customers_sum}
 use Rattle.evaluation.specs.Figures.{figures_by}
 use Rattle.evaluation.proofs.figures.figures_from.Goals as goal
-use Rattle.std.specs.Prelude.{Ok, Err}
 
--- with customers, the answer is the figures by them
-figures-stated : {customers : ℕ} {values : FigureValues} (lower upper : List ℕ) (loads : List Load) → customers ≡ customers_sum loads
-    → customers_fault customers ≡ 0 → values ≡ figures_of customers lower upper loads → Ok values ≡ figures_by lower upper loads
+-- without customers the answer is the refusal
+figures-refused : (lower upper : List ℕ) (loads : List Load) (refusal : Refusal) → row_of refusal ≡ customers_fault (customers_sum loads)
+    → Err (row_of refusal) ≡ figures_by lower upper loads
 unfolding figures_by
-figures-stated lower upper loads sum kept are = rw (are, sum) (sym (answered-done Err _ _ (rw sum at kept)))
+figures-refused lower upper loads refusal fault = rw (← fault) (sym (answered-by Err _ refusal))
 
-pub returns-then-fault-ne0 : goal.returns-then-fault-ne0
-unfolding figures_by
-returns-then-fault-ne0 c =
-    let fault-is : let model = c.args.model in c.customers_fault-fault.result ≡ customers_fault (customers_sum (take model.loads model.load)) = c.customers_fault-fault.ensures ∙ ap customers_fault c.customers_sum-customers.ensures.is in
-    rw (← fault-is) (sym (answered-refused Err _ _ c.if-fault-ne0.true))
+pub returns-in_err-customers_fault : goal.returns-in_err-customers_fault
+returns-in_err-customers_fault c =
+    let refusal = c.in_err-customers_fault.field-0.0 in
+    let told : by_number c.from_residual.result ≡ Err (row_of refusal) = search rules in
+    let fault = c.in_err-customers_fault.ensures ∙ ap customers_fault c.customers_sum-customers.ensures.is in
+    told ∙ figures-refused _ _ _ refusal fault
 
-pub figures_of-requires : goal.figures_of-requires
-figures_of-requires c =
-    let some : 0 < c.customers_sum-customers.result = customers-kept _ (sym c.customers_fault-fault.ensures ∙ c.if-fault-ne0.false) in record { n_le_most_loads = c.requires.loads_le_most_loads; sizes = c.requires.sizes; loss_bounds = c.requires.loss_bounds; customers_nonzero = some; customers_le_most_served = c.customers_sum-customers.ensures.fits }
+pub figures_of-requires-clause-customers_nonzero : goal.figures_of-requires-clause-customers_nonzero
+figures_of-requires-clause-customers_nonzero c = customers-kept _ (sym c.in_ok-customers_fault.ensures)
 
 pub returns : goal.returns
+unfolding figures_by
 returns c =
-    let kept = sym c.customers_fault-fault.ensures ∙ c.if-fault-ne0.false in
-    figures-stated _ _ _ c.customers_sum-customers.ensures.is kept c.figures_of.ensures
+    let none = sym (c.in_ok-customers_fault.ensures ∙ ap customers_fault c.customers_sum-customers.ensures.is) in
+    ap Ok (rw (← c.customers_sum-customers.ensures.is) c.figures_of.ensures) ∙ sym (answered-done Err _ _ none)
