@@ -1,6 +1,7 @@
--- What carries the filling of a branch: a settled mark leads to the one part that is to be filled; at a blank one the parts of its states are filled
--- one by one (`Filled`).
-use Rattle.std.proofs.Common.{ℕ, zero, suc, ◌+◌, ◌-◌, ◌*◌, ◌/◌, ◌<◌, ◌≤◌, ◌≡◌, refl, sym, ap, ◌∙◌, Bool, true, false, ◌&&◌, ◌||◌, List, [], ◌∷◌, ◌++◌, arith, length, get_or, take, drop, take-append-drop}
+-- What carries the filling of a branch: a settled mark leads to the one part that is to be filled; at a blank one the
+-- parts of its states are filled one by one (`Filled`).
+use Rattle.std.proofs.Common.{ℕ, zero, suc, ◌+◌, ◌-◌, ◌*◌, ◌/◌, ◌<◌, ◌≤◌, ◌≡◌, refl, sym, ap, ◌∙◌, Bool, true, false}
+use Rattle.std.proofs.Common.{◌&&◌, ◌||◌, List, [], ◌∷◌, ◌++◌, arith, length, get_or, take, drop, take-append-drop}
 use mathlib.Core.List.{map, append_assoc, append-nil}
 use native.Mathlib.Numerals.{add-one}
 use native.Mathlib.Nat.{zero-mul, zero-add, add-zero, sub-zero, add-sub_cancel_left}
@@ -24,7 +25,8 @@ use Rattle.drawn_tree.proofs.Painted.{length-painted, painted-append, painted-ma
 module _ (class mark : ℕ) (later behind : List ℕ) where
   -- n states from s on, over so much of the block as they take
   abbrev left : ℕ → ℕ → List ℕ → List ℕ
-  left s n block = painted (λ x. fits x (mark ∷ behind)) (λ x. class) (divided (λ s. s) (λ s. joint_states later) s n) block
+  left s n block = painted (λ x. fits x (mark ∷ behind)) (λ x. class) (divided (λ s. s)
+      (λ s. joint_states later) s n) block
 
   -- a block of the later components, filled where a state suits the mark
   abbrev own : Bool → List ℕ → List ℕ
@@ -32,7 +34,8 @@ module _ (class mark : ℕ) (later behind : List ℕ) where
 
   -- the part of state s is such a block
   left-next : (s n : ℕ) (block : List ℕ) → product later ≤ length block
-      → left s (suc n) block ≡ own (eqb mark blank_mark || eqb mark s) (take (product later) block) ++ left (s + 1) n (drop (product later) block)
+      → left s (suc n) block ≡ own (eqb mark blank_mark || eqb mark s) (take (product later) block)
+      ++ left (s + 1) n (drop (product later) block)
   unfolding divided fits
   left-next s n block room =
       let suited : List ℕ → Bool = λ x. fits x (mark ∷ behind) in
@@ -51,20 +54,23 @@ module _ (class mark : ℕ) (later behind : List ℕ) where
 
   -- what stands behind a part stays
   filled-first : (block : List ℕ) → product later ≤ length block
-      → branch_filled later behind class (take (product later) block) ++ drop (product later) block ≡ branch_filled later behind class block
+      → branch_filled later behind class (take (product later) block) ++ drop (product later) block
+      ≡ branch_filled later behind class block
   unfolding branch_filled painted
   filled-first block room =
       let suited : List ℕ → Bool = λ x. fits x behind in
       let rows = joint_states later in
       let first = take (product later) block in
       let rest = drop (product later) block in
-      sym (painted-append suited (λ x. class) rows [] first rest (length-joint_states later ∙ sym (length-take-le (product later) block room)))
+      sym (painted-append suited (λ x. class) rows [] first rest (length-joint_states later
+          ∙ sym (length-take-le (product later) block room)))
       ∙ ap (λ (l : List (List ℕ)). painted suited (λ x. class) l (first ++ rest)) (append-nil rows)
       ∙ ap (painted suited (λ x. class) rows) (take-append-drop (product later) block)
 
   -- a mark that is settled passes over the states that are not its own
   module _ (settled : mark ≡ blank_mark → ⊥) where
-    passed : (n k s : ℕ) (block : List ℕ) → (n + k) * product later ≤ length block → ((j : ℕ) → s ≤ j → j < s + n → mark ≡ j → ⊥)
+    passed : (n k s : ℕ) (block : List ℕ) → (n + k) * product later ≤ length block → ((j : ℕ) → s ≤ j → j < s + n
+        → mark ≡ j → ⊥)
         → left s (n + k) block ≡ take (n * product later) block ++ left (s + n) k (drop (n * product later) block)
     passed zero k s block room others = rw (zero-mul, zero-add k, add-zero s) refl
     passed (suc n) k s block room others =
@@ -74,7 +80,8 @@ module _ (class mark : ℕ) (later behind : List ℕ) where
         let enough : (n + k) * m ≤ length rest = rw (length-drop m block) (omega (arith, room)) in
         let more = passed n k (s + 1) rest enough (λ j least less. others j (omega arith) (omega arith)) in
         let none = painted-none (λ x. false) (λ x. class) (joint_states later) (take m block) (λ j h. refl) in
-        let first : own (eqb mark blank_mark || eqb mark s) (take m block) ≡ take m block = rw (ne_eqb mark blank_mark settled, ne_eqb mark s other) none in
+        let first : own (eqb mark blank_mark || eqb mark s) (take m block)
+            ≡ take m block = rw (ne_eqb mark blank_mark settled, ne_eqb mark s other) none in
         let turn : suc n + k ≡ suc (n + k) = omega arith in
         let place : s + 1 + n ≡ s + suc n = omega arith in
         let front : m + n * m ≡ suc n * m = omega arith in
@@ -85,7 +92,8 @@ module _ (class mark : ℕ) (later behind : List ℕ) where
         ∙ (λ i. sym (take-add m (n * m) block) i ++ left (place i) k (drop-drop (n * m) m block i))
         ∙ ap (λ (j : ℕ). take j block ++ left (s + suc n) k (drop j block)) front
 
-    all-passed : (n s : ℕ) (block : List ℕ) → n * product later ≤ length block → ((j : ℕ) → s ≤ j → j < s + n → mark ≡ j → ⊥) → left s n block ≡ block
+    all-passed : (n s : ℕ) (block : List ℕ) → n * product later ≤ length block → ((j : ℕ) → s ≤ j → j < s + n
+        → mark ≡ j → ⊥) → left s n block ≡ block
     all-passed n s block room others =
         let m = product later in
         ap (λ (j : ℕ). left s j block) (sym (add-zero n))
@@ -100,14 +108,17 @@ module _ (class mark : ℕ) (later behind : List ℕ) where
     no_own states block room h = all-passed states 0 block room (λ j least less same. omega arith)
 
     -- the part of its own state is filled, with n states behind it
-    own-part : (n : ℕ) (block : List ℕ) → suc n * product later ≤ length block → left mark (suc n) block ≡ branch_filled later behind class block
+    own-part : (n : ℕ) (block : List ℕ) → suc n * product later ≤ length block
+        → left mark (suc n) block ≡ branch_filled later behind class block
     unfolding branch_filled
     own-part n block room =
         let m = product later in
-        let here : (eqb mark blank_mark || eqb mark mark) ≡ true = rw (ne_eqb mark blank_mark settled, eq-eqb mark mark refl) refl in
+        let here : (eqb mark blank_mark || eqb mark mark) ≡ true = rw
+            (ne_eqb mark blank_mark settled, eq-eqb mark mark refl) refl in
         let enough : n * m ≤ length (drop m block) = rw (length-drop m block) (omega (arith, room)) in
         left-next mark n block (omega (arith, room))
-        ∙ (λ i. own (here i) (take m block) ++ all-passed n (mark + 1) (drop m block) enough (λ j least less same. omega arith) i)
+        ∙ (λ i. own (here i) (take m block) ++ all-passed n (mark + 1) (drop m block) enough
+            (λ j least less same. omega arith) i)
         ∙ filled-first block (omega (arith, room))
 
     own-only : (states : ℕ) (block : List ℕ) → states * product later ≤ length block → mark < states
@@ -155,11 +166,13 @@ pub record Branch (counts marks block : List ℕ) : Type 0 where
 module _ {counts marks block : List ℕ} (b : Branch counts marks block) where
   -- the part of a state is a block of the later components
   pub branch-part : (s : ℕ) (d : List ℕ) → length d ≡ length block → s < get_or counts 0 0
-      → Block (drop 1 counts) (take (length block / get_or counts 0 0) (drop (s * (length block / get_or counts 0 0)) d))
+      → Block (drop 1 counts) (take (length block / get_or counts 0 0) (drop (s *
+      (length block / get_or counts 0 0)) d))
   branch-part s d same h =
       let m : ℕ = length block / get_or counts 0 0 in
       record {
-        long = part-long (get_or counts 0 0) m s d (same ∙ whole_parts counts block b.whole b.some) h ∙ part-size counts block b.whole b.some;
+        long = part-long (get_or counts 0 0) m s d (same ∙ whole_parts counts block b.whole b.some) h
+            ∙ part-size counts block b.whole b.some;
         some = λ k less. rw (get_or-drop 1 counts k 0) (b.whole.some (1 + k) (later-less k less));
         most = λ k less. rw (get_or-drop 1 counts k 0) (b.whole.most (1 + k) (later-less k less));
       }
@@ -169,7 +182,8 @@ module _ {counts marks block : List ℕ} (b : Branch counts marks block) where
 
   pub branch-inside : (s : ℕ) → s < get_or counts 0 0
       → s * (length block / get_or counts 0 0) + length block / get_or counts 0 0 ≤ length block
-  branch-inside s h = part-inside (get_or counts 0 0) (length block / get_or counts 0 0) s (length block) (whole_parts counts block b.whole b.some) h
+  branch-inside s h = part-inside (get_or counts 0 0) (length block / get_or counts 0 0) s (length block)
+      (whole_parts counts block b.whole b.some) h
 
   -- the later ones are fewer, and no more than their marks
   pub branch-fewer : length (drop 1 counts) < length counts
@@ -178,9 +192,11 @@ module _ {counts marks block : List ℕ} (b : Branch counts marks block) where
   pub branch-few : length (drop 1 counts) ≤ length (drop 1 marks)
   branch-few = rw (length-drop 1 counts, length-drop 1 marks) (omega (arith, b.few))
 
-  split : (class : ℕ) → branch_filled (get_or counts 0 0 ∷ drop 1 counts) (get_or marks 0 0 ∷ drop 1 marks) class block ≡ branch_filled counts marks class block
+  split : (class : ℕ) → branch_filled (get_or counts 0 0 ∷ drop 1 counts)
+      (get_or marks 0 0 ∷ drop 1 marks) class block ≡ branch_filled counts marks class block
   split class =
-      λ i. branch_filled (sym (first-and-later counts b.some) i) (sym (first-and-later marks (omega (arith, b.some, b.few))) i) class block
+      λ i. branch_filled (sym (first-and-later counts b.some) i) (sym (first-and-later marks (omega
+          (arith, b.some, b.few))) i) class block
 
   whole-room : get_or counts 0 0 * product (drop 1 counts) ≤ length block
   whole-room = omega (arith, shares counts block b.whole b.some)
@@ -191,26 +207,30 @@ module _ {counts marks block : List ℕ} (b : Branch counts marks block) where
     -- and no state
     pub settled-nowhere : get_or counts 0 0 ≤ get_or marks 0 0 → block ≡ branch_filled counts marks class block
     settled-nowhere high =
-        sym (no_own class (get_or marks 0 0) (drop 1 counts) (drop 1 marks) settled (get_or counts 0 0) block whole-room high) ∙ split class
+        sym (no_own class (get_or marks 0 0) (drop 1 counts) (drop 1 marks) settled
+            (get_or counts 0 0) block whole-room high) ∙ split class
 
     -- the part of its state is filled
     pub settled-filled : get_or marks 0 0 < get_or counts 0 0 → (p : List ℕ)
         → p ≡ branch_filled (drop 1 counts) (drop 1 marks) class
         (take (length block / get_or counts 0 0) (drop (get_or marks 0 0 * (length block / get_or counts 0 0)) block))
-        → lent_back block p (get_or marks 0 0 * (length block / get_or counts 0 0)) (length block / get_or counts 0 0) ≡ branch_filled counts marks class block
+        → lent_back block p (get_or marks 0 0 * (length block / get_or counts 0 0))
+        (length block / get_or counts 0 0) ≡ branch_filled counts marks class block
     settled-filled low p wrote =
         let m : ℕ = length block / get_or counts 0 0 in
         let n : ℕ = get_or marks 0 0 * m in
         let is-size : m ≡ product (drop 1 counts) = part-size counts block b.whole b.some in
         let rest : List ℕ = drop n block in
-        let enough : product (drop 1 counts) ≤ length rest = rw (length-drop n block) (omega (arith, is-size, branch-inside (get_or marks 0 0) low)) in
+        let enough : product (drop 1 counts) ≤ length rest = rw (length-drop n block) (omega
+            (arith, is-size, branch-inside (get_or marks 0 0) low)) in
         let first : p ++ drop m rest ≡ branch_filled (drop 1 counts) (drop 1 marks) class rest
         = ap (λ (l : List ℕ). l ++ drop m rest) wrote
         ∙ ap (λ (k : ℕ). branch_filled (drop 1 counts) (drop 1 marks) class (take k rest) ++ drop k rest) is-size
         ∙ filled-first class blank_mark (drop 1 counts) (drop 1 marks) rest enough in
         let own : branch_filled (get_or counts 0 0 ∷ drop 1 counts) (get_or marks 0 0 ∷ drop 1 marks) class block
         ≡ take n block ++ branch_filled (drop 1 counts) (drop 1 marks) class rest
-        = rw is-size (own-only class (get_or marks 0 0) (drop 1 counts) (drop 1 marks) settled (get_or counts 0 0) block whole-room low) in
+        = rw is-size (own-only class (get_or marks 0 0) (drop 1 counts) (drop 1 marks) settled
+            (get_or counts 0 0) block whole-room low) in
         rw add-sub_cancel_left (ap (λ (l : List ℕ). take n block ++ l) first ∙ sym own ∙ split class)
 
 -- ---- its mark is blank: the parts of the states below s are filled
@@ -219,28 +239,33 @@ pub record Filled (counts marks : List ℕ) (class : ℕ) (block₀ : List ℕ) 
   pub branch : Branch counts marks block₀
   pub long : length block ≡ length block₀
   pub same : take (s * (length block₀ / get_or counts 0 0)) block
-      ++ left class blank_mark (drop 1 counts) (drop 1 marks) s (get_or counts 0 0 - s) (drop (s * (length block₀ / get_or counts 0 0)) block)
+      ++ left class blank_mark (drop 1 counts) (drop 1 marks) s (get_or counts 0 0 - s) (drop (s *
+          (length block₀ / get_or counts 0 0)) block)
       ≡ branch_filled counts marks class block₀
 
-pub filled_start : {counts marks block : List ℕ} (class : ℕ) → Branch counts marks block → get_or marks 0 0 ≡ blank_mark → Filled counts marks class block 0 block
+pub filled_start : {counts marks block : List ℕ} (class : ℕ) → Branch counts marks block
+    → get_or marks 0 0 ≡ blank_mark → Filled counts marks class block 0 block
 unfolding branch_filled joint_states
 filled_start class b blank =
     record { branch = b; long = refl; same = rw (zero-mul, sub-zero, sym blank) (split b class) }
 
-module _ {counts marks : List ℕ} {class : ℕ} {block₀ : List ℕ} {s : ℕ} {block : List ℕ} (f : Filled counts marks class block₀ s block) where
+module _ {counts marks : List ℕ} {class : ℕ} {block₀ : List ℕ} {s : ℕ} {block : List ℕ}
+    (f : Filled counts marks class block₀ s block) where
   pub filled-done : get_or counts 0 0 ≤ s → block ≡ branch_filled counts marks class block₀
   filled-done h =
       let from : ℕ = s * (length block₀ / get_or counts 0 0) in
       let none : get_or counts 0 0 - s ≡ 0 = omega arith in
       sym (take-append-drop from block)
-      ∙ ap (λ (l : List ℕ). take from block ++ l) (sym (left-none class blank_mark (drop 1 counts) (drop 1 marks) s (drop from block)))
+      ∙ ap (λ (l : List ℕ). take from block ++ l) (sym (left-none class blank_mark (drop 1 counts) (drop 1 marks) s
+          (drop from block)))
       ∙ (rw none at f.same)
 
   -- the part of state s is filled too
   pub filled_more : {p : List ℕ} → s < get_or counts 0 0
       → p ≡ branch_filled (drop 1 counts) (drop 1 marks) class
       (take (length block₀ / get_or counts 0 0) (drop (s * (length block₀ / get_or counts 0 0)) block))
-      → Filled counts marks class block₀ (s + 1) (lent_back block p (s * (length block₀ / get_or counts 0 0)) (length block₀ / get_or counts 0 0))
+      → Filled counts marks class block₀ (s + 1) (lent_back block p (s * (length block₀ / get_or counts 0 0))
+      (length block₀ / get_or counts 0 0))
   unfolding branch_filled
   filled_more {p = p} h wrote =
       let later : List ℕ = drop 1 counts in
@@ -251,14 +276,18 @@ module _ {counts marks : List ℕ} {class : ℕ} {block₀ : List ℕ} {s : ℕ}
       let is-size : size ≡ product later = part-size counts block₀ f.branch.whole f.branch.some in
       let inside : from + size ≤ length block = omega (arith, branch-inside f.branch s h, f.long) in
       let old : List ℕ = take size (drop from block) in
-      let long : length p ≡ size = ap length wrote ∙ length-painted (λ x. fits x behind) (λ x. class) (joint_states later) old
+      let long : length p ≡ size = ap length wrote ∙ length-painted (λ x. fits x behind) (λ x. class)
+          (joint_states later) old
       ∙ length-take-le size (drop from block) (rw (length-drop from block) (omega (arith, inside))) in
       let more : get_or counts 0 0 - s ≡ suc n = omega arith in
       let rest = left class blank_mark later behind (s + 1) n in
-      let enough : product later ≤ length (drop from block) = rw (length-drop from block, sym is-size) (omega (arith, inside)) in
-      let next : p ++ rest (drop (from + size) block) ≡ left class blank_mark later behind s (get_or counts 0 0 - s) (drop from block) =
+      let enough : product later ≤ length (drop from block) = rw (length-drop from block, sym is-size) (omega
+          (arith, inside)) in
+      let next : p ++ rest (drop (from + size) block) ≡ left class blank_mark later behind s (get_or counts 0 0 - s)
+          (drop from block) =
       (λ i. wrote i ++ rest (sym (drop-drop size from block) i))
-      ∙ ap (λ (k : ℕ). own class blank_mark later behind true (take k (drop from block)) ++ rest (drop k (drop from block))) is-size
+      ∙ ap (λ (k : ℕ). own class blank_mark later behind true (take k (drop from block))
+          ++ rest (drop k (drop from block))) is-size
       ∙ sym (left-next class blank_mark later behind s n (drop from block) enough)
       ∙ ap (λ (k : ℕ). left class blank_mark later behind s k (drop from block)) (sym more) in
       let place : (s + 1) * size ≡ from + size = omega arith in
@@ -267,5 +296,6 @@ module _ {counts marks : List ℕ} {class : ℕ} {block₀ : List ℕ} {s : ℕ}
         long = back_long block p from size inside long ∙ f.long;
         same =
             rw (place, back-front block p from size inside long, back-behind block p from size inside long)
-            (append_assoc (take from block) p (rest (drop (from + size) block)) ∙ ap (λ (l : List ℕ). take from block ++ l) next ∙ f.same);
+            (append_assoc (take from block) p (rest (drop (from + size) block))
+                ∙ ap (λ (l : List ℕ). take from block ++ l) next ∙ f.same);
       }

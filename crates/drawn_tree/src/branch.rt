@@ -5,8 +5,8 @@ ghost use Rattle.drawn_tree.specs.Filling.{branch_filled};
 
 use entries::{BLANK, Class};
 
-// Writes a class at every joint state that fits the marks, in a block of the classes of these components. A settled mark leads to the part of its
-// state; where a mark is blank, each of the states has a part.
+// Writes a class at every joint state that fits the marks, in a block of the classes of these components. A settled
+// mark leads to the part of its state; where a mark is blank, each of the states has a part.
 pub fn fill_branch(counts: &[u8], marks: &[u8], class: Class, block: &mut [Class])
     requires block { Block counts.now block.old }
     requires counts_in_bounds { length counts.now ≤ length marks.now }

@@ -28,13 +28,16 @@ module _ {states size : ℕ} {block : List ℕ} where
   compared-even {s} {blank} first other c h e₀ e =
       rw (e₀, e, part-long states size s block c.whole h) (part-long states size 0 block c.whole (omega arith))
 
-  pub compared-more : {s : ℕ} {blank alike : Bool} {first other : List ℕ} → Compared states size block s blank → s < states
-      → first ≡ part size 0 block → other ≡ part size s block → alike ≡ same first other → Compared states size block (s + 1) (blank && alike)
+  pub compared-more : {s : ℕ} {blank alike : Bool} {first other : List ℕ} → Compared states size block s blank
+      → s < states
+      → first ≡ part size 0 block → other ≡ part size s block → alike ≡ same first other
+      → Compared states size block (s + 1) (blank && alike)
   unfolding all_below
   compared-more {s} {blank} {alike} {first} {other} c h e₀ e found =
       record { inside = omega arith; whole = c.whole; found = rw (add-one, sym c.found, sym e₀, sym e, found) refl }
 
-  pub compared-done : {s : ℕ} {blank : Bool} → Compared states size block s blank → states ≤ s → blank ≡ is_blank states size block
+  pub compared-done : {s : ℕ} {blank : Bool} → Compared states size block s blank → states ≤ s
+      → blank ≡ is_blank states size block
   unfolding is_blank
   compared-done {s} {blank} c h =
       let all : s ≡ states = omega (arith, c.inside) in

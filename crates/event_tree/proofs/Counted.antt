@@ -17,16 +17,20 @@ module _ {f : Fork} where
   pub counted_start : Counted f 0 0
   counted_start = record { due = rw (zero-add, left-all f) }
 
-  pub counted-more : {s n r : ℕ} → Counted f s n → s < number_in f.ways → r ≡ length (rows f s) → Counted f (s + 1) (n + r)
+  pub counted-more : {s n r : ℕ} → Counted f s n → s < number_in f.ways → r ≡ length (rows f s)
+      → Counted f (s + 1) (n + r)
   counted-more {s} {n} {r} c h count =
       let way : List (List ℕ) = headed (mark (blank_in f.ways) s) (rows f s) in
       let next = ap length (left-next f s h) ∙ length-append way (left f (s + 1)) in
-      let same : r ≡ length way = count ∙ sym (length-map (rows f s) (λ (row : List ℕ). mark (blank_in f.ways) s ∷ row)) in
+      let same : r ≡ length way = count ∙ sym (length-map (rows f s) (λ (row : List ℕ). mark
+          (blank_in f.ways) s ∷ row)) in
       record { due = omega (arith, next, same, c.due) }
 
   -- no more than there are classes in the block
   pub counted-most : {s n : ℕ} → Counted f s n → n ≤ length f.block.classes.now
-  counted-most {s} {n} c = omega (arith, c.due, (few-paths f.block.counts.now f.block.classes.now f.block.whole).most, f.block.whole.long)
+  counted-most {s} {n} c = omega (arith, c.due, (few-paths f.block.counts.now f.block.classes.now f.block.whole).most,
+      f.block.whole.long)
 
-  pub counted-done : {s n : ℕ} → Counted f s n → number_in f.ways ≤ s → n ≡ length (paths f.block.counts.now f.block.classes.now)
+  pub counted-done : {s n : ℕ} → Counted f s n → number_in f.ways ≤ s
+      → n ≡ length (paths f.block.counts.now f.block.classes.now)
   counted-done {s} {n} c h = omega (arith, ap length (left-none f s h), c.due)

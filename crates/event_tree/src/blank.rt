@@ -15,6 +15,7 @@ pub enum Ways {
 
 impl Ways {
     // How many ways there are.
+    #[inline]
     pub fn number(self) -> u8
         ensures { result ≡ number_in self }
     {
@@ -26,6 +27,7 @@ impl Ways {
 
     // What a path's entry holds for the component on way s.
     #[tactic(auto, unfolding(paths::specs::Ways::mark))]
+    #[inline]
     pub fn mark(self, s: u8) -> u8
         ensures { result ≡ mark (blank_in self) s }
     {
@@ -51,6 +53,7 @@ fn is_blank(states: u8, size: usize, block: &[Class]) -> bool
 }
 
 // The ways on at such a component.
+#[inline]
 pub fn ways_of(states: u8, size: usize, block: &[Class]) -> Ways
     requires block_len { length block.now ≡ states * size }
     requires states_nonzero { 0 < states }

@@ -1,4 +1,5 @@
-// A block of classes, one for each joint state of the components whose state counts stand beside them, and where paths go on in it.
+// A block of classes, one for each joint state of the components whose state counts stand beside them, and where paths
+// go on in it.
 ghost use Rattle.paths.specs.Blocks.{Block};
 
 use crate::blank::ways_of;
@@ -17,6 +18,7 @@ impl<'a> ClassBlock<'a> {
     ghost use Rattle.std.specs.Prelude.{◌≡◌, length, get_or, IfSome, IfNone};
 
     // The class where no component is left.
+    #[inline]
     pub fn class(self) -> Class
         ensures { result ≡ get_or self.entry.classes.now 0 0 }
     {
@@ -24,6 +26,7 @@ impl<'a> ClassBlock<'a> {
     }
 
     // The first component, where one is left.
+    #[inline]
     pub fn fork(self) -> Option<Fork<'a>>
         ensures none { IfNone result (length self.entry.counts.now ≡ 0) }
         ensures some { IfSome result (λ f. f.block ≡ self.entry) }

@@ -12,7 +12,8 @@ use answers::PathCount;
 use entries::list_need;
 use rules::{Refusal, room_fault};
 
-// Writes the list of the paths of a block at the front of a lent buffer, and answers what was counted of it. Refused by 18.
+// Writes the list of the paths of a block at the front of a lent buffer, and answers what was counted of it. Refused by
+// 18.
 pub fn list_lent(block: ClassBlock, buffer: &mut [u8]) -> Result<PathCount, Refusal>
     requires { Listable block.counts.now block.classes.now }
     ensures answer { by_number result

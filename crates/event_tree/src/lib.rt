@@ -1,5 +1,6 @@
-// The paths of the reduced event tree, from a block of classes: the ways on at a component, how many paths there are, and the list of them. Gates and
-// probabilities are not known here. Not for callers from outside: those call `planning`.
+// The paths of the reduced event tree, from a block of classes: the ways on at a component, how many paths there are,
+// and the list of them. Gates and probabilities are not known here. Not for callers from outside: those call
+// `planning`.
 #![tactic(auto)]
 
 mod blank;

@@ -9,8 +9,8 @@ use crate::block::ClassBlock;
 use crate::marks::no_marks;
 use entries::write_entry;
 
-// Writes the paths of a block from a place on, each behind the marks of the components in front, and answers the place behind them. The marks
-// behind those in front are written over.
+// Writes the paths of a block from a place on, each behind the marks of the components in front, and answers the place
+// behind them. The marks behind those in front are written over.
 fn list_block(block: ClassBlock, marks: &mut [u8], front: usize, out: &mut [u8], at: usize) -> usize
     requires counts_in_bounds { front + length block.counts.now ≤ length marks.old }
     requires block_in_bounds { at
@@ -18,8 +18,8 @@ fn list_block(block: ClassBlock, marks: &mut [u8], front: usize, out: &mut [u8],
         ≤ length out.old }
     ensures value { result
         ≡ at + length (entries_behind (take front marks.old) (paths block.entry.counts.now block.entry.classes.now)) }
-    ensures out_after { out.new
-        ≡ put out.old at (entries_behind (take front marks.old) (paths block.entry.counts.now block.entry.classes.now)) }
+    ensures out_after { out.new ≡ put out.old at
+        (entries_behind (take front marks.old) (paths block.entry.counts.now block.entry.classes.now)) }
     ensures marks_unchanged { take front marks.new ≡ take front marks.old }
 {
     let Some(fork) = block.fork() else {

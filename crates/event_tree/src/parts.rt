@@ -22,6 +22,7 @@ impl<'a> Fork<'a> {
     ghost use Rattle.event_tree.specs.Ways.{number_in};
 
     // The block of the later components that way s leads to.
+    #[inline]
     pub fn part(self, s: u8) -> ClassBlock<'a>
         requires { s < number_in self.ways }
         ensures counts { result.counts.now ≡ drop 1 self.entry.block.counts.now }

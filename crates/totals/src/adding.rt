@@ -1,4 +1,5 @@
-// Adding the bound of a path to totals in lent places: by class at the place of its class, or by load at that of each load which its class has.
+// Adding the bound of a path to totals in lent places: by class at the place of its class, or by load at that of each
+// load which its class has.
 ghost use Rattle.std.specs.Prelude.{ℕ, ◌≤◌, ◌<◌, ◌≡◌, Bool, true, false};
 ghost use Rattle.lists.specs.Bits.{bit};
 ghost use Rattle.lists.specs.Counting.{counted};

@@ -12,8 +12,8 @@ use units::{DOWN, ONE, UP};
 // No limit to sums of lower bounds: one for each of 4,096 paths.
 const SUMS_MOST: u64 = 4096000000000;
 
-// Adds up the paths of a block whose first component is component i; `low` and `high` are the bounds of the path in front of it. Upper totals are at
-// most one.
+// Adds up the paths of a block whose first component is component i; `low` and `high` are the bounds of the path in
+// front of it. Upper totals are at most one.
 fn add_paths<T: Tally>(
     block: ClassBlock,
     probabilities: &[u32],
@@ -27,9 +27,11 @@ fn add_paths<T: Tally>(
     requires totals { Totals sums_most (places_of T.loadwise) lower.old }
     requires totals_2 { Totals one (places_of T.loadwise) upper.old }
     ensures adds { Adds sums_most (places_of T.loadwise)
-        (brings T.loadwise down probabilities.now i block.entry.counts.now block.entry.classes.now low) lower.old lower.new }
+        (brings T.loadwise down probabilities.now i block.entry.counts.now block.entry.classes.now low)
+        lower.old lower.new }
     ensures adds_2 { Adds one (places_of T.loadwise)
-        (brings T.loadwise up probabilities.now i block.entry.counts.now block.entry.classes.now high) upper.old upper.new }
+        (brings T.loadwise up probabilities.now i block.entry.counts.now block.entry.classes.now high)
+        upper.old upper.new }
 {
     let Some(fork) = block.fork() else {
         let class = block.class();
@@ -51,7 +53,8 @@ fn add_paths<T: Tally>(
     }
 }
 
-// Adds the bounds of all paths of a block to totals by class or by load: lower ones to the first slice, upper ones to the second, at most one.
+// Adds the bounds of all paths of a block to totals by class or by load: lower ones to the first slice, upper ones to
+// the second, at most one.
 pub fn add_totals<T: Tally>(
     block: ClassBlock,
     probabilities: &[u32],
@@ -62,9 +65,11 @@ pub fn add_totals<T: Tally>(
     requires totals { Totals sums_most (places_of T.loadwise) lower.old }
     requires totals_2 { Totals one (places_of T.loadwise) upper.old }
     ensures adds { Adds sums_most (places_of T.loadwise)
-        (brings_all T.loadwise down probabilities.now block.entry.counts.now block.entry.classes.now) lower.old lower.new }
+        (brings_all T.loadwise down probabilities.now block.entry.counts.now block.entry.classes.now)
+        lower.old lower.new }
     ensures adds_2 { Adds one (places_of T.loadwise)
-        (brings_all T.loadwise up probabilities.now block.entry.counts.now block.entry.classes.now) upper.old upper.new }
+        (brings_all T.loadwise up probabilities.now block.entry.counts.now block.entry.classes.now)
+        upper.old upper.new }
 {
     let whole = ONE as u64;
     add_paths::<T>(block, probabilities, 0, whole, whole, lower, upper);

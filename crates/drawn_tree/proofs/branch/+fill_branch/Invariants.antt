@@ -1,5 +1,5 @@
--- `drawn_tree::branch::fill_branch` meets its contract. The components left fall at each call; at a blank mark the parts of the states below s are
--- filled (`Filled`).
+-- `drawn_tree::branch::fill_branch` meets its contract. The components left fall at each call; at a blank mark the
+-- parts of the states below s are filled (`Filled`).
 use Rattle.std.proofs.Common.{length}
 use Rattle.drawn_tree.proofs.BranchFilled.{Filled}
 use Rattle.drawn_tree.proofs.branch.+fill_branch.Given as goal

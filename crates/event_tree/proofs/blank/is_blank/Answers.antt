@@ -1,4 +1,5 @@
--- `event_tree::blank::is_blank` meets its contract. The parts of the states below s are compared with that of state 0 (`Compared`).
+-- `event_tree::blank::is_blank` meets its contract. The parts of the states below s are compared with that of state 0
+-- (`Compared`).
 use Rattle.std.proofs.Common.{refl}
 use native.Mathlib.Nat.{zero-mul}
 use Rattle.event_tree.proofs.Compared.{compared-start, compared-more, compared-done}
@@ -10,7 +11,8 @@ loop-s-init c =
 
 pub loop-s-preserved : goal.loop-s-preserved
 loop-s-preserved c =
-    compared-more c.loop-s.invariant c.loop-s-test.true (rw zero-mul refl) c.classes_from.ensures c.same_classes-blank.ensures
+    compared-more c.loop-s.invariant c.loop-s-test.true (rw zero-mul refl) c.classes_from.ensures
+        c.same_classes-blank.ensures
 
 pub returns : goal.returns
 returns c =

@@ -1,4 +1,5 @@
--- `event_tree::blank::is_blank` meets its contract. The parts of the states below s are compared with that of state 0 (`Compared`).
+-- `event_tree::blank::is_blank` meets its contract. The parts of the states below s are compared with that of state 0
+-- (`Compared`).
 use Rattle.event_tree.proofs.Compared.{Compared}
 use Rattle.event_tree.proofs.blank.is_blank.Given as goal
 

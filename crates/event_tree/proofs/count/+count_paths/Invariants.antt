@@ -1,4 +1,5 @@
--- `event_tree::count::count_paths` meets its contract. The components left fall at each call; the paths of the ways below s are counted (`Counted`).
+-- `event_tree::count::count_paths` meets its contract. The components left fall at each call; the paths of the ways
+-- below s are counted (`Counted`).
 use Rattle.std.proofs.Common.{length}
 use Rattle.event_tree.proofs.Counted.{Counted}
 use Rattle.event_tree.proofs.count.+count_paths.Given as goal

@@ -1,4 +1,5 @@
--- `event_tree::lent::list_lent` meets its contract: the count of paths gives the exact need, before anything is written.
+-- `event_tree::lent::list_lent` meets its contract: the count of paths gives the exact need, before anything is
+-- written.
 use Rattle.std.proofs.Common.{sym, ap, ◌∙◌, arith, rules, Ok}
 use Rattle.rules.proofs.Rows.{room-kept}
 use Rattle.answers.proofs.Answered.{answered-done, filled-done}
@@ -22,7 +23,8 @@ returns-in_err-room_fault-clause-buffer c =
 
 pub list_paths-requires-clause-block_in_bounds : goal.list_paths-requires-clause-block_in_bounds
 list_paths-requires-clause-block_in_bounds c =
-    room-kept _ _ (sym (room-is c.requires _ c.count_paths-count.ensures c.list_need.ensures c.in_ok-room_fault.ensures))
+    room-kept _ _ (sym (room-is c.requires _ c.count_paths-count.ensures c.list_need.ensures
+        c.in_ok-room_fault.ensures))
 
 pub returns-clause-answer : goal.returns-clause-answer
 returns-clause-answer c =

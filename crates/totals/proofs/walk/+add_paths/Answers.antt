@@ -1,5 +1,5 @@
--- `totals::walk::add_paths` meets its contract. The components left fall at each call; for each of the two bounds the paths of the ways below s are
--- added (`Walked`).
+-- `totals::walk::add_paths` meets its contract. The components left fall at each call; for each of the two bounds the
+-- paths of the ways below s are added (`Walked`).
 use Rattle.std.proofs.Common.{◌<◌, arith}
 use Rattle.event_tree.specs.Ways.{number_in}
 use Rattle.totals.proofs.Walked.{leaf-brings, walked_start, walked_more, walked-done}

@@ -1,5 +1,5 @@
--- `totals::walk::add_paths` meets its contract. The components left fall at each call; for each of the two bounds the paths of the ways below s are
--- added (`Walked`).
+-- `totals::walk::add_paths` meets its contract. The components left fall at each call; for each of the two bounds the
+-- paths of the ways below s are added (`Walked`).
 use Rattle.std.proofs.Common.{length}
 use Rattle.units.specs.One.{one}
 use Rattle.units.specs.Rounding.{down, up}

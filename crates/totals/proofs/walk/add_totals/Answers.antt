@@ -1,4 +1,5 @@
--- `totals::walk::add_totals` meets its contract: begun at component 0 with a bound of one, the walk adds what the list's entries would.
+-- `totals::walk::add_totals` meets its contract: begun at component 0 with a bound of one, the walk adds what the
+-- list's entries would.
 use Rattle.totals.proofs.Added.{adds-alike}
 use Rattle.totals.proofs.Onward.{walk-adds-up}
 use Rattle.totals.proofs.walk.add_totals.Goals as goal
