@@ -29,8 +29,8 @@ joined-sum f zero = refl
 joined-sum f (suc n) =
     ap length (joined-last (tabulate f n) (f n)) ∙ length-append (joined (tabulate f n)) (f n) ∙ ap (λ (k : ℕ). k + length (f n)) (joined-sum f n)
 
--- the first numbers of a list, each a row of its own
-ones-joined : (f : ℕ → ℕ) (n : ℕ) → joined (tabulate (λ (k : ℕ). f k ∷ []) n) ≡ tabulate f n
+-- numbers, each a row of its own
+pub ones-joined : (f : ℕ → ℕ) (n : ℕ) → joined (tabulate (λ (k : ℕ). f k ∷ []) n) ≡ tabulate f n
 unfolding joined tabulate
 ones-joined f zero = refl
 ones-joined f (suc n) =

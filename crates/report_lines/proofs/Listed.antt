@@ -10,6 +10,7 @@ use Rattle.lists.proofs.Maps.{get_or-map-inside}
 use Rattle.lists.proofs.Tabulated.{tabulated, tabulate-alike}
 use Rattle.text.specs.Letters.{letters}
 use Rattle.text.specs.Lines.{item_line}
+use Rattle.text.proofs.Written.{tables}
 use Rattle.entries.specs.Entries.{class_places, entry_at, entries_of}
 use Rattle.entries.proofs.Entries.{entries-long, entry-is}
 use Rattle.report_lines.specs.Classes.{class_line, class_lines}
@@ -31,6 +32,8 @@ lines_at probabilities n list paths =
     ap joined (tabulated (line_at probabilities n list) paths (map line entries) [] long
     (λ k h. get_or-map-inside line entries k [] [] (rw (entries-long n paths list) h) ∙ ap line (entry-is n paths list k h)))
 
+pub ruleset path_tables = (lines_at, tables)
+
 -- ---- classes
 
 -- the line of class k of a list of classes
@@ -44,6 +47,8 @@ class-lines-at classes lower upper =
     let line = class_line lower upper in
     ap joined (tabulated (class_line_at classes lower upper) (length classes) (map line classes) [] (length-map classes line)
     (λ k h. get_or-map-inside line classes k 0 [] h))
+
+pub ruleset class_tables = (class-lines-at, tables)
 
 -- what stands behind the places of classes does not matter
 pub class-lines-alike : (classes lower upper lower' upper' : List ℕ) → Every (λ (c : ℕ). c < class_places) 0 classes

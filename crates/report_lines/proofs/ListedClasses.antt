@@ -1,33 +1,19 @@
--- The K lines of a list of paths, class by class: what the total of a class says of its line, and that the lines of the tables by class are these.
+-- The K lines of a list of paths: the lines of the tables by class are those of each class.
 use Prim.Native.Nat.{ℕ, ◌<◌}
 use mathlib.Core.Path.{◌≡◌, refl, ap, ◌∙◌}
 use mathlib.Core.Bool.{cond}
 use mathlib.Core.List.{List, []}
-use native.Mathlib.Omega.{arith}
 use lib.Dec.{eqb, ltb}
-use borrow.Author.Tests.{lt-ltb, le-ltb}
 use Rattle.lists.specs.Rows.{joined}
 use Rattle.lists.specs.Tabulate.{tabulate}
 use Rattle.lists.proofs.Tabulated.{get_or-tabulate, tabulate-alike}
-use Rattle.text.specs.Letters.{letters}
-use Rattle.text.specs.Lines.{item_line}
+use Rattle.text.proofs.Written.{tables}
 use Rattle.entries.specs.Entries.{class_places}
-use Rattle.probability.specs.declared.classes.ClassTotal.{ClassTotal}
 use Rattle.probability.specs.Bounds.{lower_total, upper_total}
-use Rattle.probability.specs.ClassTotal.{TotalOf}
 use Rattle.probability.specs.Totals.{lower_classes, upper_classes}
 use Rattle.report_lines.specs.Classes.{bearing, classes_with, classes_borne, class_line, class_lines}
 use Rattle.report_lines.specs.ListedClasses.{listed_line, listed_lines}
 use Rattle.report_lines.proofs.Below.{below-joined}
-
-module _ {probabilities : List ℕ} {n c : ℕ} {entries : List (List ℕ)} {total : ClassTotal} (of : TotalOf probabilities n c entries total) where
-  pub line-of-none : total.paths ≡ 0 → listed_line probabilities n entries c ≡ []
-  unfolding listed_line bearing
-  line-of-none none = rw (← of.paths, le-ltb 0 total.paths (omega (arith, none))) refl
-
-  pub line-of-some : (total.paths ≡ 0 → ⊥) → listed_line probabilities n entries c ≡ item_line (letters "K") c total.lower total.upper
-  unfolding listed_line bearing
-  line-of-some some = rw (← of.paths, lt-ltb 0 total.paths (omega (arith, some)), of.lower, of.upper) refl
 
 -- the lines of the tables by class, class by class
 pub listed-lines : (probabilities : List ℕ) (n : ℕ) (entries : List (List ℕ))
@@ -49,3 +35,5 @@ listed-lines probabilities n entries =
 
     same : (c : ℕ) → c < class_places → cond (ltb 0 (bearing n entries c)) (from-tables c) [] ≡ listed_line probabilities n entries c
     same c h = rw (get_or-tabulate lower class_places c 0 h, get_or-tabulate upper class_places c 0 h) refl
+
+pub ruleset class_tables = (listed-lines, tables)

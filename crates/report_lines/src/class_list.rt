@@ -3,27 +3,24 @@
 ghost use Rattle.std.specs.Prelude.{ℕ, ◌≤◌, ◌<◌, length, get_or};
 ghost use Rattle.text.specs.Writing.{Room, Wrote};
 ghost use Rattle.entries.specs.Entries.{class_places, entries_of};
-ghost use Rattle.entries.specs.Lists.{PathList};
 ghost use Rattle.totals.specs.Places.{Placed};
 ghost use Rattle.report_lines.specs.Classes.{bearing, classes_with, classes_borne};
 ghost use Rattle.report_lines.specs.Listing.{class_with};
 
-use entries::{CLASS_PLACES, Class, class_at};
+use entries::{CLASS_PLACES, Class};
+use probability::ListedPaths;
 use totals::clear;
 
 // Counts the paths of a list that bear each class, at the place of the class.
-fn count_paths(n: usize, list: &[u8], paths: usize, counts: &mut [u64])
-    requires path_list { PathList n paths list.now }
-    requires class_places_in_bounds { class_places ≤ length counts.old }
-    ensures { Placed class_places (bearing n (entries_of n paths list.now)) counts.old
-        counts.new }
+fn count_paths(paths: &ListedPaths, counts: &mut [u64])
+    requires { class_places ≤ length counts.old }
+    ensures { Placed class_places (bearing paths.now.components
+        (entries_of paths.now.components paths.now.paths paths.now.list.now)) counts.old counts.new }
 {
     clear(counts);
-    let mut k: usize = 0;
-    while k < paths {
-        let class = class_at(list, n, k) as usize;
-        counts[class] = counts[class] + 1;
-        k = k + 1;
+    for k in 0..paths.paths {
+        let class = usize::from(paths.class_at(k));
+        counts[class] += 1;
     }
 }
 
@@ -44,35 +41,25 @@ fn list_class(classes: &mut [Class], at: usize, paths: u64, c: usize) -> usize
 fn list_classes(counts: &[u64], classes: &mut [Class]) -> usize
     requires class_places_in_bounds { class_places ≤ length counts.now }
     requires room { Room classes.old 0 (classes_with (λ (c : ℕ). get_or counts.now c 0)) }
-    ensures { Wrote classes.old 0 (classes_with (λ (c : ℕ). get_or counts.now c 0))
-        classes.new result }
+    ensures { Wrote classes.old 0 (classes_with (λ (c : ℕ). get_or counts.now c 0)) classes.new result }
 {
     let mut listed: usize = 0;
-    let mut c: usize = 0;
-    while c < CLASS_PLACES {
+    for c in 0..CLASS_PLACES {
         listed = list_class(classes, listed, counts[c], c);
-        c = c + 1;
     }
     listed
 }
 
 // Lists the classes that some path of a list bears, ascending, at the front of a slice with a place for each path, and
 // answers how many they are. The first places of `counts` hold how many paths bear each class then.
-pub fn occurring(
-    n: usize,
-    list: &[u8],
-    paths: usize,
-    counts: &mut [u64],
-    classes: &mut [Class],
-) -> usize
-    requires path_list { PathList n paths list.now }
+pub fn occurring(paths: &ListedPaths, counts: &mut [u64], classes: &mut [Class]) -> usize
     requires class_places_in_bounds { class_places ≤ length counts.old }
-    requires paths_in_bounds { paths ≤ length classes.old }
-    ensures counts { Placed class_places (bearing n (entries_of n paths list.now)) counts.old
-        counts.new }
-    ensures classes { Wrote classes.old 0 (classes_borne n (entries_of n paths list.now))
-        classes.new result }
+    requires paths_in_bounds { paths.now.paths ≤ length classes.old }
+    ensures counts { Placed class_places (bearing paths.now.components
+        (entries_of paths.now.components paths.now.paths paths.now.list.now)) counts.old counts.new }
+    ensures classes { Wrote classes.old 0 (classes_borne paths.now.components
+        (entries_of paths.now.components paths.now.paths paths.now.list.now)) classes.new result }
 {
-    count_paths(n, list, paths, counts);
+    count_paths(paths, counts);
     list_classes(counts, classes)
 }

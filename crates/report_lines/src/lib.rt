@@ -1,6 +1,5 @@
-// The lines of a report, from lists, tables and figures that are worked out already, and which classes have one. Each
-// function writes into a lent buffer from a place on and answers the place behind what it wrote; who calls it has the
-// room.
+// The lines of a report, from lists, tables and figures that are worked out already, and which classes have one. Who
+// calls a function that writes has the room.
 #![tactic(auto)]
 
 mod class_list;

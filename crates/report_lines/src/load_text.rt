@@ -1,45 +1,35 @@
 // The lines of loads.
 ghost use Rattle.std.specs.Prelude.{◌≤◌, ◌<◌};
 ghost use Rattle.rules.specs.Limits.{most_loads};
-ghost use Rattle.text.specs.Writing.{Room, Wrote};
+ghost use Rattle.text.specs.Writer.{Room, Wrote};
 ghost use Rattle.report_lines.specs.Loads.{load_line, load_lines};
 
 use rules::LOAD_PLACES;
-use text::item_line;
+use text::Writer;
 
 // Writes the line of load j, from tables by load.
-fn load_line(
-    out: &mut [u8],
-    at: usize,
-    lower: [u64; LOAD_PLACES],
-    upper: [u64; LOAD_PLACES],
-    j: usize,
-) -> usize
+#[tactic(auto, unfolding(crate::specs::Loads::load_line))]
+fn load_line(out: &mut Writer, lower: &[u64; LOAD_PLACES], upper: &[u64; LOAD_PLACES], j: usize)
     requires j_lt_most_loads { j < most_loads }
-    requires room { Room out.old at (load_line lower upper j) }
-    ensures { Wrote out.old at (load_line lower upper j) out.new result }
+    requires room { Room out.old (load_line lower.now upper.now j) }
+    ensures { Wrote out.old (load_line lower.now upper.now j) out.new }
 {
-    item_line(out, at, b"L", j as u64, lower[j], upper[j])
+    out.item_line(b"L", j as u64, lower[j], upper[j]);
 }
 
 // Writes the lines of so many loads.
+#[tactic(auto, using(text::proofs::Written::tables), unfolding(crate::specs::Loads::load_lines))]
 pub fn load_lines(
-    out: &mut [u8],
-    at: usize,
-    lower: [u64; LOAD_PLACES],
-    upper: [u64; LOAD_PLACES],
+    out: &mut Writer,
+    lower: &[u64; LOAD_PLACES],
+    upper: &[u64; LOAD_PLACES],
     loads: u8,
-) -> usize
+)
     requires loads_le_most_loads { loads ≤ most_loads }
-    requires room { Room out.old at (load_lines lower upper loads) }
-    ensures { Wrote out.old at (load_lines lower upper loads) out.new result }
+    requires room { Room out.old (load_lines lower.now upper.now loads) }
+    ensures { Wrote out.old (load_lines lower.now upper.now loads) out.new }
 {
-    let number = loads as usize;
-    let mut place = at;
-    let mut j: usize = 0;
-    while j < number {
-        place = load_line(out, place, lower, upper, j);
-        j = j + 1;
+    for j in 0..usize::from(loads) {
+        load_line(out, lower, upper, j);
     }
-    place
 }

@@ -1,71 +1,42 @@
 // The lines of paths.
-ghost use Rattle.std.specs.Prelude.{◌≤◌, ◌≡◌, length};
-ghost use Rattle.text.specs.Writing.{Room, Wrote};
-ghost use Rattle.rules.specs.Limits.{most_components};
-ghost use Rattle.probability.specs.Probabilities.{AtMostOne};
-ghost use Rattle.entries.specs.Lists.{PathList};
-ghost use Rattle.entries.specs.Entries.{entry_bytes, entries_of};
-ghost use Rattle.report_lines.specs.Paths.{entry_line, path_line, path_lines};
+ghost use Rattle.std.specs.Prelude.{◌<◌};
+ghost use Rattle.text.specs.Writer.{Room, Wrote};
+ghost use Rattle.entries.specs.Entries.{entry_at, entries_of};
+ghost use Rattle.report_lines.specs.Paths.{path_line, path_lines};
 
 use crate::marks::mark_bytes;
-use entries::{class_of, entry_at};
-use probability::path_bound;
-use text::{bounds_end, copy, field};
+use entries::class_of;
+use probability::ListedPaths;
+use text::Writer;
 use units::{DOWN, UP};
 
-// Writes the line of an entry of n components with this class and these bounds.
-fn entry_line(
-    out: &mut [u8],
-    at: usize,
-    n: usize,
-    entry: &[u8],
-    class: u64,
-    lower: u64,
-    upper: u64,
-) -> usize
-    requires n_in_bounds { n ≤ length entry.now }
-    requires room { Room out.old at (entry_line n entry.now class lower upper) }
-    ensures { Wrote out.old at (entry_line n entry.now class lower upper) out.new result }
+// Writes the line of path k of a list.
+#[tactic(auto, using(text::proofs::Written::pieces), unfolding(crate::specs::Paths::path_line, crate::specs::Paths::entry_line, lists::specs::Rows::joined))]
+fn path_line(out: &mut Writer, paths: &ListedPaths, k: usize)
+    requires k_lt_paths { k < paths.now.paths }
+    requires room { Room out.old (path_line paths.now.probabilities.now paths.now.components
+        (entry_at paths.now.components paths.now.list.now k)) }
+    ensures { Wrote out.old (path_line paths.now.probabilities.now paths.now.components
+        (entry_at paths.now.components paths.now.list.now k)) out.new }
 {
-    let first = copy(out, at, b"P ");
-    let behind = mark_bytes(out, first, n, entry);
-    let last = field(out, behind, class);
-    bounds_end(out, last, lower, upper)
-}
-
-// Writes the line of the path of an entry of n components.
-fn path_line(out: &mut [u8], at: usize, probabilities: &[u32], n: usize, entry: &[u8]) -> usize
-    requires at_most_one { AtMostOne probabilities.now }
-    requires n_le_most_components { n ≤ most_components }
-    requires len { length entry.now ≡ entry_bytes n }
-    requires room { Room out.old at (path_line probabilities.now n entry.now) }
-    ensures { Wrote out.old at (path_line probabilities.now n entry.now) out.new result }
-{
-    let lower = path_bound(DOWN, probabilities, n, entry);
-    let upper = path_bound(UP, probabilities, n, entry);
-    let class = class_of(n, entry) as u64;
-    entry_line(out, at, n, entry, class, lower, upper)
+    let lower = paths.bound_at(DOWN, k);
+    let upper = paths.bound_at(UP, k);
+    let entry = paths.entry(k);
+    out.put(b"P ");
+    mark_bytes(out, paths.components, entry);
+    out.field(u64::from(paths.class_at(k)));
+    out.bounds_end(lower, upper);
 }
 
 // Writes the lines of all paths of a list.
-pub fn path_lines(
-    out: &mut [u8],
-    at: usize,
-    probabilities: &[u32],
-    n: usize,
-    list: &[u8],
-    paths: usize,
-) -> usize
-    requires at_most_one { AtMostOne probabilities.now }
-    requires path_list { PathList n paths list.now }
-    requires room { Room out.old at (path_lines probabilities.now n (entries_of n paths list.now)) }
-    ensures { Wrote out.old at (path_lines probabilities.now n (entries_of n paths list.now)) out.new result }
+#[tactic(auto, using(crate::proofs::Listed::path_tables))]
+pub fn path_lines(out: &mut Writer, paths: &ListedPaths)
+    requires { Room out.old (path_lines paths.now.probabilities.now paths.now.components
+        (entries_of paths.now.components paths.now.paths paths.now.list.now)) }
+    ensures { Wrote out.old (path_lines paths.now.probabilities.now paths.now.components
+        (entries_of paths.now.components paths.now.paths paths.now.list.now)) out.new }
 {
-    let mut place = at;
-    let mut k: usize = 0;
-    while k < paths {
-        place = path_line(out, place, probabilities, n, entry_at(list, n, k));
-        k = k + 1;
+    for k in 0..paths.paths {
+        path_line(out, paths, k);
     }
-    place
 }

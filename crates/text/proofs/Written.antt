@@ -12,7 +12,12 @@ use Rattle.text.specs.Writer.{Room, Wrote}
 pub put_put : (d x y : List ℕ) (at n : ℕ) → at + length x ≤ length d → n ≡ at + length x → put (put d at x) n y ≡ put d at (x ++ y)
 put_put d x y at n room e = subst (λ (k : ℕ). put (put d at x) k y ≡ put d at (x ++ y)) (sym e) (put-put d at x y room)
 
-pub ruleset pieces = (put_put, append_assoc, append-nil, length-append)
+-- nothing
+pub put_none : (d : List ℕ) (at : ℕ) → put d at [] ≡ d
+unfolding put
+put_none d at = rw (add-zero, append-nil) (take-append-drop at d)
+
+pub ruleset pieces = (put_put, put_none, append_assoc, append-nil, length-append)
 
 -- ---- in a loop
 
@@ -34,40 +39,30 @@ module _ (f : ℕ → List ℕ) where
           let e : k ≡ n = omega arith in
           rw (e, joined-last) (omega (arith, length-append (joined (tabulate f n)) (f n)))
 
--- nothing is written
-pub wrote_none : (w : Writer) → Wrote w [] w
-unfolding put
-wrote_none w = record {
-  holds = sym (rw (add-zero, append-nil) (take-append-drop w.size w.buffer.now));
-  behind = sym (add-zero w.size);
-  long = refl;
-  same_buffer = refl;
-}
-
--- of n pieces, the values of a function, those below k are written
+-- of n pieces, the values of a function, those below k are written, and there is room for the next
 pub record Tabled (f : ℕ → List ℕ) (n : ℕ) (w : Writer) (k : ℕ) (w' : Writer) : Type 0 where
   pub room : Room w (joined (tabulate f n))
   pub wrote : Wrote w (joined (tabulate f k)) w'
+  pub next : k < n → Room w' (f k)
 
-pub tabled_start : (f : ℕ → List ℕ) (n : ℕ) {w : Writer} → Room w (joined (tabulate f n)) → Tabled f n w 0 w
-unfolding tabulate joined
-tabled_start f n {w} room = record { room = room; wrote = wrote_none w }
+module _ {f : ℕ → List ℕ} {n : ℕ} {w : Writer} where
+  tabled : {k : ℕ} {w' : Writer} → Room w (joined (tabulate f n)) → Wrote w (joined (tabulate f k)) w' → Tabled f n w k w'
+  tabled {k} room wrote =
+      record { room = room; wrote = wrote; next = λ h. record { fits = omega (arith, room.fits, wrote.behind, wrote.long, up-to f n k h) } }
 
-module _ {f : ℕ → List ℕ} {n k : ℕ} {w w' : Writer} (t : Tabled f n w k w') where
-  pub tabled-room : k < n → Room w' (f k)
-  tabled-room h = record { fits = omega (arith, t.room.fits, t.wrote.behind, t.wrote.long, up-to f n k h) }
+  pub tabled_start : Room w (joined (tabulate f n)) → Tabled f n w 0 w
+  unfolding tabulate joined
+  tabled_start room = tabled room (record { holds = sym (put_none w.buffer.now w.size); behind = sym (add-zero w.size); long = refl; same_buffer = refl })
 
-  pub tabled-more : {w'' : Writer} → k < n → Wrote w' (f k) w'' → Tabled f n w (k + 1) w''
-  tabled-more {w''} h next =
+  pub tabled_more : {k : ℕ} {w' w'' : Writer} → Tabled f n w k w' → k < n → Wrote w' (f k) w'' → Tabled f n w (k + 1) w''
+  tabled_more {k} {w'} {w''} t h next =
       let rows = joined (tabulate f k) in
       let fits : w.size + length rows ≤ length w.buffer.now = omega (arith, t.room.fits, up-to f n k h) in
-      record {
-        room = t.room;
-        wrote =
-            rw (more f k) (record {
-              holds = next.holds ∙ rw t.wrote.holds (put_put w.buffer.now rows (f k) w.size w'.size fits t.wrote.behind);
-              behind = omega (arith, next.behind, t.wrote.behind, length-append rows (f k));
-              long = next.long ∙ t.wrote.long;
-              same_buffer = next.same_buffer ∙ t.wrote.same_buffer;
-            });
-      }
+      tabled t.room (rw (more f k) (record {
+        holds = next.holds ∙ rw t.wrote.holds (put_put w.buffer.now rows (f k) w.size w'.size fits t.wrote.behind);
+        behind = omega (arith, next.behind, t.wrote.behind, length-append rows (f k));
+        long = next.long ∙ t.wrote.long;
+        same_buffer = next.same_buffer ∙ t.wrote.same_buffer;
+      }))
+
+pub ruleset tables = (tabled_start, tabled_more)

@@ -1,14 +1,8 @@
--- `report_lines::class_text::class_lines` meets its contract. The lines of the classes below i of the list are written (`Tabled`).
-use Prim.Native.Nat.{◌-◌}
-use lib.ListN.{length}
-use Rattle.text.proofs.Pieces.{Tabled}
+-- `report_lines::class_text::class_lines`: the lines of the classes so far are written.
+use Rattle.std.proofs.Common.{length}
+use Rattle.text.proofs.Written.{Tabled}
 use Rattle.report_lines.proofs.Listed.{class_line_at}
 use Rattle.report_lines.proofs.class_text.class_lines.Given as goal
 
-abbrev pub invariant-loop-i : goal.invariant-loop-i
-invariant-loop-i l =
-    Tabled (class_line_at l.classes l.lower l.upper) (length l.classes) l.initial.out l.at l.i l.out l.place
-
-abbrev pub decreases-loop-i : goal.decreases-loop-i
-decreases-loop-i l =
-    length l.classes - l.i
+abbrev pub invariant-loop-class : goal.invariant-loop-class
+invariant-loop-class l = Tabled (class_line_at l.classes l.lower l.upper) (length l.classes) l.initial.out l.class-index l.out
