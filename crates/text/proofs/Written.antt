@@ -39,6 +39,9 @@ module _ (f : ℕ → List ℕ) where
           let e : k ≡ n = omega arith in
           rw (e, joined-last) (omega (arith, length-append (joined (tabulate f n)) (f n)))
 
+pub wrote_none : (w : Writer) → Wrote w [] w
+wrote_none w = record { holds = sym (put_none w.buffer.now w.size); behind = sym (add-zero w.size); long = refl; same_buffer = refl }
+
 -- of n pieces, the values of a function, those below k are written, and there is room for the next
 pub record Tabled (f : ℕ → List ℕ) (n : ℕ) (w : Writer) (k : ℕ) (w' : Writer) : Type 0 where
   pub room : Room w (joined (tabulate f n))
@@ -52,7 +55,7 @@ module _ {f : ℕ → List ℕ} {n : ℕ} {w : Writer} where
 
   pub tabled_start : Room w (joined (tabulate f n)) → Tabled f n w 0 w
   unfolding tabulate joined
-  tabled_start room = tabled room (record { holds = sym (put_none w.buffer.now w.size); behind = sym (add-zero w.size); long = refl; same_buffer = refl })
+  tabled_start room = tabled room (wrote_none w)
 
   pub tabled_more : {k : ℕ} {w' w'' : Writer} → Tabled f n w k w' → k < n → Wrote w' (f k) w'' → Tabled f n w (k + 1) w''
   tabled_more {k} {w'} {w''} t h next =
