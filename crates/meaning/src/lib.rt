@@ -48,11 +48,7 @@ pub fn put_classes(source: Source, t: &Study, classes: &mut [Class]) -> Result<(
 }
 
 // The same of any study. Refused by 16, then 20, 21 or 22.
-pub fn judged_classes(
-    source: Source,
-    study: &Study,
-    classes: &mut [Class],
-) -> Result<(), Refusal>
+pub fn judged_classes(source: Source, study: &Study, classes: &mut [Class]) -> Result<(), Refusal>
     requires { most_joint_states ≤ length classes.old }
     ensures { Judged (meaning_of source.entry) study.now classes.old classes.new (breach_of result) }
 {
