@@ -7,6 +7,7 @@ ghost use Rattle.reading.specs.Reader.{read_of, byte_or, byte, word};
 use rules::{Refusal, stray_fault};
 
 // The bytes that are still to come.
+#[derive(Drop)]
 pub struct Cursor<'a> {
     pub rest: &'a [u8],
 }
