@@ -1,5 +1,4 @@
 pub mod Answers
-pub mod Counts
 pub mod FirstBreach
 pub mod Longest
 pub mod Opened

@@ -1,22 +1,27 @@
 -- Gates that are put in order one by one, as they are read: the run reads what the definition reads, with the inputs of each gate in order.
 use Prim.Native.Nat.{ℕ, zero, suc, ◌+◌}
 use mathlib.Core.Path.{◌≡◌, refl, sym, ap, ◌∙◌}
-use mathlib.Core.Bool.{Bool, true, false, false≢true}
 use mathlib.Core.List.{List, [], ◌∷◌, map}
-use borrow.Author.Tests.{eq-eqb}
-use lib.ListN.{drop, set}
+use lib.ListN.{set}
+use Rattle.std.proofs.Common.{length, take}
 use Rattle.lists.specs.Run.{each}
 use Rattle.lists.specs.Rows.{put}
-use Rattle.reading.specs.Reader.{Read, Reads, refused, got, and_then, return, turn, repeat, as_read}
-use Rattle.reading.proofs.After.{as_read-refused}
+use Rattle.reading.specs.Reader.{Read, refused, got, and_then, return, turn, repeat}
+use Rattle.reading.proofs.Alike.{Alike, alike_self, alike_then, alike-return}
+use Rattle.rules.specs.Limits.{most_components, most_gates, most_loads}
+use Rattle.rules.specs.Table.{left_fault}
 use Rattle.ordering.specs.Inputs.{paired, sorted}
 use Rattle.study.specs.declared.Gate.{Gate}
-use Rattle.study.specs.Zero.{zero_gate, no_gates}
+use Rattle.study.specs.declared.Study.{Study}
+use Rattle.study.specs.Joint.{states}
+use Rattle.study.specs.Zero.{zero_gate, no_components, no_gates, no_loads}
+use Rattle.answers.specs.Answered.{answered}
+use Rattle.answers.specs.Answers.{finished}
 use Rattle.gate_record.specs.Gate.{gate}
 use Rattle.gate_record.specs.Places.{gate_in_order}
-use Rattle.gate_order.specs.Order.{in_order}
-use Rattle.opening.specs.Opening.{gate_record, placing}
-use Rattle.opening.specs.Places.{gate_record_in_order}
+use Rattle.gate_order.specs.Order.{in_order, ordered}
+use Rattle.opening.specs.Opening.{count, component_record, gate_record, load_record, placing, records, study, refused_opening, answer, opened}
+use Rattle.opening.specs.Places.{gate_record_in_order, study_in_order}
 
 -- what was read, with the inputs of each gate in order
 abbrev pub all_in_order : Read (List Gate) → Read (List Gate)
@@ -57,37 +62,38 @@ module _ (counts : List ℕ) where
   gates-in-order n s =
       ap (λ (gs : List Gate). each (turn (placing (gate_record_in_order counts))) n 0 (got gs s)) (sym none-in-order) ∙ run-in-order n 0 (got no_gates s)
 
--- ---- what the definition reads
+-- ---- the study
 
-abbrev is_got : Read (List Gate) → Bool
-is_got (refused n) = false
-is_got (got gs rest) = true
+study-alike : Alike ordered study study_in_order
+unfolding study records study_in_order ordered
+study-alike =
+    alike_then _ (alike_self (count most_components))
+    (λ components.
+    alike_then _ (alike_self (count most_gates))
+    (λ gates.
+    alike_then _ (alike_self (count most_loads))
+    (λ loads.
+    alike_then _ (alike_self (repeat (placing component_record) components no_components))
+    (λ cs.
+    alike_then _ (record { alike = gates-in-order (take components (states cs)) gates })
+    (λ gs. alike_then _ (alike_self (repeat (placing (load_record gates)) loads no_loads)) (λ ls. alike-return refl))))))
 
-abbrev gates_of : Read (List Gate) → List Gate
-gates_of (refused n) = []
-gates_of (got gs rest) = gs
+-- the answer to a reading whose gates are in order
+pub opened-refused : (bytes : List ℕ) {n : ℕ} → refused n ≡ study_in_order bytes → refused_opening n ≡ opened bytes
+unfolding opened answer
+opened-refused bytes e = go (study bytes) (e ∙ study-alike.alike bytes)
+  where
+    go : {n : ℕ} (r : Read Study) → refused n ≡ and_then r (λ t. return (ordered t)) → refused_opening n ≡ answer r
+    go (refused m) e = cc
+    go (got t rest) e = cc
 
-abbrev rest_of : Read (List Gate) → List ℕ
-rest_of (refused n) = []
-rest_of (got gs rest) = rest
-
--- the gates as the bytes give them, which are held in order
-pub record HeldInOrder (s : List ℕ) (p n : ℕ) (held : List Gate) (r : Read (List Gate)) : Type 0 where
-  pub given : List Gate
-  pub reads : Reads s p n given r
-  pub in_order : held ≡ map in_order given
-
-module _ {s : List ℕ} {p n : ℕ} {held : List Gate} where
-  pub held-in-order : (r : Read (List Gate)) → Reads s p n held (all_in_order r) → p ≡ 0 → HeldInOrder s p n held r
-  unfolding as_read
-  held-in-order (refused m) h none =
-      let same : got held (drop n s) ≡ refused m = rw (eq-eqb p 0 none) at h.same in
-      absurd (false≢true (sym (ap is_got same)))
-  held-in-order (got gs rest) h none =
-      let same : got held (drop n s) ≡ got (map in_order gs) rest = rw (eq-eqb p 0 none) at h.same in
-      record { given = gs; reads = record { same = rw (eq-eqb p 0 none) (ap (got gs) (ap rest_of same)) }; in_order = ap gates_of same }
-
-  -- a refusal is that of the definition
-  pub refused-alike : (r : Read (List Gate)) → Reads s p n held (all_in_order r) → (p ≡ 0 → ⊥) → Reads s p n held r
-  refused-alike (refused m) h some = h
-  refused-alike (got gs rest) h some = absurd (false≢true (ap is_got (sym (as_read-refused s p n held some) ∙ h.same)))
+-- the end of the bytes is judged last
+pub opened-ended : (bytes : List ℕ) {t : Study} {rest : List ℕ} → got t rest ≡ study_in_order bytes
+    → answered refused_opening (left_fault (length rest)) (record { outcome = finished; study = t }) ≡ opened bytes
+unfolding opened answer
+opened-ended bytes e = go (study bytes) (e ∙ study-alike.alike bytes)
+  where
+    go : {t : Study} {rest : List ℕ} (r : Read Study) → got t rest ≡ and_then r (λ u. return (ordered u))
+        → answered refused_opening (left_fault (length rest)) (record { outcome = finished; study = t }) ≡ answer r
+    go (refused m) e = cc
+    go (got t rest) e = cc

@@ -1,68 +1,40 @@
 // The component records of a study.
-ghost use Rattle.std.specs.Prelude.{◌*◌, ◌≤◌, ◌≡◌, length, take};
+ghost use Rattle.std.specs.Prelude.{◌≡◌, ◌*◌, ◌≤◌, IfOk};
 ghost use Rattle.rules.specs.Limits.{most_components, most_joint_states};
-ghost use Rattle.reading.specs.Reader.{ReadsAt, ReadsWith, repeat};
-ghost use Rattle.study.specs.Joint.{states};
-ghost use Rattle.study.specs.Zero.{no_components};
+ghost use Rattle.reading.specs.Reader.{read_of, read_into, repeat};
 ghost use Rattle.opening.specs.Opening.{component_after, component_record, placing};
 
-use component_record::{ComponentRead, read_component};
-use rules::{COMPONENT_PLACES, first, width_fault};
-use study::{Component, no_components};
+use component_record::read_component;
+use reading::Cursor;
+use rules::{COMPONENT_PLACES, Refusal, width_fault};
+use study::Component;
 
-#[derive(Clone, Copy)]
-pub struct ComponentsRead {
-    pub refusal: u8,
-    pub next: usize,
-    pub component: [Component; COMPONENT_PLACES],
-}
-
-// A component after others that have so many joint states; where it is not refused, they stay within the limit.
-fn read_component_after(bytes: &[u8], at: usize, joint: u32) -> ComponentRead
+// A component after others that have so many joint states; with it they stay within the limit.
+#[tactic(auto, unfolding(crate::specs::Opening::component_after))]
+fn read_component_after(bytes: &mut Cursor, joint: u32) -> Result<Component, Refusal>
     requires { joint ≤ most_joint_states }
-    ensures { ReadsWith (λ c. joint * c.states ≤ most_joint_states) bytes.now at (component_after joint) result.refusal result.next result.component }
+    ensures reads { read_of result bytes.new.rest.now ≡ component_after joint bytes.old.rest.now }
+    ensures kept { IfOk result (λ c. joint * c.states ≤ most_joint_states) }
 {
-    let r = read_component(bytes, at);
-    let c = r.component;
-    ComponentRead {
-        refusal: first(r.refusal, width_fault(joint * c.states as u32)),
-        next: r.next,
-        component: c,
-    }
+    let c = read_component(bytes)?;
+    width_fault(joint * u32::from(c.states))?;
+    Ok(c)
 }
 
-// So many component records, each in its place, up to the first breach. Their state counts go to the front of a lent
-// row.
-pub fn read_components(bytes: &[u8], at: usize, n: usize, counts: &mut [u8]) -> ComponentsRead
-    requires count { n ≤ most_components }
-    requires row { length counts.old ≡ most_components }
-    ensures components { ReadsAt bytes.now at (repeat (placing component_record) n no_components)
-        result.refusal result.next result.component }
-    ensures counts { result.refusal ≡ 0 → take n counts.new ≡ take n (states result.component) }
+// So many component records, each in its place.
+pub fn read_components(
+    bytes: &mut Cursor,
+    n: u8,
+    component: &mut [Component; COMPONENT_PLACES],
+) -> Result<(), Refusal>
+    requires { n ≤ most_components }
+    ensures { read_into result component.new bytes.new.rest.now ≡ repeat (placing component_record) n component.old bytes.old.rest.now }
 {
-    let mut next = at;
-    let mut component = no_components();
     let mut joint: u32 = 1;
-    let mut i: usize = 0;
-    while i < n {
-        let r = read_component_after(bytes, next, joint);
-        if r.refusal != 0 {
-            return ComponentsRead {
-                refusal: r.refusal,
-                next,
-                component,
-            };
-        }
-        let c = r.component;
+    for i in 0..usize::from(n) {
+        let c = read_component_after(bytes, joint)?;
         component[i] = c;
-        counts[i] = c.states;
-        joint = joint * c.states as u32;
-        next = r.next;
-        i = i + 1;
+        joint *= u32::from(c.states);
     }
-    ComponentsRead {
-        refusal: 0,
-        next,
-        component,
-    }
+    Ok(())
 }
