@@ -1,30 +1,29 @@
--- What an edit answers where a breach stands, and where none does; and what it answers by the steps of the code.
-use Prim.Native.Nat.{ℕ}
-use mathlib.Core.Path.{◌≡◌}
-use mathlib.Core.Bool.{Bool}
-use mathlib.Core.List.{[], ◌∷◌}
-use Rattle.rules.specs.Breach.{first_breach}
-use Rattle.rules.specs.Table.{unsound_fault}
+-- What the rules that an edit keeps tell: the record that it changes has a place in the study.
+use Rattle.std.proofs.Common.{◌≡◌, ◌<◌, ℕ, Bool, true, false, refl, sym, arith}
+use Rattle.rules.specs.Breach.{refuse}
+use Rattle.rules.specs.Limits.{most_components, most_loads}
+use Rattle.rules.specs.Table.{unsound_fault, item_fault}
+use Rattle.rules.proofs.Judged.{judged}
+use Rattle.rules.proofs.Rows.{item-kept}
 use Rattle.study.specs.declared.Study.{Study}
 use Rattle.soundness.specs.Check.{sound}
-use Rattle.answers.proofs.Answered.{answered-done, answered-refused}
-use Rattle.editing.specs.Edits.{edited, refused_edit}
-use Rattle.answers.specs.Answers.{StudyAnswer, finished}
+use Rattle.soundness.specs.Sound.{Sound}
+use Rattle.soundness.proofs.Checked.{check-refuses}
+use Rattle.soundness.proofs.Ranges.{components-most, loads-most}
 
-pub edited-refused : (breach : ℕ) (old new : Study) → (breach ≡ 0 → ⊥) → edited breach old new ≡ refused_edit old breach
-unfolding edited
-edited-refused breach old new = answered-refused (refused_edit old) breach (record { outcome = finished; study = new })
+passed : (t : Study) → 0 ≡ unsound_fault (sound t) → Sound t
+unfolding refuse
+passed t kept = go (sound t) refl kept
+  where
+    go : (b : Bool) → sound t ≡ b → 0 ≡ unsound_fault b → Sound t
+    go true e kept = check-refuses t e
+    go false e kept = absurd (omega arith)
 
-pub edited-done : (breach : ℕ) (old new : Study) → breach ≡ 0 → edited breach old new ≡ record { outcome = finished; study = new }
-unfolding edited
-edited-done breach old new = answered-done (refused_edit old) breach (record { outcome = finished; study = new })
+module _ (t : Study) (i : ℕ) (kept : 0 ≡ unsound_fault (sound t)) where
+  pub component-there : 0 ≡ item_fault t.components i → i < most_components
+  component-there is = omega (arith, components-most t (passed t kept), item-kept t.components i (sym is))
 
--- the first breach: 16, then 17, then that of the field
-pub edit-judged : {fault unsound item field own wanted : ℕ} {is_sound : Bool} (t : Study) → fault ≡ first_breach (unsound ∷ item ∷ field ∷ [])
-    → is_sound ≡ sound t → unsound ≡ unsound_fault is_sound → item ≡ own → field ≡ wanted → fault ≡ first_breach (unsound_fault (sound t) ∷ own ∷ wanted ∷ [])
-edit-judged t e is judged is-item is_field = rw (← is, ← judged, ← is-item, ← is_field) e
+  pub load-there : 0 ≡ item_fault t.loads i → i < most_loads
+  load-there is = omega (arith, loads-most t (passed t kept), item-kept t.loads i (sym is))
 
--- the answer: the breach is judged, the record found at its place is made anew by f, and the study with it is put together
-pub record-edited : {A : Type 0} {answer : StudyAnswer} {fault breach : ℕ} {new : Study} {found own more : A} (old : Study) (put : A → Study) (f : A → A)
-    → answer ≡ edited fault old new → fault ≡ breach → found ≡ own → more ≡ f found → new ≡ put more → answer ≡ edited breach old (put (f own))
-record-edited old put f e judged is anew placed = rw (← judged, ← is, ← anew, ← placed) e
+pub ruleset edits = (judged, component-there, load-there)

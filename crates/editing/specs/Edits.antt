@@ -1,5 +1,6 @@
 -- The three edits of a study: the first breach refuses, and hands the study back as it was; otherwise one field is anew and nothing else.
-use Rattle.std.specs.Prelude.{ℕ, List, [], ◌∷◌}
+use Rattle.std.specs.Prelude.{ℕ, List, [], ◌∷◌, Result, Err}
+use Rattle.rules.specs.declared.refusal.Refusal.{Refusal}
 use Rattle.rules.specs.Breach.{first_breach}
 use Rattle.rules.specs.Limits.{most_customers, most_minutes}
 use Rattle.rules.specs.Table.{unsound_fault, item_fault, size_fault}
@@ -8,8 +9,11 @@ use Rattle.answers.specs.Answered.{answered}
 use Rattle.study.specs.Edits.{with_probabilities, with_customers, with_minutes, with_component, with_load}
 use Rattle.study.specs.Places.{component_at, load_at}
 use Rattle.soundness.specs.Check.{sound, probabilities_fault}
-use Rattle.std.specs.Prelude.{Err}
-use Rattle.answers.specs.Answers.{StudyAnswer, finished}
+use Rattle.answers.specs.Answers.{StudyAnswer, by_number, finished}
+
+-- what an edit in place answers, beside the study that it leaves
+abbrev pub edit_answer : Result (Unit {0}) Refusal → Study → StudyAnswer
+edit_answer result new = record { outcome = by_number result; study = new }
 
 -- a refused edit hands the study back as it was
 abbrev pub refused_edit : Study → ℕ → StudyAnswer

@@ -1,80 +1,70 @@
-// The edits of an opened study, each of one field. A refused edit hands the study back as it was.
+// The edits of an opened study, each of one field, in place. A refused edit leaves the study as it was.
 #![tactic(auto)]
 
-ghost use Rattle.std.specs.Prelude.{◌≡◌};
-ghost use Rattle.editing.specs.Edits.{edited, component_edit_fault, probabilities_set, load_edit_fault, customers_set, minutes_set};
+ghost use Rattle.std.specs.Prelude.{◌<◌, ◌≡◌, OnOk};
+ghost use Rattle.rules.specs.Limits.{most_components, most_loads};
+ghost use Rattle.rules.specs.Refusals.{breach_of};
+ghost use Rattle.editing.specs.Edits.{edit_answer, component_edit_fault, probabilities_set, load_edit_fault, customers_set, minutes_set};
 
-use answers::{Outcome, StudyAnswer};
-use rules::{MOST_CUSTOMERS, MOST_MINUTES, first_of_three, item_fault, size_fault, unsound_fault};
+use rules::{MOST_CUSTOMERS, MOST_MINUTES, Refusal, item_fault, size_fault, unsound_fault};
 use soundness::{is_sound, probabilities_fault};
-use study::{
-    Study, component_at, load_at, with_component, with_customers, with_load, with_minutes,
-    with_probabilities,
-};
+use study::{Component, Study};
 
-// Done with the new study, or refused with the old one.
-fn answer(fault: u8, old: Study, new: Study) -> StudyAnswer
-    ensures { result ≡ edited fault old new }
+// The first breach of an edit of component i's probabilities; without one there is such a component.
+#[tactic(auto, using(crate::proofs::Edited::edits), unfolding(crate::specs::Edits::component_edit_fault))]
+fn component_edit_fault(t: &Study, i: usize, p1: u32, p2: u32, p3: u32) -> Result<(), Refusal>
+    ensures judged { breach_of result ≡ component_edit_fault t.now i p1 p2 p3 }
+    ensures there { OnOk result (i < most_components) }
 {
-    if fault != 0 {
-        return StudyAnswer {
-            outcome: Outcome::Refused(fault),
-            study: old,
-        };
-    }
-    StudyAnswer {
-        outcome: Outcome::Done,
-        study: new,
-    }
-}
-
-// The first breach of an edit of component i's probabilities.
-fn component_edit_fault(t: Study, i: usize, p1: u32, p2: u32, p3: u32) -> u8
-    ensures { result ≡ component_edit_fault t i p1 p2 p3 }
-{
-    let c = component_at(t, i);
-    let unsound = unsound_fault(is_sound(t));
-    let item = item_fault(t.components, i);
-    let probabilities = probabilities_fault(c.states, p1, p2, p3);
-    first_of_three(unsound, item, probabilities)
+    unsound_fault(is_sound(t))?;
+    item_fault(t.components, i)?;
+    probabilities_fault(t.component[i].states, p1, p2, p3)
 }
 
 // Sets a component's probabilities of states 1 to 3. Refused by 16, 17, 5, 6, in this order.
-pub fn set_probabilities(study: Study, component: usize, p1: u32, p2: u32, p3: u32) -> StudyAnswer
-    ensures { result ≡ probabilities_set study component p1 p2 p3 }
+#[tactic(auto, using(answers::proofs::ByNumber::by_number), unfolding(crate::specs::Edits::probabilities_set, crate::specs::Edits::edited))]
+pub fn set_probabilities(
+    study: &mut Study,
+    component: usize,
+    p1: u32,
+    p2: u32,
+    p3: u32,
+) -> Result<(), Refusal>
+    ensures { edit_answer result study.new ≡ probabilities_set study.old component p1 p2 p3 }
 {
-    let fault = component_edit_fault(study, component, p1, p2, p3);
-    let c = component_at(study, component);
-    let new = with_component(component, with_probabilities(p1, p2, p3, c), study);
-    answer(fault, study, new)
+    component_edit_fault(study, component, p1, p2, p3)?;
+    let c = &mut study.component[component];
+    *c = Component { p1, p2, p3, ..*c };
+    Ok(())
 }
 
-// The first breach of an edit of load j to a number of at most `most`.
-fn load_edit_fault(t: Study, j: usize, most: u32, n: u32) -> u8
-    ensures { result ≡ load_edit_fault t j most n }
+// The first breach of an edit of load j to a number of at most `most`; without one there is such a load.
+#[tactic(auto, using(crate::proofs::Edited::edits), unfolding(crate::specs::Edits::load_edit_fault))]
+fn load_edit_fault(t: &Study, j: usize, most: u32, n: u32) -> Result<(), Refusal>
+    ensures judged { breach_of result ≡ load_edit_fault t.now j most n }
+    ensures there { OnOk result (j < most_loads) }
 {
-    let unsound = unsound_fault(is_sound(t));
-    let item = item_fault(t.loads, j);
-    let size = size_fault(most, n);
-    first_of_three(unsound, item, size)
+    unsound_fault(is_sound(t))?;
+    item_fault(t.loads, j)?;
+    size_fault(most, n)
 }
 
 // Sets the customers of a load. Refused by 16, 17, 14, in this order.
-pub fn set_customers(study: Study, load: usize, customers: u32) -> StudyAnswer
-    ensures { result ≡ customers_set study load customers }
+#[tactic(auto, using(answers::proofs::ByNumber::by_number), unfolding(crate::specs::Edits::customers_set, crate::specs::Edits::edited))]
+pub fn set_customers(study: &mut Study, load: usize, customers: u32) -> Result<(), Refusal>
+    ensures { edit_answer result study.new ≡ customers_set study.old load customers }
 {
-    let fault = load_edit_fault(study, load, MOST_CUSTOMERS, customers);
-    let l = load_at(study, load);
-    let new = with_load(load, with_customers(customers, l), study);
-    answer(fault, study, new)
+    load_edit_fault(study, load, MOST_CUSTOMERS, customers)?;
+    study.load[load].customers = customers;
+    Ok(())
 }
 
 // Sets the minutes of a load's restore time. Refused by 16, 17, 14, in this order.
-pub fn set_minutes(study: Study, load: usize, minutes: u32) -> StudyAnswer
-    ensures { result ≡ minutes_set study load minutes }
+#[tactic(auto, using(answers::proofs::ByNumber::by_number), unfolding(crate::specs::Edits::minutes_set, crate::specs::Edits::edited))]
+pub fn set_minutes(study: &mut Study, load: usize, minutes: u32) -> Result<(), Refusal>
+    ensures { edit_answer result study.new ≡ minutes_set study.old load minutes }
 {
-    let fault = load_edit_fault(study, load, MOST_MINUTES, minutes);
-    let l = load_at(study, load);
-    let new = with_load(load, with_minutes(minutes, l), study);
-    answer(fault, study, new)
+    load_edit_fault(study, load, MOST_MINUTES, minutes)?;
+    study.load[load].minutes = minutes;
+    Ok(())
 }

@@ -5,8 +5,7 @@
 ghost use Rattle.std.specs.Prelude.{ℕ, ◌≤◌, ◌<◌, ◌≡◌, length, get_or};
 ghost use Rattle.rules.specs.Limits.{most_components, most_states};
 ghost use Rattle.lists.specs.Product.{product};
-ghost use Rattle.study.specs.Zero.{no_components, no_gates, no_loads, zero_study};
-ghost use Rattle.study.specs.Edits.{with_customers, with_minutes};
+ghost use Rattle.study.specs.Zero.{zero_study};
 ghost use Rattle.study.specs.Joint.{states};
 ghost use Rattle.study.specs.Absent.{absent_component, absent_gate, absent_load};
 
@@ -53,24 +52,6 @@ pub struct Study {
 }
 
 // Places that no record uses, and fields that a record does not give.
-
-pub fn no_components() -> [Component; COMPONENT_PLACES]
-    ensures { result ≡ no_components }
-{
-    Default::default()
-}
-
-pub fn no_gates() -> [Gate; GATE_PLACES]
-    ensures { result ≡ no_gates }
-{
-    Default::default()
-}
-
-pub fn no_loads() -> [Load; LOAD_PLACES]
-    ensures { result ≡ no_loads }
-{
-    Default::default()
-}
 
 pub fn zero_study() -> Study
     ensures { result ≡ zero_study }
@@ -131,18 +112,4 @@ pub fn joint_states(counts: &[u8]) -> u32
         joint *= u32::from(*count);
     }
     joint
-}
-
-// A load with one field anew.
-
-pub fn with_customers(n: u32, l: Load) -> Load
-    ensures { result ≡ with_customers n l }
-{
-    Load { customers: n, ..l }
-}
-
-pub fn with_minutes(n: u32, l: Load) -> Load
-    ensures { result ≡ with_minutes n l }
-{
-    Load { minutes: n, ..l }
 }
