@@ -15,11 +15,11 @@ returns-in_err-pair_fault c =
     ∙ ap (λ need. pair_fault need (length c.args.lower.now) (length c.args.upper.now)) c.listed-listed.ensures.paths in
     rw told (pair-refused Err _ _ _ _ _ fault (numbered refusal))
 
-pub path_bounds-requires-clause-paths_in_bounds : goal.path_bounds-requires-clause-paths_in_bounds
-path_bounds-requires-clause-paths_in_bounds c = (pair-room (sym c.in_ok-pair_fault.ensures)).in_lower
+pub path_bounds-requires : goal.path_bounds-requires
+path_bounds-requires c = (pair-room (sym c.in_ok-pair_fault.ensures)).in_lower
 
-pub path_bounds-requires-2-clause-paths_in_bounds : goal.path_bounds-requires-2-clause-paths_in_bounds
-path_bounds-requires-2-clause-paths_in_bounds c = (pair-room (sym c.in_ok-pair_fault.ensures)).in_upper
+pub path_bounds-requires-2 : goal.path_bounds-requires-2
+path_bounds-requires-2 c = (pair-room (sym c.in_ok-pair_fault.ensures)).in_upper
 
 pub returns : goal.returns
 returns c =
