@@ -12,11 +12,7 @@ use study_model::{ModelInHand, hold};
 
 // Lists the paths of a study in the order of its components, at the front of a lent buffer; answers how many there are.
 // Refused by 16, then 20, 21 or 22, then 18.
-pub fn list_paths(
-    study: &Study,
-    source: Source,
-    buffer: &mut [u8],
-) -> Result<PathCount, Refusal>
+pub fn list_paths(study: &Study, source: Source, buffer: &mut [u8]) -> Result<PathCount, Refusal>
     ensures answer { by_number result ≡ paths_listed (meaning_of source.entry) study.now buffer.old }
     ensures buffer { buffer.new ≡ buffer_listed (meaning_of source.entry) study.now buffer.old }
 {
