@@ -4,7 +4,6 @@
 ghost use Rattle.export_answers.specs.Answers.{two};
 ghost use Rattle.export_survival.specs.Chances.{GivesChances};
 
-use answers::SurvivalAnswer;
 use export_answers::{hand_pair, refused};
 
 // The chances of surviving so many hours at a rate in FIT, and of a failure in them: lower and upper bound of each in
@@ -24,11 +23,11 @@ pub fn survival(
         (two failure_lower.new failure_upper.new) result }
 {
     match survival::survival(fit, hours) {
-        SurvivalAnswer::Chances(chances) => {
+        Ok(chances) => {
             hand_pair(chances.survival, survival_lower, survival_upper);
             hand_pair(chances.failure, failure_lower, failure_upper);
             0
         }
-        SurvivalAnswer::Refused(number) => refused(number),
+        Err(refusal) => refused(refusal),
     }
 }
