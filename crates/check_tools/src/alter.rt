@@ -4,76 +4,38 @@
 //
 //     0 the study        00 number of components, 01 number of gates, 02 number of loads
 //     1 a component      10 state count, 11 12 13 probability of that state
-//     2 a gate           20 threshold, 21 number of tests, 22 component of a test, 23 mask of a test, 24 number of gate inputs, 25 gate input
+//     2 a gate           20 threshold, 21 number of tests, 22 component of a test, 23 mask of a test, 24 number of gate
+//                        inputs, 25 gate input
 //     3 a load           30 loss gate, 31 customers, 32 minutes
 use rules::{COMPONENT_PLACES, GATE_PLACES, INPUT_PLACES, LOAD_PLACES, TEST_PLACES};
-use study::{Component, Gate, Load, Study};
+use study::Study;
 
-// A field of four bytes: the new value where it is the one to alter, else the old.
-fn number(this: bool, new: u32, old: u32) -> u32 {
-    if this { new } else { old }
-}
-
-// A field of one byte, likewise: the lowest byte of the new value.
-fn byte(this: bool, new: u32, old: u8) -> u8 {
-    if this { (new % 256) as u8 } else { old }
-}
-
-// The component with one field anew.
-fn altered_component(field: u8, value: u32, c: Component) -> Component {
-    Component {
-        states: byte(field == 0x10, value, c.states),
-        p1: number(field == 0x11, value, c.p1),
-        p2: number(field == 0x12, value, c.p2),
-        p3: number(field == 0x13, value, c.p3),
-    }
-}
-
-// The gate with one field anew; a test or a gate input is the one in this place.
-fn altered_gate(field: u8, place: usize, value: u32, gate: Gate) -> Gate {
-    let mut g = gate;
-    let new = (value % 256) as u8;
+// The study with one field of this item anew; a test or a gate input is the one in this place. A field of one byte
+// takes the lowest byte of the value.
+pub fn altered(field: u8, item: usize, place: usize, value: u32, study: &Study) -> Study {
+    let mut study = *study;
+    let [byte, ..] = value.to_le_bytes();
+    let component = item % COMPONENT_PLACES;
+    let gate = item % GATE_PLACES;
+    let load = item % LOAD_PLACES;
     match field {
-        0x20 => g.threshold = new,
-        0x21 => g.tests = new,
-        0x22 => g.component[place % TEST_PLACES] = new,
-        0x23 => g.mask[place % TEST_PLACES] = new,
-        0x24 => g.gates = new,
-        _ => g.input[place % INPUT_PLACES] = new,
+        0x00 => study.components = byte,
+        0x01 => study.gates = byte,
+        0x02 => study.loads = byte,
+        0x10 => study.component[component].states = byte,
+        0x11 => study.component[component].p1 = value,
+        0x12 => study.component[component].p2 = value,
+        0x13 => study.component[component].p3 = value,
+        0x20 => study.gate[gate].threshold = byte,
+        0x21 => study.gate[gate].tests = byte,
+        0x22 => study.gate[gate].component[place % TEST_PLACES] = byte,
+        0x23 => study.gate[gate].mask[place % TEST_PLACES] = byte,
+        0x24 => study.gate[gate].gates = byte,
+        0x25..=0x2f => study.gate[gate].input[place % INPUT_PLACES] = byte,
+        0x30 => study.load[load].gate = byte,
+        0x31 => study.load[load].customers = value,
+        0x32 => study.load[load].minutes = value,
+        _ => {}
     }
-    g
-}
-
-// The load with one field anew.
-fn altered_load(field: u8, value: u32, l: Load) -> Load {
-    Load {
-        gate: byte(field == 0x30, value, l.gate),
-        customers: number(field == 0x31, value, l.customers),
-        minutes: number(field == 0x32, value, l.minutes),
-    }
-}
-
-// The study with one field of this item anew.
-pub fn altered(field: u8, item: usize, place: usize, value: u32, study: Study) -> Study {
-    let mut t = study;
-    match field / 16 {
-        0 => {
-            t.components = byte(field == 0x00, value, t.components);
-            t.gates = byte(field == 0x01, value, t.gates);
-            t.loads = byte(field == 0x02, value, t.loads);
-        }
-        1 => t.component[item % COMPONENT_PLACES] = altered_component(
-            field,
-            value,
-            t.component[item % COMPONENT_PLACES],
-        ),
-        2 => t.gate[item % GATE_PLACES] = altered_gate(
-            field,
-            place,
-            value,
-            t.gate[item % GATE_PLACES],
-        ),
-        _ => t.load[item % LOAD_PLACES] = altered_load(field, value, t.load[item % LOAD_PLACES]),
-    }
-    t
+    study
 }

@@ -1,44 +1,34 @@
-// Writes lines of decimal numbers that are parted by single blanks; counts.
-ghost use Rattle.std.specs.Prelude.{◌≤◌};
+// The numbers of a line: what parts them, and what a call answered.
+ghost use Rattle.std.specs.Prelude.{◌≡◌};
+ghost use Rattle.rules.specs.Refusals.{breach_of};
 
-// 1 where it is so, and 0 where not.
-pub fn one_if(so: bool) -> u64
-    ensures { result ≤ 1 }
-{
-    if so { 1 } else { 0 }
-}
+use rules::Refusal;
+use std::fmt;
 
 // What stands behind a number of a line: a blank, or the end of the line.
-pub fn separator(last: bool) -> u8 {
-    if last { b'\n' } else { b' ' }
+pub fn separator(last: bool) -> char {
+    if last { '\n' } else { ' ' }
 }
 
-// A number of a line; the last one ends it.
-pub fn number(n: u64, last: bool) {
-    let behind = [separator(last)];
-    io::print_decimal(1, n);
-    io::write_all(1, &behind);
+// The number of the refusal, and 0 where there is none.
+pub fn refusal_number<T>(answer: &Result<T, Refusal>) -> u8
+    ensures { result ≡ breach_of answer.now }
+{
+    match answer {
+        Ok(_) => 0,
+        Err(refusal) => refusal.number(),
+    }
 }
 
-// A number of a line, from a byte.
-pub fn byte(n: u8, last: bool) {
-    number(n as u64, last);
-}
+// The refusal, 0 for none, and how many paths or bytes were written, 0 where refused.
+#[derive(Clone, Copy)]
+pub struct Counted(pub Result<u32, Refusal>);
 
-// A line of two numbers.
-pub fn two(a: u64, b: u64) {
-    number(a, false);
-    number(b, true);
-}
-
-// A line of three numbers.
-pub fn three(a: u64, b: u64, c: u64) {
-    number(a, false);
-    number(b, false);
-    number(c, true);
-}
-
-// An empty line, or the end of a line that is no row of numbers.
-pub fn end() {
-    io::write_all(1, b"\n");
+impl fmt::Display for Counted {
+    fn fmt<W: fmt::Write>(&self, f: &mut fmt::Formatter<W>) -> fmt::Result {
+        match self.0 {
+            Ok(count) => write!(f, "0 {count}"),
+            Err(refusal) => write!(f, "{} 0", refusal.number()),
+        }
+    }
 }

@@ -1,124 +1,95 @@
-// Shows what two lent slices of 64-bit places hold after a call: lower and upper bounds at their front, how many places behind them kept their
-// number, and how many hold the same as those of cleared slices.
-ghost use Rattle.std.specs.Prelude.{◌≤◌, ◌≡◌, length};
-ghost use Rattle.io.specs.Counts.{IsPrefixLen};
+// Shows what two lent slices of 64-bit places hold after a call: lower and upper bounds at their front, how many places
+// behind them kept their number, and how many hold the same as those of cleared slices.
+ghost use Rattle.std.specs.Prelude.{◌≤◌, length};
 
-use crate::numbers;
-use crate::numbers::one_if;
+use crate::numbers::{Counted, refusal_number};
+use rules::Refusal;
+use std::io;
 
 // What each place holds before a call: the largest number, which is no bound.
-pub const UNTOUCHED: u64 = 18446744073709551615;
+pub const UNTOUCHED: u64 = u64::MAX;
 
-// 512 places that no call has touched.
-pub fn untouched_places() -> [u64; 512]
-    ensures { 512 ≡ length result }
-{
-    [UNTOUCHED; 512]
-}
-
-// How many places a front part of some places has: as many as asked for, or all where they are fewer.
-pub fn front_count(places: &[u64], count: usize) -> usize
-    ensures { IsPrefixLen result places.now }
-{
-    if count < places.len() {
-        count
-    } else {
-        places.len()
-    }
-}
-
-// The number at a place, and 0 for one that is missing.
-fn place_at(places: &[u64], at: usize) -> u64 {
-    if at < places.len() {
-        return places[at];
-    }
-    0
-}
-
-// Shows the two bounds of a place on a line. Where the places are classes, the class stands before them, and one with two bounds of 0 is left out.
-fn show_place(place: usize, lower: u64, upper: u64, classes: bool) {
-    if !classes {
-        numbers::two(lower, upper);
-    } else if lower | upper != 0 {
-        numbers::three(place as u64, lower, upper);
-    }
-}
-
-// Shows the two bounds of so many places.
-fn show_bounds(lower: &[u64], upper: &[u64], count: usize, classes: bool) {
-    let mut i: usize = 0;
-    while i < count {
-        show_place(i, place_at(lower, i), place_at(upper, i), classes);
-        i = i + 1;
-    }
-}
-
-// How many places from one on were touched or not, as asked for.
-fn touched_from(places: &[u64], from: usize, touched: bool) -> u64
+// How many places no call touched.
+fn untouched(places: &[u64]) -> usize
     ensures { result ≤ length places.now }
 {
-    let mut count: u64 = 0;
-    let mut i = from;
-    while i < places.len() {
-        count = count + one_if((places[i] != UNTOUCHED) == touched);
-        i = i + 1;
+    places.iter().filter(|place| **place == UNTOUCHED).count()
+}
+
+// Shows how many places of both slices were not touched, and how many were, on a line.
+fn show_touched(out: &impl Print, lower: &[u64], upper: &[u64]) -> io::Result<()> {
+    let kept = untouched(lower) + untouched(upper);
+    println!(out; "{kept} {}", lower.len() + upper.len() - kept)
+}
+
+// Shows the refusal, 0 for none, and the number of paths on a line; then the two bounds of each path.
+pub fn show_path_bounds(
+    out: &impl Print,
+    answer: Result<u32, Refusal>,
+    lower: &[u64],
+    upper: &[u64],
+) -> io::Result<()> {
+    println!(out; "{}", Counted(answer))?;
+    for (lower, upper) in lower.iter().zip(upper) {
+        println!(out; "{lower} {upper}")?;
     }
-    count
+    Ok(())
 }
 
-// How many places of both slices from one on were touched or not, as asked for.
-fn both_touched_from(lower: &[u64], upper: &[u64], from: usize, touched: bool) -> u64
-    requires lower_len_bound { length lower.now ≤ 512 }
-    requires upper_len_bound { length upper.now ≤ 512 }
-{
-    touched_from(lower, from, touched) + touched_from(upper, from, touched)
-}
-
-// Shows how many places of both slices from one on were not touched, and how many were, on a line.
-fn show_touched(lower: &[u64], upper: &[u64], from: usize)
-    requires lower_len_bound { length lower.now ≤ 512 }
-    requires upper_len_bound { length upper.now ≤ 512 }
-{
-    numbers::two(
-        both_touched_from(lower, upper, from, false),
-        both_touched_from(lower, upper, from, true),
-    );
-}
-
-// Shows the refusal, 0 for none, and the number of paths on a line, without that number for classes; then the bounds of so many places, and how
-// many places behind them were not touched.
-pub fn show_filled(refusal: u8, count: u32, lower: &[u64], upper: &[u64], classes: bool)
-    requires lower_len_bound { length lower.now ≤ 512 }
-    requires upper_len_bound { length upper.now ≤ 512 }
-{
-    numbers::byte(refusal, classes);
-    if !classes {
-        numbers::number(count as u64, true);
+// Shows the refusal, 0 for none, on a line; then each class whose bounds are not both 0, with its bounds.
+pub fn show_class_bounds(
+    out: &impl Print,
+    answer: Result<u32, Refusal>,
+    lower: &[u64],
+    upper: &[u64],
+) -> io::Result<()> {
+    println!(out; "{}", refusal_number(&answer))?;
+    for (class, (lower, upper)) in lower.iter().zip(upper).enumerate() {
+        if *lower | *upper != 0 {
+            println!(out; "{class} {lower} {upper}")?;
+        }
     }
-    show_bounds(lower, upper, count as usize, classes);
-    show_touched(lower, upper, count as usize);
+    Ok(())
+}
+
+// Shows the bounds that a call put at the front of two slices, as they are shown; then how many places behind them were
+// not touched, and how many were, on a line.
+pub fn show_bounded<F: FnOnce(Result<u32, Refusal>, &[u64], &[u64]) -> io::Result<()>>(
+    out: &impl Print,
+    answer: Result<u32, Refusal>,
+    lower: &[u64],
+    upper: &[u64],
+    show: F,
+) -> io::Result<()>
+    requires { F.IsAlwaysCallable show }
+{
+    let count = answer.unwrap_or(0) as usize;
+    let (lower, lower_behind) = lower.split_at(count.min(lower.len()));
+    let (upper, upper_behind) = upper.split_at(count.min(upper.len()));
+    show(answer, lower, upper)?;
+    show_touched(out, lower_behind, upper_behind)
 }
 
 // How many places of a slice hold the same number as those of another.
-fn alike(places: &[u64], others: &[u64]) -> u64
+fn alike(places: &[u64], others: &[u64]) -> usize
     ensures { result ≤ length places.now }
 {
-    let mut count: u64 = 0;
-    let mut i: usize = 0;
-    while i < places.len() {
-        count = count + one_if(places[i] == place_at(others, i));
-        i = i + 1;
-    }
-    count
+    places
+        .iter()
+        .zip(others)
+        .filter(|(place, other)| *place == *other)
+        .count()
 }
 
-// Shows how many places of both slices hold the same as those of slices that were cleared before the call, and how many were not touched, on a line.
-pub fn show_overwritten(lower: &[u64], upper: &[u64], cleared_lower: &[u64], cleared_upper: &[u64])
-    requires lower_len_bound { length lower.now ≤ 512 }
-    requires upper_len_bound { length upper.now ≤ 512 }
-{
-    numbers::two(
-        alike(lower, cleared_lower) + alike(upper, cleared_upper),
-        both_touched_from(lower, upper, 0, false),
-    );
+// Shows how many places of both slices hold the same as those of slices that were cleared before the call, and how many
+// were not touched, on a line.
+pub fn show_overwritten(
+    out: &impl Print,
+    lower: &[u64],
+    upper: &[u64],
+    cleared_lower: &[u64],
+    cleared_upper: &[u64],
+) -> io::Result<()> {
+    let same = alike(lower, cleared_lower) + alike(upper, cleared_upper);
+    println!(out; "{same} {}", untouched(lower) + untouched(upper))
 }

@@ -1,23 +1,35 @@
-// Shows what a call for a text, or for the bytes of a study, answers, and what the lent bytes then hold.
-use crate::hexadecimal::show_bytes;
-use crate::listing::{front_size, show_held};
-use crate::numbers;
+// Shows what a call that fills lent bytes answers, and what the bytes then hold.
+use crate::numbers::Counted;
+use rules::Refusal;
+use std::io;
 
-// Shows what was written: in hexadecimal, or as a text on a line.
-fn show_front(front: &[u8], hexadecimal: bool) {
-    if hexadecimal {
-        show_bytes(front);
-    } else {
-        io::write_all(1, front);
-        numbers::end();
-    }
+// How many of the bytes hold a value, and how many do not, on a line.
+fn show_held(out: &impl Print, bytes: &[u8], value: u8) -> io::Result<()> {
+    let held = bytes.iter().filter(|byte| **byte == value).count();
+    println!(out; "{held} {}", bytes.len() - held)
 }
 
-// Shows the refusal, 0 for none, and the number of bytes on a line; then what was written, and how many of the bytes behind it hold what all
-// bytes held.
-pub fn show_text(refusal: u8, count: u32, lent: &[u8], fill: u8, hexadecimal: bool) {
-    numbers::two(refusal as u64, count as u64);
-    let size = front_size(lent, count as usize);
-    show_front(&lent[..size], hexadecimal);
-    show_held(&lent[size..], fill);
+// Shows the refusal, 0 for none, and the count on a line; then what was written, each of so many bytes, as it is shown;
+// and how many of the bytes behind it hold what all bytes held.
+pub fn show_written<F: FnOnce(&[u8]) -> io::Result<()>>(
+    out: &impl Print,
+    answer: Result<u32, Refusal>,
+    width: u16,
+    lent: &[u8],
+    fill: u8,
+    show: F,
+) -> io::Result<()>
+    requires { F.IsAlwaysCallable show }
+{
+    println!(out; "{}", Counted(answer))?;
+    let size = answer.unwrap_or(0) as usize * usize::from(width);
+    let (front, behind) = lent.split_at(size.min(lent.len()));
+    show(front)?;
+    show_held(out, behind, fill)
+}
+
+// Shows a text on a line.
+pub fn show_text(out: &impl Print, text: &[u8]) -> io::Result<()> {
+    out.write_all(text)?;
+    println!(out; "")
 }

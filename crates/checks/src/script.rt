@@ -1,50 +1,31 @@
-// The script, line by line: a line that starts with `#` is copied, an empty line is skipped, and any other is a command.
-ghost use Rattle.std.specs.Prelude.{◌≤◌, length};
-
+// The script, line by line: a line that starts with `#` is copied, an empty line is skipped, and any other is a
+// command.
 use crate::commands::obey;
-use check_tools::hexadecimal::{byte_at, decode};
-use check_tools::numbers;
+use check_tools::hexadecimal::decode;
+use check_tools::texts::show_text;
+use std::io;
 use study::{Study, zero_study};
 
-// Where the line that begins at a place ends: at its line feed, or at the script's end.
-fn line_end(script: &[u8], start: usize) -> usize
-    requires { start ≤ length script.now }
-    ensures { (start ≤ result) × (result ≤ length script.now) }
-{
-    let mut end = start;
-    while end < script.len() {
-        if script[end] == b'\n' {
-            return end;
+// The most bytes that a command has.
+const COMMAND_BYTES: usize = 4096;
+
+// Copies a comment, or does what the line asks of the current study.
+fn do_line(out: &impl Print, line: &[u8], study: &mut Study) -> io::Result<()> {
+    match line {
+        [] => Ok(()),
+        [b'#', ..] => show_text(out, line),
+        [letter, digits @ ..] => {
+            let mut bytes = [0; COMMAND_BYTES];
+            obey(out, *letter, decode(digits, &mut bytes), study)
         }
-        end = end + 1;
     }
-    end
 }
 
-// Obeys a command whose bytes stand in hexadecimal, at most 4,096 of them, and hands on the study that is current after it.
-fn obey_line(line: &[u8], study: Study) -> Study {
-    let mut bytes = io::buffer();
-    let size = decode(line, &mut bytes);
-    obey(byte_at(line, 0), &bytes[..size], study)
-}
-
-// Copies a comment, or does what the line asks, and hands on the study that is current after it.
-fn do_line(line: &[u8], study: Study) -> Study {
-    if byte_at(line, 0) == b'#' {
-        io::write_all(1, line);
-        numbers::end();
-        return study;
-    }
-    obey_line(line, study)
-}
-
-// Does what each line asks. At the start the current study is one of zeros, as a refused opening returns it.
-pub fn run(script: &[u8]) {
+// Does what each line asks. At the start the current study is one of zeros, as after a refused opening.
+pub fn run(out: &impl Print, script: &[u8]) -> io::Result<()> {
     let mut study = zero_study();
-    let mut start: usize = 0;
-    while start < script.len() {
-        let end = line_end(script, start);
-        study = do_line(&script[start..end], study);
-        start = end + 1;
+    for line in script.split(|byte| *byte == b'\n') {
+        do_line(out, line, &mut study)?;
     }
+    Ok(())
 }

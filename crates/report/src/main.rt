@@ -6,7 +6,7 @@ ghost use Rattle.rules.specs.Limits.{longest_study};
 ghost use Rattle.entries.specs.Entries.{class_places};
 ghost use Rattle.report_text.specs.Report.{report_bytes};
 
-use planning::{CLASS_PLACES, CountAnswer, LONGEST_STUDY, REPORT_BYTES};
+use planning::{CLASS_PLACES, LONGEST_STUDY, REPORT_BYTES};
 
 // The longest study and a byte more: what opening answers to so many bytes, it answers whatever follows them.
 const INPUT_BYTES: usize = LONGEST_STUDY + 1;
@@ -31,17 +31,15 @@ fn empty_bounds() -> [u64; CLASS_PLACES]
     [0; CLASS_PLACES]
 }
 
+// Over the kit's `io`, so that the program rests on `read` and `write` of the C library alone, where reading and
+// printing by std rest on `errno` too. A report that can't be written is lost, and nobody is told.
 fn main() {
     let mut input = empty_input();
     let got = io::read_full(0, &mut input);
     let mut out = empty_text();
     let mut lower = empty_bounds();
     let mut upper = empty_bounds();
-    let answer = planning::report(&input[..got], &mut out, &mut lower, &mut upper);
-    match answer {
-        CountAnswer::Count(size) => {
-            io::write_all(1, &out[..size as usize]);
-        }
-        CountAnswer::Refused(_) => {}
+    if let Ok(size) = planning::report(&input[..got], &mut out, &mut lower, &mut upper) {
+        io::write_all(1, &out[..size as usize]);
     }
 }

@@ -1,11 +1,9 @@
--- `check_tools::listing::show_entries` is safe and ends: each entry leaves fewer bytes.
-use lib.ListN.{length}
+-- `check_tools::listing::show_entries` is safe: each entry that comes is whole.
+use Rattle.std.proofs.Common.{◌≡◌}
+use Rattle.entries.specs.Entries.{entry_bytes}
 use Rattle.check_tools.proofs.listing.show_entries.Given as goal
 
-abbrev pub invariant-loop-rest : goal.invariant-loop-rest
-invariant-loop-rest l =
-    Unit {0}
-
-abbrev pub decreases-loop-rest : goal.decreases-loop-rest
-decreases-loop-rest l =
-    length l.rest
+abbrev pub invariant-loop-bytes : goal.invariant-loop-bytes
+invariant-loop-bytes g l =
+    (goal.iterator-loop-bytes g).can_next l.bytes-iterator × (goal.iterator-loop-bytes g).is_finite l.bytes-iterator
+    × (l.bytes-iterator.size ≡ entry_bytes l.n)
