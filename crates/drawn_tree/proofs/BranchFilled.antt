@@ -63,7 +63,7 @@ module _ (class mark : ℕ) (later behind : List ℕ) where
       let first = take (product later) block in
       let rest = drop (product later) block in
       sym (painted-append suited (λ x. class) rows [] first rest (length-joint_states later
-          ∙ sym (length-take-le (product later) block room)))
+      ∙ sym (length-take-le (product later) block room)))
       ∙ ap (λ (l : List (List ℕ)). painted suited (λ x. class) l (first ++ rest)) (append-nil rows)
       ∙ ap (painted suited (λ x. class) rows) (take-append-drop (product later) block)
 
@@ -81,7 +81,7 @@ module _ (class mark : ℕ) (later behind : List ℕ) where
         let more = passed n k (s + 1) rest enough (λ j least less. others j (omega arith) (omega arith)) in
         let none = painted-none (λ x. false) (λ x. class) (joint_states later) (take m block) (λ j h. refl) in
         let first : own (eqb mark blank_mark || eqb mark s) (take m block)
-            ≡ take m block = rw (ne_eqb mark blank_mark settled, ne_eqb mark s other) none in
+        ≡ take m block = rw (ne_eqb mark blank_mark settled, ne_eqb mark s other) none in
         let turn : suc n + k ≡ suc (n + k) = omega arith in
         let place : s + 1 + n ≡ s + suc n = omega arith in
         let front : m + n * m ≡ suc n * m = omega arith in
@@ -114,11 +114,11 @@ module _ (class mark : ℕ) (later behind : List ℕ) where
     own-part n block room =
         let m = product later in
         let here : (eqb mark blank_mark || eqb mark mark) ≡ true = rw
-            (ne_eqb mark blank_mark settled, eq-eqb mark mark refl) refl in
+        (ne_eqb mark blank_mark settled, eq-eqb mark mark refl) refl in
         let enough : n * m ≤ length (drop m block) = rw (length-drop m block) (omega (arith, room)) in
         left-next mark n block (omega (arith, room))
         ∙ (λ i. own (here i) (take m block) ++ all-passed n (mark + 1) (drop m block) enough
-            (λ j least less same. omega arith) i)
+        (λ j least less same. omega arith) i)
         ∙ filled-first block (omega (arith, room))
 
     own-only : (states : ℕ) (block : List ℕ) → states * product later ≤ length block → mark < states
@@ -196,7 +196,7 @@ module _ {counts marks block : List ℕ} (b : Branch counts marks block) where
       (get_or marks 0 0 ∷ drop 1 marks) class block ≡ branch_filled counts marks class block
   split class =
       λ i. branch_filled (sym (first-and-later counts b.some) i) (sym (first-and-later marks (omega
-          (arith, b.some, b.few))) i) class block
+      (arith, b.some, b.few))) i) class block
 
   whole-room : get_or counts 0 0 * product (drop 1 counts) ≤ length block
   whole-room = omega (arith, shares counts block b.whole b.some)
@@ -208,7 +208,7 @@ module _ {counts marks block : List ℕ} (b : Branch counts marks block) where
     pub settled-nowhere : get_or counts 0 0 ≤ get_or marks 0 0 → block ≡ branch_filled counts marks class block
     settled-nowhere high =
         sym (no_own class (get_or marks 0 0) (drop 1 counts) (drop 1 marks) settled
-            (get_or counts 0 0) block whole-room high) ∙ split class
+        (get_or counts 0 0) block whole-room high) ∙ split class
 
     -- the part of its state is filled
     pub settled-filled : get_or marks 0 0 < get_or counts 0 0 → (p : List ℕ)
@@ -222,7 +222,7 @@ module _ {counts marks block : List ℕ} (b : Branch counts marks block) where
         let is-size : m ≡ product (drop 1 counts) = part-size counts block b.whole b.some in
         let rest : List ℕ = drop n block in
         let enough : product (drop 1 counts) ≤ length rest = rw (length-drop n block) (omega
-            (arith, is-size, branch-inside (get_or marks 0 0) low)) in
+        (arith, is-size, branch-inside (get_or marks 0 0) low)) in
         let first : p ++ drop m rest ≡ branch_filled (drop 1 counts) (drop 1 marks) class rest
         = ap (λ (l : List ℕ). l ++ drop m rest) wrote
         ∙ ap (λ (k : ℕ). branch_filled (drop 1 counts) (drop 1 marks) class (take k rest) ++ drop k rest) is-size
@@ -230,7 +230,7 @@ module _ {counts marks block : List ℕ} (b : Branch counts marks block) where
         let own : branch_filled (get_or counts 0 0 ∷ drop 1 counts) (get_or marks 0 0 ∷ drop 1 marks) class block
         ≡ take n block ++ branch_filled (drop 1 counts) (drop 1 marks) class rest
         = rw is-size (own-only class (get_or marks 0 0) (drop 1 counts) (drop 1 marks) settled
-            (get_or counts 0 0) block whole-room low) in
+        (get_or counts 0 0) block whole-room low) in
         rw add-sub_cancel_left (ap (λ (l : List ℕ). take n block ++ l) first ∙ sym own ∙ split class)
 
 -- ---- its mark is blank: the parts of the states below s are filled
@@ -240,7 +240,7 @@ pub record Filled (counts marks : List ℕ) (class : ℕ) (block₀ : List ℕ) 
   pub long : length block ≡ length block₀
   pub same : take (s * (length block₀ / get_or counts 0 0)) block
       ++ left class blank_mark (drop 1 counts) (drop 1 marks) s (get_or counts 0 0 - s) (drop (s *
-          (length block₀ / get_or counts 0 0)) block)
+      (length block₀ / get_or counts 0 0)) block)
       ≡ branch_filled counts marks class block₀
 
 pub filled_start : {counts marks block : List ℕ} (class : ℕ) → Branch counts marks block
@@ -257,7 +257,7 @@ module _ {counts marks : List ℕ} {class : ℕ} {block₀ : List ℕ} {s : ℕ}
       let none : get_or counts 0 0 - s ≡ 0 = omega arith in
       sym (take-append-drop from block)
       ∙ ap (λ (l : List ℕ). take from block ++ l) (sym (left-none class blank_mark (drop 1 counts) (drop 1 marks) s
-          (drop from block)))
+      (drop from block)))
       ∙ (rw none at f.same)
 
   -- the part of state s is filled too
@@ -277,17 +277,17 @@ module _ {counts marks : List ℕ} {class : ℕ} {block₀ : List ℕ} {s : ℕ}
       let inside : from + size ≤ length block = omega (arith, branch-inside f.branch s h, f.long) in
       let old : List ℕ = take size (drop from block) in
       let long : length p ≡ size = ap length wrote ∙ length-painted (λ x. fits x behind) (λ x. class)
-          (joint_states later) old
+      (joint_states later) old
       ∙ length-take-le size (drop from block) (rw (length-drop from block) (omega (arith, inside))) in
       let more : get_or counts 0 0 - s ≡ suc n = omega arith in
       let rest = left class blank_mark later behind (s + 1) n in
       let enough : product later ≤ length (drop from block) = rw (length-drop from block, sym is-size) (omega
-          (arith, inside)) in
+      (arith, inside)) in
       let next : p ++ rest (drop (from + size) block) ≡ left class blank_mark later behind s (get_or counts 0 0 - s)
-          (drop from block) =
+      (drop from block) =
       (λ i. wrote i ++ rest (sym (drop-drop size from block) i))
       ∙ ap (λ (k : ℕ). own class blank_mark later behind true (take k (drop from block))
-          ++ rest (drop k (drop from block))) is-size
+      ++ rest (drop k (drop from block))) is-size
       ∙ sym (left-next class blank_mark later behind s n (drop from block) enough)
       ∙ ap (λ (k : ℕ). left class blank_mark later behind s k (drop from block)) (sym more) in
       let place : (s + 1) * size ≡ from + size = omega arith in
@@ -297,5 +297,5 @@ module _ {counts marks : List ℕ} {class : ℕ} {block₀ : List ℕ} {s : ℕ}
         same =
             rw (place, back-front block p from size inside long, back-behind block p from size inside long)
             (append_assoc (take from block) p (rest (drop (from + size) block))
-                ∙ ap (λ (l : List ℕ). take from block ++ l) next ∙ f.same);
+            ∙ ap (λ (l : List ℕ). take from block ++ l) next ∙ f.same);
       }

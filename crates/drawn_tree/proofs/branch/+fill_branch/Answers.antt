@@ -18,19 +18,26 @@ returns-in_default t c =
 pub loop-s-init : goal.loop-s-init
 loop-s-init t c =
     filled_start _ (record { whole = c.requires.block; some = omega arith; few = c.requires.counts_in_bounds })
-        c.if-mark.true
+    c.if-mark.true
 
 pub fill_branch-requires : goal.fill_branch-requires
 fill_branch-requires t c =
     let f = c.loop-s.invariant in
-    rw (later-is c.args.counts.now, later-is c.args.marks.now, add-sub_cancel_left)
-    (omega (arith, branch-fewer f.branch, c.decreases), (branch-part f.branch c.loop-s.s _ f.long c.loop-s-test.true,
-        branch-few f.branch))
+    rw (later-is c.args.counts.now, later-is c.args.marks.now, add-sub_cancel_left) (
+      omega (arith, branch-fewer f.branch, c.decreases),
+      (
+        branch-part f.branch c.loop-s.s _ f.long c.loop-s-test.true,
+        branch-few f.branch,
+      ),
+    )
 
 pub loop-s-preserved : goal.loop-s-preserved
 loop-s-preserved t c =
-    filled_more c.loop-s.invariant c.loop-s-test.true (rw (later-is c.args.counts.now, later-is c.args.marks.now,
-        add-sub_cancel_left) at c.fill_branch.ensures)
+    filled_more c.loop-s.invariant c.loop-s-test.true (rw (
+      later-is c.args.counts.now,
+      later-is c.args.marks.now,
+      add-sub_cancel_left,
+    ) at c.fill_branch.ensures)
 
 pub returns-then-mark : goal.returns-then-mark
 returns-then-mark t c =
@@ -38,21 +45,33 @@ returns-then-mark t c =
 
 pub fill_branch-requires-then-mark-states : goal.fill_branch-requires-then-mark-states
 fill_branch-requires-then-mark-states t c =
-    let b : Branch c.args.counts.now c.args.marks.now c.args.block.now = record { whole = c.requires.block; some =
-        omega arith; few = c.requires.counts_in_bounds } in
+    let b : Branch c.args.counts.now c.args.marks.now c.args.block.now = record {
+      whole = c.requires.block;
+      some =
+          omega arith;
+      few = c.requires.counts_in_bounds;
+    } in
     rw (later-is c.args.counts.now, later-is c.args.marks.now, add-sub_cancel_left)
     (omega (arith, branch-fewer b, c.decreases), (branch-part b _ _ refl c.if-mark-states.true, branch-few b))
 
 pub returns-then-mark-states : goal.returns-then-mark-states
 returns-then-mark-states t c =
-    let b : Branch c.args.counts.now c.args.marks.now c.args.block.now = record { whole = c.requires.block; some =
-        omega arith; few = c.requires.counts_in_bounds } in
+    let b : Branch c.args.counts.now c.args.marks.now c.args.block.now = record {
+      whole = c.requires.block;
+      some =
+          omega arith;
+      few = c.requires.counts_in_bounds;
+    } in
     settled-filled b _ c.if-mark.false c.if-mark-states.true _
     (rw (later-is c.args.counts.now, later-is c.args.marks.now, add-sub_cancel_left) at
-        c.fill_branch-then-mark-states.ensures)
+    c.fill_branch-then-mark-states.ensures)
 
 pub returns-else-mark-states : goal.returns-else-mark-states
 returns-else-mark-states t c =
-    let b : Branch c.args.counts.now c.args.marks.now c.args.block.now = record { whole = c.requires.block; some =
-        omega arith; few = c.requires.counts_in_bounds } in
+    let b : Branch c.args.counts.now c.args.marks.now c.args.block.now = record {
+      whole = c.requires.block;
+      some =
+          omega arith;
+      few = c.requires.counts_in_bounds;
+    } in
     settled-nowhere b _ c.if-mark.false (omega arith)
