@@ -1,66 +1,42 @@
 // The fields of a record. One that holds the value it has where a record leaves it out is not written.
-ghost use Rattle.std.specs.Prelude.{◌+◌, ◌*◌, ◌≡◌, not, eqb};
+ghost use Rattle.std.specs.Prelude.{◌+◌, ◌*◌, ◌≡◌};
 ghost use Rattle.lists.specs.Counting.{truth};
-ghost use Rattle.text.specs.Writing.{Room, Wrote};
+ghost use Rattle.text.specs.Writer.{Room, Wrote};
 ghost use Rattle.study_bytes.specs.Written.{byte_of, four_bytes_of, field};
 
-use text::copy;
-
-// Whether a field is given, so that it is written.
-pub fn is_given(absent: u32, value: u32) -> bool
-    ensures { result ≡ not (eqb value absent) }
-{
-    value != absent
-}
+use text::Writer;
 
 // The map of up to four fields: bit k stands where field k is given.
+#[tactic(auto, using(crate::proofs::Maps::bits))]
 pub fn map_of(first: bool, second: bool, third: bool, fourth: bool) -> u8
     ensures { result ≡ truth first + 2 * (truth second + 2 * (truth third + 2 * truth fourth)) }
 {
-    first as u8 + 2 * (second as u8) + 4 * (third as u8) + 8 * (fourth as u8)
+    u8::from(first) + 2 * u8::from(second) + 4 * u8::from(third) + 8 * u8::from(fourth)
 }
 
-// Writes a byte.
-pub fn write_byte(out: &mut [u8], at: usize, n: u8) -> usize
-    requires { Room out.old at (byte_of n) }
-    ensures { Wrote out.old at (byte_of n) out.new result }
+// Writes the bytes of a field, where its value is given.
+#[tactic(auto, using(crate::proofs::Parts::fields))]
+fn write_field(out: &mut Writer, absent: u32, value: u32, bytes: &[u8])
+    requires { Room out.old (field absent value bytes.now) }
+    ensures { Wrote out.old (field absent value bytes.now) out.new }
 {
-    out[at] = n;
-    at + 1
-}
-
-// Writes the four bytes of a number, the lowest first.
-fn write_number(out: &mut [u8], at: usize, n: u32) -> usize
-    requires { Room out.old at (four_bytes_of n) }
-    ensures { Wrote out.old at (four_bytes_of n) out.new result }
-{
-    let bytes = [
-        (n % 256) as u8,
-        (n / 256 % 256) as u8,
-        (n / 65536 % 256) as u8,
-        (n / 16777216 % 256) as u8,
-    ];
-    copy(out, at, &bytes)
+    if value != absent {
+        out.put(bytes);
+    }
 }
 
 // Writes a field of one byte.
-pub fn byte_field(out: &mut [u8], at: usize, absent: u8, n: u8) -> usize
-    requires { Room out.old at (field absent n (byte_of n)) }
-    ensures { Wrote out.old at (field absent n (byte_of n)) out.new result }
+pub fn byte_field(out: &mut Writer, absent: u8, n: u8)
+    requires { Room out.old (field absent n (byte_of n)) }
+    ensures { Wrote out.old (field absent n (byte_of n)) out.new }
 {
-    if is_given(absent as u32, n as u32) {
-        return write_byte(out, at, n);
-    }
-    at
+    write_field(out, u32::from(absent), u32::from(n), &[n]);
 }
 
-// Writes a field of four bytes.
-pub fn number_field(out: &mut [u8], at: usize, absent: u32, n: u32) -> usize
-    requires { Room out.old at (field absent n (four_bytes_of n)) }
-    ensures { Wrote out.old at (field absent n (four_bytes_of n)) out.new result }
+// Writes a field of four bytes, the lowest first.
+pub fn number_field(out: &mut Writer, absent: u32, n: u32)
+    requires { Room out.old (field absent n (four_bytes_of n)) }
+    ensures { Wrote out.old (field absent n (four_bytes_of n)) out.new }
 {
-    if is_given(absent, n) {
-        return write_number(out, at, n);
-    }
-    at
+    write_field(out, absent, n, &n.to_le_bytes());
 }

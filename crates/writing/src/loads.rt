@@ -1,50 +1,46 @@
 // The load records of a study.
 ghost use Rattle.std.specs.Prelude.{◌≡◌};
-ghost use Rattle.text.specs.Writing.{Room, Wrote};
+ghost use Rattle.text.specs.Writer.{Room, Wrote};
 ghost use Rattle.soundness.specs.Sound.{Sound};
 ghost use Rattle.study_bytes.specs.Written.{map_of, load_fields, load_bytes, loads_bytes};
 
-use crate::fields::{byte_field, is_given, map_of, number_field, write_byte};
+use crate::fields::{byte_field, map_of, number_field};
 use study::{Load, Study, absent_load};
+use text::Writer;
 
 // The map of a load's record.
-fn load_map(l: Load) -> u8
-    ensures { result ≡ map_of (load_fields l) }
+fn load_map(l: &Load) -> u8
+    ensures { result ≡ map_of (load_fields l.now) }
 {
     let absent = absent_load();
     map_of(
-        is_given(absent.gate as u32, l.gate as u32),
-        is_given(absent.customers, l.customers),
-        is_given(absent.minutes, l.minutes),
+        l.gate != absent.gate,
+        l.customers != absent.customers,
+        l.minutes != absent.minutes,
         false,
     )
 }
 
 // Writes the record of a load.
-fn write_load(out: &mut [u8], at: usize, l: Load) -> usize
-    requires { Room out.old at (load_bytes l) }
-    ensures { Wrote out.old at (load_bytes l) out.new result }
+#[tactic(auto, using(text::proofs::Written::pieces), unfolding(study_bytes::specs::Written::record_bytes, lists::specs::Rows::joined))]
+fn write_load(l: &Load, out: &mut Writer)
+    requires { Room out.old (load_bytes l.now) }
+    ensures { Wrote out.old (load_bytes l.now) out.new }
 {
     let absent = absent_load();
-    let gate = write_byte(out, at, load_map(l));
-    let customers = byte_field(out, gate, absent.gate, l.gate);
-    let minutes = number_field(out, customers, absent.customers, l.customers);
-    number_field(out, minutes, absent.minutes, l.minutes)
+    out.put(&[load_map(l)]);
+    byte_field(out, absent.gate, l.gate);
+    number_field(out, absent.customers, l.customers);
+    number_field(out, absent.minutes, l.minutes);
 }
 
 // Writes the records of a sound study's loads.
-pub fn write_loads(out: &mut [u8], at: usize, t: Study) -> usize
-    requires sound { Sound t }
-    requires room { Room out.old at (loads_bytes t) }
-    ensures { Wrote out.old at (loads_bytes t) out.new result }
+pub fn write_loads(t: &Study, out: &mut Writer)
+    requires sound { Sound t.now }
+    requires room { Room out.old (loads_bytes t.now) }
+    ensures { Wrote out.old (loads_bytes t.now) out.new }
 {
-    let n = t.loads as usize;
-    let mut place = at;
-    let mut j: usize = 0;
-    while j < n {
-        let l = t.load[j];
-        place = write_load(out, place, l);
-        j = j + 1;
+    for l in &t.load[..usize::from(t.loads)] {
+        write_load(l, out);
     }
-    place
 }

@@ -1,5 +1,5 @@
 -- `writing::components::component_map` meets its contract: a bit stands where its field is given.
-use mathlib.Core.Path.{◌∙◌}
+use Rattle.std.proofs.Common.{refl, ◌∙◌}
 use Rattle.study.specs.Absent.{absent_component}
 use Rattle.study_bytes.proofs.Fields.{byte-bit, number_bit}
 use Rattle.writing.proofs.Maps.{map-of-four}
@@ -7,11 +7,10 @@ use Rattle.writing.proofs.components.component_map.Goals as goal
 
 pub returns : goal.returns
 returns c =
-    let absent = c.absent_component-absent.ensures in
-    let k = c.args.c in
-    c.map_of.ensures
+    let k = c.args.c.now in
+    (rw c.absent_component-absent.ensures at c.map_of.ensures)
     ∙ map-of-four
-    (byte-bit absent_component.states k.states (rw absent at c.is_given.ensures))
-    (number_bit absent_component.p1 k.p1 (rw absent at c.is_given-2.ensures))
-    (number_bit absent_component.p2 k.p2 (rw absent at c.is_given-3.ensures))
-    (number_bit absent_component.p3 k.p3 (rw absent at c.is_given-4.ensures))
+    (byte-bit absent_component.states k.states refl)
+    (number_bit absent_component.p1 k.p1 refl)
+    (number_bit absent_component.p2 k.p2 refl)
+    (number_bit absent_component.p3 k.p3 refl)

@@ -1,34 +1,27 @@
--- `writing::components::write_components` meets its contract. The records of the components below i are written (`Tabled`), and the components left fall.
-use Prim.Native.Nat.{◌-◌}
-use native.Mathlib.Omega.{arith}
+-- `writing::components::write_components` meets its contract: the records of the components gone by are written (`Tabled`).
+use Rattle.std.proofs.Common.{◌<◌, arith}
+use Rattle.std.proofs.Math.Seq.{get_or-take}
 use Rattle.soundness.proofs.Ranges.{components-most}
-use Rattle.text.proofs.Pieces.{tabled_start, tabled-room, tabled-more, tabled-done}
+use Rattle.study.specs.Zero.{zero_component}
+use Rattle.text.proofs.Written.{tabled_start, tabled-room, tabled-more}
 use Rattle.writing.proofs.components.write_components.Goals as goal
 
-pub loop-i-init : goal.loop-i-init
-loop-i-init c =
+pub shared_ref_as_front-c-items : goal.shared_ref_as_front-c-items
+shared_ref_as_front-c-items c =
+    omega (arith, c.from.ensures, components-most _ c.requires.sound)
+
+pub loop-c-init : goal.loop-c-init
+loop-c-init c =
     tabled_start _ _ c.requires.room
 
-pub offset_bounds-t-i : goal.offset_bounds-t-i
-offset_bounds-t-i c =
-    record { fits = omega (arith, c.loop-i-test.true, components-most _ c.requires.sound) }
+pub write_component-requires : goal.write_component-requires
+write_component-requires c =
+    let below : c.loop-c.c-index < c.args.t.now.components = omega (arith, c.from.ensures, c.loop-c-test.true) in
+    let here = get_or-take c.from.result c.args.t.now.component c.loop-c.c-index zero_component (omega (arith, c.from.ensures, below)) in
+    rw here (tabled-room c.loop-c.invariant below)
 
-pub bounds-t-i : goal.bounds-t-i
-bounds-t-i c =
-    omega (arith, c.loop-i-test.true, components-most _ c.requires.sound)
-
-pub write_component-place-requires : goal.write_component-place-requires
-write_component-place-requires c =
-    tabled-room c.loop-i.invariant c.loop-i-test.true
-
-pub loop-i-smaller : goal.loop-i-smaller
-loop-i-smaller c =
-    omega (arith, c.loop-i-test.true)
-
-pub loop-i-preserved : goal.loop-i-preserved
-loop-i-preserved c =
-    tabled-more c.loop-i.invariant c.loop-i-test.true c.write_component-place.ensures
-
-pub returns : goal.returns
-returns c =
-    tabled-done c.loop-i.invariant c.loop-i-test.false
+pub loop-c-preserved : goal.loop-c-preserved
+loop-c-preserved c =
+    let below : c.loop-c.c-index < c.args.t.now.components = omega (arith, c.from.ensures, c.loop-c-test.true) in
+    let here = get_or-take c.from.result c.args.t.now.component c.loop-c.c-index zero_component (omega (arith, c.from.ensures, below)) in
+    tabled-more c.loop-c.invariant below (rw here at c.write_component.ensures)

@@ -1,35 +1,32 @@
--- `writing::gates::write_gates` meets its contract. The records of the gates below i are written (`Tabled`), and the gates left fall.
-use Prim.Native.Nat.{◌-◌}
-use native.Mathlib.Omega.{arith}
+-- `writing::gates::write_gates` meets its contract: the records of the gates gone by are written (`Tabled`).
+use Rattle.std.proofs.Common.{◌<◌, arith}
+use Rattle.std.proofs.Math.Seq.{get_or-take}
 use Rattle.soundness.proofs.Ranges.{gates-most, tests-most, gate-inputs-most}
-use Rattle.text.proofs.Pieces.{tabled_start, tabled-room, tabled-more, tabled-done}
+use Rattle.study.specs.Places.{no_gate}
+use Rattle.text.proofs.Written.{tabled_start, tabled-room, tabled-more}
 use Rattle.writing.proofs.gates.write_gates.Goals as goal
 
-pub loop-i-init : goal.loop-i-init
-loop-i-init c =
+pub shared_ref_as_front-g-items : goal.shared_ref_as_front-g-items
+shared_ref_as_front-g-items c =
+    omega (arith, c.from.ensures, gates-most _ c.requires.sound)
+
+pub loop-g-init : goal.loop-g-init
+loop-g-init c =
     tabled_start _ _ c.requires.room
 
-pub offset_bounds-t-i : goal.offset_bounds-t-i
-offset_bounds-t-i c =
-    record { fits = omega (arith, c.loop-i-test.true, gates-most _ c.requires.sound) }
+pub write_gate-requires : goal.write_gate-requires
+write_gate-requires c =
+    let below : c.loop-g.g-index < c.args.t.now.gates = omega (arith, c.from.ensures, c.loop-g-test.true) in
+    let room = tabled-room c.loop-g.invariant below in
+    let here = get_or-take c.from.result c.args.t.now.gate c.loop-g.g-index no_gate (omega (arith, c.from.ensures, below)) in
+    rw here (record {
+      tests_le_most_tests = tests-most _ c.requires.sound _ below;
+      gates_le_most_gate_inputs = gate-inputs-most _ c.requires.sound _ below;
+      room = room;
+    })
 
-pub bounds-t-i : goal.bounds-t-i
-bounds-t-i c =
-    omega (arith, c.loop-i-test.true, gates-most _ c.requires.sound)
-
-pub write_gate-place-requires : goal.write_gate-place-requires
-write_gate-place-requires c =
-    let sound = c.requires.sound in
-    let below = c.loop-i-test.true in record { tests_le_most_tests = tests-most _ sound _ below; gates_le_most_gate_inputs = gate-inputs-most _ sound _ below; room = tabled-room c.loop-i.invariant below }
-
-pub loop-i-smaller : goal.loop-i-smaller
-loop-i-smaller c =
-    omega (arith, c.loop-i-test.true)
-
-pub loop-i-preserved : goal.loop-i-preserved
-loop-i-preserved c =
-    tabled-more c.loop-i.invariant c.loop-i-test.true c.write_gate-place.ensures
-
-pub returns : goal.returns
-returns c =
-    tabled-done c.loop-i.invariant c.loop-i-test.false
+pub loop-g-preserved : goal.loop-g-preserved
+loop-g-preserved c =
+    let below : c.loop-g.g-index < c.args.t.now.gates = omega (arith, c.from.ensures, c.loop-g-test.true) in
+    let here = get_or-take c.from.result c.args.t.now.gate c.loop-g.g-index no_gate (omega (arith, c.from.ensures, below)) in
+    tabled-more c.loop-g.invariant below (rw here at c.write_gate.ensures)

@@ -1,5 +1,5 @@
 -- `writing::loads::load_map` meets its contract: a bit stands where its field is given.
-use mathlib.Core.Path.{◌∙◌}
+use Rattle.std.proofs.Common.{refl, ◌∙◌}
 use Rattle.study.specs.Absent.{absent_load}
 use Rattle.study_bytes.proofs.Fields.{byte-bit, number_bit}
 use Rattle.writing.proofs.Maps.{map-of-three}
@@ -7,10 +7,9 @@ use Rattle.writing.proofs.loads.load_map.Goals as goal
 
 pub returns : goal.returns
 returns c =
-    let absent = c.absent_load-absent.ensures in
-    let l = c.args.l in
-    c.map_of.ensures
+    let k = c.args.l.now in
+    (rw c.absent_load-absent.ensures at c.map_of.ensures)
     ∙ map-of-three
-    (byte-bit absent_load.gate l.gate (rw absent at c.is_given.ensures))
-    (number_bit absent_load.customers l.customers (rw absent at c.is_given-2.ensures))
-    (number_bit absent_load.minutes l.minutes (rw absent at c.is_given-3.ensures))
+    (byte-bit absent_load.gate k.gate refl)
+    (number_bit absent_load.customers k.customers refl)
+    (number_bit absent_load.minutes k.minutes refl)

@@ -1,34 +1,27 @@
--- `writing::loads::write_loads` meets its contract. The records of the loads below j are written (`Tabled`), and the loads left fall.
-use Prim.Native.Nat.{◌-◌}
-use native.Mathlib.Omega.{arith}
+-- `writing::loads::write_loads` meets its contract: the records of the loads gone by are written (`Tabled`).
+use Rattle.std.proofs.Common.{◌<◌, arith}
+use Rattle.std.proofs.Math.Seq.{get_or-take}
 use Rattle.soundness.proofs.Ranges.{loads-most}
-use Rattle.text.proofs.Pieces.{tabled_start, tabled-room, tabled-more, tabled-done}
+use Rattle.study.specs.Zero.{zero_load}
+use Rattle.text.proofs.Written.{tabled_start, tabled-room, tabled-more}
 use Rattle.writing.proofs.loads.write_loads.Goals as goal
 
-pub loop-j-init : goal.loop-j-init
-loop-j-init c =
+pub shared_ref_as_front-l-items : goal.shared_ref_as_front-l-items
+shared_ref_as_front-l-items c =
+    omega (arith, c.from.ensures, loads-most _ c.requires.sound)
+
+pub loop-l-init : goal.loop-l-init
+loop-l-init c =
     tabled_start _ _ c.requires.room
 
-pub offset_bounds-t-j : goal.offset_bounds-t-j
-offset_bounds-t-j c =
-    record { fits = omega (arith, c.loop-j-test.true, loads-most _ c.requires.sound) }
+pub write_load-requires : goal.write_load-requires
+write_load-requires c =
+    let below : c.loop-l.l-index < c.args.t.now.loads = omega (arith, c.from.ensures, c.loop-l-test.true) in
+    let here = get_or-take c.from.result c.args.t.now.load c.loop-l.l-index zero_load (omega (arith, c.from.ensures, below)) in
+    rw here (tabled-room c.loop-l.invariant below)
 
-pub bounds-t-j : goal.bounds-t-j
-bounds-t-j c =
-    omega (arith, c.loop-j-test.true, loads-most _ c.requires.sound)
-
-pub write_load-place-requires : goal.write_load-place-requires
-write_load-place-requires c =
-    tabled-room c.loop-j.invariant c.loop-j-test.true
-
-pub loop-j-smaller : goal.loop-j-smaller
-loop-j-smaller c =
-    omega (arith, c.loop-j-test.true)
-
-pub loop-j-preserved : goal.loop-j-preserved
-loop-j-preserved c =
-    tabled-more c.loop-j.invariant c.loop-j-test.true c.write_load-place.ensures
-
-pub returns : goal.returns
-returns c =
-    tabled-done c.loop-j.invariant c.loop-j-test.false
+pub loop-l-preserved : goal.loop-l-preserved
+loop-l-preserved c =
+    let below : c.loop-l.l-index < c.args.t.now.loads = omega (arith, c.from.ensures, c.loop-l-test.true) in
+    let here = get_or-take c.from.result c.args.t.now.load c.loop-l.l-index zero_load (omega (arith, c.from.ensures, below)) in
+    tabled-more c.loop-l.invariant below (rw here at c.write_load.ensures)

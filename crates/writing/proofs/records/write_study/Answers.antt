@@ -1,46 +1,23 @@
--- `writing::records::write_study` meets its contract: its counts and the records of each kind stand one behind the other (`Pieces`).
-use Prim.Native.Nat.{ℕ}
-use mathlib.Core.List.{List}
-use native.Mathlib.Omega.{arith}
-use Rattle.text.proofs.Pieces.{Pieces, pieces_room, pieces_more}
-use Rattle.writing.proofs.Parts.{study_parts, study-start, study-done}
+-- `writing::records::write_study` meets its contract: the writer begins at the front of the page.
+use Rattle.std.proofs.Common.{◌≡◌, length, refl, ap, ◌∙◌, arith, rules}
+use Rattle.lists.specs.Rows.{put}
+use Rattle.study_bytes.specs.Written.{study_bytes}
 use Rattle.writing.proofs.records.write_study.Goals as goal
 
-pub copy-first-requires : goal.copy-first-requires
-copy-first-requires c =
-    let Written : ℕ → List ℕ → ℕ → Type 0 = λ k d p. Pieces (study_parts c.args.t) c.args.out.now 0 k d p in
-    let none : Written 0 c.args.out.now 0 = study-start c.args.t c.requires.room in
-    pieces_room none (omega arith)
+pub write_records-requires : goal.write_records-requires
+write_records-requires c =
+    let new = c.new-out.ensures in
+    let long : length c.new-out.result.buffer.now ≡ length c.args.page.now = ap length new.bytes in
+    record { sound = c.requires.sound; room = record { fits = omega (arith, long, new.none, c.requires.room) } }
 
-pub write_components-second-requires : goal.write_components-second-requires
-write_components-second-requires c =
-    let Written : ℕ → List ℕ → ℕ → Type 0 = λ k d p. Pieces (study_parts c.args.t) c.args.out.now 0 k d p in
-    let none : Written 0 c.args.out.now 0 = study-start c.args.t c.requires.room in
-    let one : Written 1 c.copy-first.new.out c.copy-first.result = pieces_more none (omega arith) c.copy-first.ensures in
-    record { sound = c.requires.sound; room = pieces_room one (omega arith) }
+pub returns-clause-written : goal.returns-clause-written
+returns-clause-written c =
+    let new = c.new-out.ensures in
+    let records = c.write_records.ensures in
+    let whole : c.write_records.new.out.buffer.now ≡ put c.args.page.now 0 (study_bytes c.args.t.now) = records.holds ∙ rw (new.bytes, new.none) refl in
+    let same = records.same_buffer ∙ new.same_buffer in
+    search (rules, whole, same)
 
-pub write_gates-third-requires : goal.write_gates-third-requires
-write_gates-third-requires c =
-    let Written : ℕ → List ℕ → ℕ → Type 0 = λ k d p. Pieces (study_parts c.args.t) c.args.out.now 0 k d p in
-    let none : Written 0 c.args.out.now 0 = study-start c.args.t c.requires.room in
-    let one : Written 1 c.copy-first.new.out c.copy-first.result = pieces_more none (omega arith) c.copy-first.ensures in
-    let two : Written 2 c.write_components-second.new.out c.write_components-second.result = pieces_more one (omega arith) c.write_components-second.ensures in
-    record { sound = c.requires.sound; room = pieces_room two (omega arith) }
-
-pub write_loads-requires : goal.write_loads-requires
-write_loads-requires c =
-    let Written : ℕ → List ℕ → ℕ → Type 0 = λ k d p. Pieces (study_parts c.args.t) c.args.out.now 0 k d p in
-    let none : Written 0 c.args.out.now 0 = study-start c.args.t c.requires.room in
-    let one : Written 1 c.copy-first.new.out c.copy-first.result = pieces_more none (omega arith) c.copy-first.ensures in
-    let two : Written 2 c.write_components-second.new.out c.write_components-second.result = pieces_more one (omega arith) c.write_components-second.ensures in
-    let three : Written 3 c.write_gates-third.new.out c.write_gates-third.result = pieces_more two (omega arith) c.write_gates-third.ensures in
-    record { sound = c.requires.sound; room = pieces_room three (omega arith) }
-
-pub returns : goal.returns
-returns c =
-    let Written : ℕ → List ℕ → ℕ → Type 0 = λ k d p. Pieces (study_parts c.args.t) c.args.out.now 0 k d p in
-    let none : Written 0 c.args.out.now 0 = study-start c.args.t c.requires.room in
-    let one : Written 1 c.copy-first.new.out c.copy-first.result = pieces_more none (omega arith) c.copy-first.ensures in
-    let two : Written 2 c.write_components-second.new.out c.write_components-second.result = pieces_more one (omega arith) c.write_components-second.ensures in
-    let three : Written 3 c.write_gates-third.new.out c.write_gates-third.result = pieces_more two (omega arith) c.write_gates-third.ensures in
-    study-done _ (pieces_more three (omega arith) c.write_loads.ensures) (omega arith)
+pub returns-clause-size : goal.returns-clause-size
+returns-clause-size c =
+    omega (arith, c.size.ensures, c.write_records.ensures.behind, c.new-out.ensures.none)
