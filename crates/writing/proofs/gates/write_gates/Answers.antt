@@ -3,7 +3,7 @@ use Rattle.std.proofs.Common.{◌<◌, arith}
 use Rattle.std.proofs.Math.Seq.{get_or-take}
 use Rattle.soundness.proofs.Ranges.{gates-most, tests-most, gate-inputs-most}
 use Rattle.study.specs.Places.{no_gate}
-use Rattle.text.proofs.Written.{tabled_start, tabled-room, tabled-more}
+use Rattle.text.proofs.Written.{tabled_start, tabled_more}
 use Rattle.writing.proofs.gates.write_gates.Goals as goal
 
 pub shared_ref_as_front-g-items : goal.shared_ref_as_front-g-items
@@ -12,12 +12,12 @@ shared_ref_as_front-g-items c =
 
 pub loop-g-init : goal.loop-g-init
 loop-g-init c =
-    tabled_start _ _ c.requires.room
+    tabled_start c.requires.room
 
 pub write_gate-requires : goal.write_gate-requires
 write_gate-requires c =
     let below : c.loop-g.g-index < c.args.t.now.gates = omega (arith, c.from.ensures, c.loop-g-test.true) in
-    let room = tabled-room c.loop-g.invariant below in
+    let room = c.loop-g.invariant.next below in
     let here = get_or-take c.from.result c.args.t.now.gate c.loop-g.g-index no_gate (omega (arith, c.from.ensures, below)) in
     rw here (record {
       tests_le_most_tests = tests-most _ c.requires.sound _ below;
@@ -29,4 +29,4 @@ pub loop-g-preserved : goal.loop-g-preserved
 loop-g-preserved c =
     let below : c.loop-g.g-index < c.args.t.now.gates = omega (arith, c.from.ensures, c.loop-g-test.true) in
     let here = get_or-take c.from.result c.args.t.now.gate c.loop-g.g-index no_gate (omega (arith, c.from.ensures, below)) in
-    tabled-more c.loop-g.invariant below (rw here at c.write_gate.ensures)
+    tabled_more c.loop-g.invariant below (rw here at c.write_gate.ensures)
