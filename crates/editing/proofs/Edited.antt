@@ -1,4 +1,5 @@
--- What the rules that an edit keeps tell: the record that it changes has a place in the study.
+-- What an edit answers where a breach stands, and where none does; and what the rules that it keeps tell: the record that it changes has a
+-- place in the study.
 use Rattle.std.proofs.Common.{◌≡◌, ◌<◌, ℕ, Bool, true, false, refl, sym, arith}
 use Rattle.rules.specs.Breach.{refuse}
 use Rattle.rules.specs.Limits.{most_components, most_loads}
@@ -7,6 +8,9 @@ use Rattle.rules.proofs.Judged.{judged}
 use Rattle.rules.proofs.Rows.{item-kept}
 use Rattle.study.specs.declared.Study.{Study}
 use Rattle.soundness.specs.Check.{sound}
+use Rattle.answers.specs.Answers.{finished}
+use Rattle.answers.proofs.Answered.{answered-done, answered-refused}
+use Rattle.editing.specs.Edits.{edited, refused_edit}
 use Rattle.soundness.specs.Sound.{Sound}
 use Rattle.soundness.proofs.Checked.{check-refuses}
 use Rattle.soundness.proofs.Ranges.{components-most, loads-most}
@@ -27,3 +31,11 @@ module _ (t : Study) (i : ℕ) (kept : 0 ≡ unsound_fault (sound t)) where
   load-there is = omega (arith, loads-most t (passed t kept), item-kept t.loads i (sym is))
 
 pub ruleset edits = (judged, component-there, load-there)
+
+pub edited-refused : (breach : ℕ) (old new : Study) → (breach ≡ 0 → ⊥) → edited breach old new ≡ refused_edit old breach
+unfolding edited
+edited-refused breach old new = answered-refused (refused_edit old) breach (record { outcome = finished; study = new })
+
+pub edited-done : (breach : ℕ) (old new : Study) → breach ≡ 0 → edited breach old new ≡ record { outcome = finished; study = new }
+unfolding edited
+edited-done breach old new = answered-done (refused_edit old) breach (record { outcome = finished; study = new })
