@@ -2,7 +2,7 @@
 use Rattle.std.proofs.Common.{rules, ◌≡◌, ◌∙◌, sym, ap, length, Err}
 use Rattle.rules.specs.Refusals.{row_of}
 use Rattle.answers.specs.Answers.{by_number}
-use Rattle.answers.proofs.ByNumber.{numbered}
+use Rattle.rules.proofs.Judged.{some_row}
 use Rattle.evaluation.specs.Rooms.{pair_fault}
 use Rattle.evaluation.proofs.PairPut.{pair-room, pair-refused, pair-done}
 use Rattle.evaluation.proofs.tree_paths.bound_paths.Goals as goal
@@ -13,7 +13,7 @@ returns-in_err-pair_fault c =
     let told : by_number c.from_residual.result ≡ Err (row_of refusal) = search rules in
     let fault = c.in_err-pair_fault.ensures
     ∙ ap (λ need. pair_fault need (length c.args.lower.now) (length c.args.upper.now)) c.listed-listed.ensures.paths in
-    rw told (pair-refused Err _ _ _ _ _ fault (numbered refusal))
+    rw told (pair-refused Err _ _ _ _ _ fault (some_row refusal))
 
 pub path_bounds-requires : goal.path_bounds-requires
 path_bounds-requires c = (pair-room (sym c.in_ok-pair_fault.ensures)).in_lower
