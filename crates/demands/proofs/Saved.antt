@@ -45,7 +45,7 @@ use Rattle.demands.specs.Saving.{AllInOrder, Saves, WrittenOpens, ReachedIffOpen
 use Rattle.demands.proofs.Finished.{finished}
 use Rattle.demands.proofs.Reached.{reached-sound, reached-shaped}
 use Rattle.demands.proofs.Sorted.{sound-given, sound-fits, sound-in-order, opened-same, only-sorted}
-use Rattle.answers.specs.Answers.{StudyAnswer, finished}
+use Rattle.answers.specs.Answers.{StudyAnswer, finished as was_done}
 
 -- ---- a sound study is in order already
 
@@ -68,9 +68,9 @@ module _ (t : Study) (shaped : Shaped t) (s : Sound t) where
   read_back : study (study_bytes t) ≡ got t []
   read_back = ap study (sym (append-nil (study_bytes t))) ∙ study-back t shaped s []
 
-  bytes-open : opened (study_bytes t) ≡ record { outcome = finished; study = t }
+  bytes-open : opened (study_bytes t) ≡ record { outcome = was_done; study = t }
   unfolding opened answer answered refuse
-  bytes-open = ap answer read_back ∙ ap (λ (u : Study). record { outcome = finished; study = u }) still
+  bytes-open = ap answer read_back ∙ ap (λ (u : Study). record { outcome = was_done; study = u }) still
 
   bytes-give : as_given (study_bytes t) ≡ t
   unfolding as_given given
@@ -166,7 +166,7 @@ module _ (t : Study) (given : Given t) (few : t.gates ≤ most_gates) where
       )
 
 -- bytes that open are read whole
-read_whole : (r : Read Study) → (answer r).outcome ≡ finished → r ≡ got (given r) []
+read_whole : (r : Read Study) → (answer r).outcome ≡ was_done → r ≡ got (given r) []
 unfolding given
 read_whole (refused n) done = absurd (not-both n (cc (is-refused n)))
 read_whole (got t []) done = refl
