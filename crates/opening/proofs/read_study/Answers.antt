@@ -2,10 +2,12 @@
 use Rattle.std.proofs.Common.{◌≡◌, ℕ, ap, List, Result, Ok, Err, refl, rules}
 use Rattle.rules.specs.declared.refusal.Refusal.{Refusal}
 use Rattle.rules.specs.Refusals.{row_of}
-use Rattle.reading.specs.Reader.{refused, and_then, return, read_into}
+use Rattle.rules.specs.Limits.{most_components}
+use Rattle.reading.specs.Reader.{refused, got, and_then, return, read_into}
 use Rattle.study.specs.declared.Load.{Load}
 use Rattle.study.specs.declared.Study.{Study}
 use Rattle.study.specs.Zero.{no_components, no_gates, no_loads, zero_study}
+use Rattle.opening.specs.Opening.{count}
 use Rattle.opening.specs.Places.{study_in_order}
 use Rattle.opening.proofs.read_study.Goals as goal
 
@@ -18,9 +20,10 @@ into-then (Err r) f a rest = refl
 pub returns-in_err-read_components : goal.returns-in_err-read_components
 unfolding study_in_order zero_study
 returns-in_err-read_components c =
+    let components : got c.in_ok-t.field-0 c.read_count.new.bytes.rest.now ≡ count most_components c.args.bytes.now.rest.now = c.in_ok-t.ensures.reads in
     let none : c.args.t.now.component ≡ no_components = ap (λ (t : Study). t.component) c.requires in
     let whole : refused (row_of c.in_err-read_components.field-0.0) ≡ study_in_order c.args.bytes.now.rest.now
-    = rw (← c.in_ok-t.ensures.reads, ← c.in_ok-t-2.ensures.reads, ← c.in_ok-t-3.ensures.reads, ← none, ← c.in_err-read_components.ensures) in
+    = rw (← components, ← c.in_ok-t-2.ensures.reads, ← c.in_ok-t-3.ensures.reads, ← none, ← c.in_err-read_components.ensures) in
     search rules
 
 pub returns-in_err-read_gates : goal.returns-in_err-read_gates
