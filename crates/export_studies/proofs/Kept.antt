@@ -1,6 +1,6 @@
 -- Which breach stands in the way of keeping a study in a slice, and what none tells. An edit has no breach for the room: a slice shorter than an
 -- image holds no sound study.
-use Prim.Native.Nat.{ℕ, ◌≤◌, ◌<◌, ◌^◌}
+use Prim.Native.Nat.{ℕ, ◌<◌, ◌^◌}
 use mathlib.Core.Path.{◌≡◌, refl, sym, ap, subst, ◌∙◌}
 use mathlib.Core.Bool.{Bool, true, false}
 use mathlib.Core.List.{List, [], ◌∷◌}
@@ -14,32 +14,64 @@ use mir.Val.{hbits, to_z, of_z}
 use borrow.Author.Tests.{eqb-true, eqb-false}
 use Rattle.rules.specs.Breach.{refuse, first, first_breach, outside}
 use Rattle.rules.specs.Table.{unsound_fault, room_fault}
-use Rattle.rules.proofs.Kept.{first_some, first_next, list-kept, list-more, list-last, two-judged, both-kept}
+use Rattle.rules.specs.declared.refusal.Refusal.{Refusal}
+use Rattle.rules.specs.Refusals.{row_of, breach_of}
+use Rattle.rules.proofs.Judged.{err_listed, ok_listed, none_listed, some_row}
+use Rattle.rules.proofs.Kept.{first_some, first_next, list-kept, list-more, list-last}
 use Rattle.study.specs.declared.Study.{Study}
 use Rattle.study.specs.Zero.{zero_study}
+use Rattle.answers.specs.Answered.{filled}
 use Rattle.soundness.specs.Check.{front_fault, sound}
 use Rattle.study_image.specs.Places.{image_bytes}
-use Rattle.study_image.specs.Image.{study_in}
-use Rattle.rules.proofs.Rows.{room-kept}
-use Rattle.answers.specs.Told.{number_told, outcome_told}
-use Rattle.answers.proofs.Answered.{answered-tells, tells-number}
+use Rattle.study_image.specs.Image.{image_of, study_in}
+use Rattle.std.specs.Prelude.{Result, Ok, Err}
+use Rattle.answers.specs.Told.{number_told, outcome_told, tells}
+use Rattle.answers.proofs.Answered.{answered-tells, tells-number, tells-result, tells-refusal}
+use Rattle.answers.proofs.ByNumber.{numbered, filled-by, filled-all}
 use Rattle.editing.specs.Edits.{refused_edit, edited}
+use Rattle.export_answers.specs.Answers.{below, answered_by, done}
+use Rattle.export_answers.proofs.Answering.{breach-answered}
 use Rattle.export_answers.proofs.Signed.{handed-on}
 use Rattle.export_studies.specs.Images.{refusal_of, keep_fault, Keeps, KeepsStudy, KeepsEdited}
-use Rattle.answers.specs.Answers.{StudyAnswer}
+use Rattle.answers.specs.Answers.{StudyAnswer, by_number}
 
--- ---- the study of an answer
+-- ---- what was judged tells
 
--- as the code finds it
-pub keep-is : (answer : StudyAnswer) (slice : List ℕ) {fault refusal room : ℕ} → fault ≡ first refusal room → refusal ≡ refusal_of answer
-    → room ≡ room_fault image_bytes (length slice) → fault ≡ keep_fault answer slice
+pub outcome-tells : (r : Result (Unit {0}) Refusal) → outcome_told (by_number r) ≡ tells (breach_of r) []
+outcome-tells (Ok u) = sym (tells-result 0 [] refl)
+outcome-tells (Err refusal) = sym (tells-refusal (row_of refusal) [] (numbered refusal))
+
+-- for the function that stores
+pub ruleset keeping = (err_listed, ok_listed, none_listed, filled-by, filled-all, some_row)
+
+-- a refused opening is refused before the room
+pub refused-keeps : (refusal : Refusal) (t : Study) (was : List ℕ) → KeepsStudy (record { outcome = Err (row_of refusal); study = t }) was was (below (row_of refusal))
 unfolding keep_fault
-keep-is answer slice = two-judged
+refused-keeps refusal t was =
+    rw (← err_listed refusal (row_of refusal) (room_fault image_bytes (length was) ∷ []) refl)
+    (record {
+      answered = breach-answered (row_of refusal) [];
+      written = sym (filled-by (image_of t) was refusal);
+      held = λ none. absurd (some_row refusal none);
+    })
 
--- without a breach, an image fits the slice
-pub keep-room : (answer : StudyAnswer) (slice : List ℕ) → keep_fault answer slice ≡ 0 → image_bytes ≤ length slice
-unfolding keep_fault
-keep-room answer slice none = room-kept image_bytes (length slice) (both-kept _ _ none).right
+module _ {was after : List ℕ} {r : ℤ} (fits : mag r < 2 ^ hbits w64) where
+  -- by what was judged, written and told
+  pub stored-kept : (answer : StudyAnswer) (stored : Result (Unit {0}) Refusal) → breach_of stored ≡ keep_fault answer was
+      → after ≡ filled (breach_of stored) (image_of answer.study) was → (breach_of stored ≡ 0 → study_in after ≡ answer.study)
+      → r ≡ answered_by done (outcome_told (by_number stored)) → KeepsStudy answer was after (to_z w64 (of_z w64 r))
+  stored-kept answer stored judged written held answered =
+      let kept : Keeps (breach_of stored) answer.study was after r = record { answered = answered ∙ ap (answered_by done) (outcome-tells stored); written = written; held = held } in
+      handed-on (KeepsStudy answer was after) fits (subst (λ (b : ℕ). Keeps b answer.study was after r) judged kept)
+
+  -- the study of an answer that is known by an equation
+  pub kept-as : {a b : StudyAnswer} → a ≡ b → KeepsStudy a was after r → KeepsStudy b was after (to_z w64 (of_z w64 r))
+  kept-as {a} {b} e kept = handed-on (KeepsStudy b was after) fits (subst (λ (x : StudyAnswer). KeepsStudy x was after r) e kept)
+
+pub refused-kept : (refusal : Refusal) (t : Study) {was : List ℕ} {r : ℤ} {answer : StudyAnswer} → mag r < 2 ^ hbits w64 → r ≡ below (row_of refusal)
+    → record { outcome = Err (row_of refusal); study = t } ≡ answer → KeepsStudy answer was was (to_z w64 (of_z w64 r))
+refused-kept refusal t {was} {r} fits is e =
+    kept-as fits e (subst (λ (z : ℤ). KeepsStudy (record { outcome = Err (row_of refusal); study = t }) was was z) (sym is) (refused-keeps refusal t was))
 
 -- ---- edits
 

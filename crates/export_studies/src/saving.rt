@@ -8,5 +8,5 @@ use study_image::read_image;
 pub fn write(study: &[u8], bytes: &mut [u8]) -> i64
     ensures { Saves study.now bytes.old bytes.new result }
 {
-    answer_count(writing::write(read_image(study), bytes))
+    answer_count(writing::write(&read_image(study), bytes))
 }

@@ -6,5 +6,5 @@ use Rattle.export_studies.proofs.edits.set_customers.Goals as goal
 pub returns : goal.returns
 unfolding customers_set load_edit_fault
 returns c =
-    edit-keeps c.args.study.now _ _ (rw c.read_image.ensures at c.set_customers.ensures) c.keep.type_inv
+    edit-keeps c.args.image.now _ _ (rw c.read_image-study.ensures at c.set_customers-outcome.ensures) c.keep.type_inv
     c.keep.ensures
