@@ -8,14 +8,16 @@ use lib.Dec.{eqb}
 use lib.ListN.{length, get_or}
 use Rattle.lists.specs.Counting.{sum_over}
 use Rattle.lists.proofs.Elements.{Every}
+use Rattle.lists.proofs.Fronts.{put-taken}
 use Rattle.lists.proofs.Tabulated.{get_or-tabulate}
 use Rattle.text.specs.Letters.{letters}
-use Rattle.text.specs.Writing.{Room}
 use Rattle.text.proofs.Short.{joined_length, field-short, number_short}
-use Rattle.words.proofs.Worded.{word-short}
+use Rattle.words.proofs.Worded.{word_short}
 use Rattle.units.specs.One.{one}
 use Rattle.units.specs.Rounding.{down, up}
 use Rattle.rules.specs.Breach.{refuse}
+use Rattle.rules.specs.Refusals.{row_of}
+use Rattle.rules.specs.declared.refusal.Refusal.{Refusal}
 use Rattle.rules.specs.Limits.{most_joint_states}
 use Rattle.answers.specs.Answered.{answered}
 use Rattle.entries.specs.Entries.{class_borne, class_places, byte_values}
@@ -41,15 +43,19 @@ use Rattle.report_text.specs.Report.{report_bytes, refused_bytes, paths_text, cl
 use Rattle.report_text.proofs.Printed.{model-figures-short}
 use Rattle.std.specs.Prelude.{Ok, Err}
 
--- a text that is no longer has room in a buffer of that size
-pub has_room : {most : ℕ} (text d : List ℕ) → length text ≤ most → most ≤ length d → Room d 0 text
-has_room text d short room = record { fits = omega (arith, short, room) }
-
 -- ---- a refused study
 
 pub refused-short : (n : ℕ) → n < byte_values → length (refused_text n) ≤ refused_bytes
 unfolding refused_text sum_over
-refused-short n byte = rw (joined_length _) (omega (arith, field-short 3 (omega arith) n (omega (arith, byte)), word-short n))
+refused-short n byte = rw (joined_length _) (omega (arith, field-short 3 (omega arith) n (omega (arith, byte)), word_short n))
+
+pub refused-fits : (refusal : Refusal) → length (refused_text (row_of refusal)) ≤ refused_bytes
+refused-fits refusal = refused-short (row_of refusal) (small refusal)
+  where
+    small : (r : Refusal) → row_of r < byte_values
+    small r = grind arith
+
+pub ruleset refused_line = (refused-fits, put-taken)
 
 -- ---- a model whose classes are bytes
 

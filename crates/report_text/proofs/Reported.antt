@@ -8,7 +8,6 @@ use lib.Dec.{eqb}
 use lib.ListN.{length}
 use borrow.Author.Tests.{eqb-true, eqb-false}
 use Rattle.lists.specs.Rows.{put}
-use Rattle.text.specs.Writing.{Room, Wrote}
 use Rattle.lent_text.specs.Lent.{text_fault, reported as handed, written}
 use Rattle.rules.specs.Breach.{first, first_breach}
 use Rattle.rules.specs.Table.{room_fault}
@@ -38,12 +37,11 @@ module _ (report : List ℕ) {breach : ℕ} (lowers uppers text lower upper : Li
         bounds = pair-refused Err (Ok (length report)) lowers uppers lower upper is some;
       }
 
-  pub put-done : {text' lower' upper' : List ℕ} {size : ℕ} → breach ≡ 0 → Wrote text 0 report text' size → lower' ≡ put lower 0 lowers → upper' ≡ put upper 0 uppers
+  pub put-done : {text' lower' upper' : List ℕ} {size : ℕ} → breach ≡ 0 → text' ≡ put text 0 report → size ≡ length report → lower' ≡ put lower 0 lowers → upper' ≡ put upper 0 uppers
       → ReportPut report breach lowers uppers text lower upper text' lower' upper' (Ok size)
-  put-done {size = size} none wrote low high =
-      let number : size ≡ length report = omega (arith, wrote.behind) in
+  put-done {size = size} none wrote number low high =
       record {
-        text_is = wrote.holds ∙ sym (filled-done breach report text none);
+        text_is = wrote ∙ sym (filled-done breach report text none);
         bounds = rw number (pair-done Err (Ok (length report)) lowers uppers lower upper none low high);
       }
 
@@ -52,8 +50,8 @@ module _ (report : List ℕ) (places : ℕ) (text lower upper : List ℕ) (none 
   both : Neither (room_fault (length report) (length text)) (pair_fault places (length lower) (length upper))
   both = both-kept (room_fault (length report) (length text)) (pair_fault places (length lower) (length upper)) none
 
-  pub text-room : Room text 0 report
-  text-room = record { fits = omega (arith, room-kept (length report) (length text) both.left) }
+  pub text-room : length report ≤ length text
+  text-room = room-kept (length report) (length text) both.left
 
   pub bounds-room : PairRoom places (length lower) (length upper)
   bounds-room = pair-room both.right
@@ -147,4 +145,4 @@ report-inside bytes text lower upper answer size e is-count =
     let same : length (report_text bytes) ≡ size = cc (values-told _ _ (size ∷ []) tells told) in
     let none = no-breach _ _ (size ∷ []) tells told in
     let room = text-room (report_text bytes) (places_by (opened bytes).outcome) text lower upper none in
-    omega (arith, same, room.fits)
+    omega (arith, same, room)

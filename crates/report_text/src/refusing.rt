@@ -1,43 +1,41 @@
 // The report of bytes that do not open.
 ghost use Rattle.std.specs.Prelude.{◌≡◌};
-ghost use Rattle.lists.specs.Cleared.{Cleared};
-ghost use Rattle.text.specs.Writing.{Room, Wrote};
+ghost use Rattle.rules.specs.Refusals.{row_of};
+ghost use Rattle.answers.specs.Answers.{by_number};
+ghost use Rattle.text.specs.Writer.{Room, Wrote};
 ghost use Rattle.lent_text.specs.Lent.{reported, written};
-ghost use Rattle.report_text.specs.Report.{refused_bytes, refused_text};
+ghost use Rattle.report_text.specs.Report.{refused_text};
 
-use answers::CountAnswer;
 use lent_text::hand_over;
-use text::{copy, field};
-use words::write_word;
+use rules::Refusal;
+use text::Writer;
+use words::word;
 
 // Room for the line of any refusal.
 const REFUSED_BYTES: usize = 32;
 
-// That room, cleared.
-fn empty_line() -> [u8; REFUSED_BYTES]
-    ensures { Cleared refused_bytes result }
-{
-    [0; REFUSED_BYTES]
-}
-
 // Writes the line of a refused study.
-fn refused_text(refusal: u8, out: &mut [u8]) -> usize
-    requires { Room out.old 0 (refused_text refusal) }
-    ensures { Wrote out.old 0 (refused_text refusal) out.new result }
+#[tactic(auto, using(text::proofs::Written::pieces), unfolding(crate::specs::Report::refused_text, lists::specs::Rows::joined))]
+fn refused_text(refusal: Refusal, out: &mut Writer)
+    requires { Room out.old (refused_text (row_of refusal)) }
+    ensures { Wrote out.old (refused_text (row_of refusal)) out.new }
 {
-    let first = copy(out, 0, b"REFUSED");
-    let second = field(out, first, refusal as u64);
-    let third = copy(out, second, b" ");
-    let last = write_word(out, third, refusal);
-    copy(out, last, b"\n")
+    out.put(b"REFUSED");
+    out.field(u64::from(refusal.number()));
+    out.put(b" ");
+    out.put(word(refusal));
+    out.put(b"\n");
 }
 
 // Hands over the line of a refused study. Refused by 18.
-pub fn refused_report(refusal: u8, text: &mut [u8]) -> CountAnswer
-    ensures answer { result ≡ reported (refused_text refusal) text.old }
-    ensures text { text.new ≡ written (refused_text refusal) text.old }
+#[tactic(auto, using(crate::proofs::Fits::refused_line))]
+pub fn refused_report(refusal: Refusal, text: &mut [u8]) -> Result<u32, Refusal>
+    ensures answer { by_number result ≡ reported (refused_text (row_of refusal)) text.old }
+    ensures text { text.new ≡ written (refused_text (row_of refusal)) text.old }
 {
-    let mut line = empty_line();
-    let size = refused_text(refusal, &mut line);
+    let mut line = [0; REFUSED_BYTES];
+    let mut out = Writer::new(&mut line);
+    refused_text(refusal, &mut out);
+    let size = out.size();
     hand_over(&line[..size], text)
 }
