@@ -27,7 +27,7 @@ use Rattle.study_image.specs.Image.{image_of, study_in}
 use Rattle.std.specs.Prelude.{Result, Ok, Err}
 use Rattle.answers.specs.Told.{number_told, outcome_told, tells}
 use Rattle.answers.proofs.Answered.{answered-tells, tells-number, tells-result, tells-refusal}
-use Rattle.answers.proofs.ByNumber.{numbered, filled-by, filled-all}
+use Rattle.answers.proofs.ByNumber.{some_row, filled-by, filled-all}
 use Rattle.editing.specs.Edits.{refused_edit, edited}
 use Rattle.export_answers.specs.Answers.{below, answered_by, done}
 use Rattle.export_answers.proofs.Answering.{breach-answered}
@@ -39,7 +39,7 @@ use Rattle.answers.specs.Answers.{StudyAnswer, by_number}
 
 pub outcome-tells : (r : Result (Unit {0}) Refusal) → outcome_told (by_number r) ≡ tells (breach_of r) []
 outcome-tells (Ok u) = sym (tells-result 0 [] refl)
-outcome-tells (Err refusal) = sym (tells-refusal (row_of refusal) [] (numbered refusal))
+outcome-tells (Err refusal) = sym (tells-refusal (row_of refusal) [] (some_row refusal))
 
 -- for the function that stores
 pub ruleset keeping = (err_listed, ok_listed, none_listed, filled-by, filled-all, some_row)
