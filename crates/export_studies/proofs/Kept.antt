@@ -27,7 +27,7 @@ use Rattle.study_image.specs.Image.{image_of, study_in}
 use Rattle.std.specs.Prelude.{Result, Ok, Err}
 use Rattle.answers.specs.Told.{number_told, outcome_told, tells}
 use Rattle.answers.proofs.Answered.{answered-tells, tells-number, tells-result, tells-refusal}
-use Rattle.answers.proofs.ByNumber.{some_row, filled-by, filled-all}
+use Rattle.answers.proofs.ByNumber.{filled-by, filled-all}
 use Rattle.editing.specs.Edits.{refused_edit, edited}
 use Rattle.export_answers.specs.Answers.{below, answered_by, done}
 use Rattle.export_answers.proofs.Answering.{breach-answered}
