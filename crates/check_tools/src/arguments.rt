@@ -49,8 +49,6 @@ impl<'a> Arguments<'a> {
         ensures { class_bytes ≤ length self.now.rest.now → result ≡ class_read self.now.rest.now }
     {
         let mut bytes = Cursor { rest: self.rest };
-        let class = class_or(&mut bytes, Refusal::Short).unwrap_or(0);
-        let Cursor { rest: _ } = bytes;
-        class
+        class_or(&mut bytes, Refusal::Short).unwrap_or(0)
     }
 }

@@ -67,8 +67,7 @@ use check_tools::arguments::Arguments;
 use check_tools::listing::{show_entries, show_sums};
 use check_tools::numbers::{refusal_number, separator};
 use check_tools::show::show;
-use planning::Source;
-use rules::Refusal;
+use planning::{Refusal, Source};
 use std::io;
 use study::{Study, zero_study};
 

@@ -4,8 +4,7 @@ use check_tools::listing::filled_list;
 use check_tools::places::{UNTOUCHED, show_bounded, show_class_bounds, show_path_bounds};
 use check_tools::texts::{show_text, show_written};
 use entries::{CLASS_PLACES, LIST_BYTES, entry_bytes};
-use planning::Source;
-use rules::Refusal;
+use planning::{Refusal, Source};
 use std::io;
 use study::Study;
 
