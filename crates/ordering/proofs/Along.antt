@@ -3,16 +3,15 @@
 use Rattle.std.proofs.Common.{◌≡◌, ℕ, suc, ◌+◌, ◌<◌, ◌≤◌, Bool, true, false, cond, ltb, List, [], ◌∷◌, length, get_or, drop, Some, None, refl, sym, ap, ◌∙◌, drop-cons, arith}
 use Rattle.std.proofs.Math.ListN.{drop_of_length-le}
 use Rattle.std.proofs.lemmas.Bool.{false≢true}
-use Rattle.std.specs.Ordering.{is_some_and, is_lt}
 use mir.Val.{bool_byte}
-use borrow.Author.Tests.{lt-ltb, le-ltb, ltb-true, ltb-false}
+use borrow.Author.Tests.{lt-ltb, le-ltb}
 use Rattle.lists.specs.Counting.{truth}
 use Rattle.lists.proofs.Sums.{truth-most}
 use Rattle.ordering.specs.Distinct.{same_input, distinct}
 use Rattle.ordering.specs.Thinning.{stands_next, thinned, counted}
 use Rattle.ordering.specs.Inputs.{Input, no_input, mask_values, ByteMask, rank, paired}
 use Rattle.ordering.specs.Sorting.{ascends}
-use Rattle.ordering.proofs.Compared.{input_at, compared, below-ranks}
+use Rattle.ordering.proofs.Compared.{input_at}
 use Rattle.ordering.proofs.Pairs.{paired_long, get_or-paired}
 use Rattle.ordering.proofs.Rises.{ascends-kept}
 use Rattle.ordering.proofs.Sets.{same-told, same_self}
@@ -94,18 +93,15 @@ module _ (ns ms : List ℕ) (rows : length ns ≡ length ms) (bytes : (k : ℕ) 
         ∙ ap (λ (i : Input). i ∷ drop (suc at) row) (get_or-paired ns ms at rows)
         ∙ ap (λ (r : List Input). a ∷ r) (ap (λ (k : ℕ). drop k row) (sym is) ∙ rest)
 
-    pub along-fell : is_some_and is_lt (compared b a) ≡ true → None ≡ counted row
-    along-fell less =
-        counted-not row
-        (along.order ∙ ap ascends both ∙ fell-two a b behind (ltb-true (rank b) (rank a) (sym (below-ranks b a (bytes next) (bytes at)) ∙ less)))
+    pub along-fell : rank b < rank a → None ≡ counted row
+    along-fell less = counted-not row (along.order ∙ ap ascends both ∙ fell-two a b behind less)
 
-    pub along-more : (k m : ℕ) → k ≡ next → m ≡ bool_byte (is_some_and is_lt (compared a b)) → is_some_and is_lt (compared b a) ≡ false → Along ns ms (n + m) k
-    along-more k m here more most =
-        let ranks : rank a ≤ rank b = ltb-false (rank b) (rank a) (sym (below-ranks b a (bytes next) (bytes at)) ∙ most) in
+    pub along-more : (k m : ℕ) → k ≡ next → m ≡ bool_byte (ltb (rank a) (rank b)) → rank a ≤ rank b → Along ns ms (n + m) k
+    along-more k m here more ranks =
         let one = thinned-two a b behind (bytes at) (bytes next) ranks in
         let from = ap (λ (r : List Input). length (thinned r)) both in
         let on = ap (λ (r : List Input). length (thinned r)) rest in
-        let counts : m ≡ truth (ltb (rank a) (rank b)) = more ∙ byte-truth _ ∙ ap truth (below-ranks a b (bytes at) (bytes next)) in
+        let counts : m ≡ truth (ltb (rank a) (rank b)) = more ∙ byte-truth _ in
         rw here
         (record {
           few = omega (arith, is, along.few, counts, truth-most (ltb (rank a) (rank b)));
