@@ -3,7 +3,7 @@ use Prim.Native.Nat.{ℕ}
 use mathlib.Core.Path.{◌≡◌, refl, ap}
 use mathlib.Core.List.{[]}
 use native.Mathlib.Omega.{arith}
-use Rattle.answers.specs.declared.bounds.Enclosure.{Enclosure}
+use Rattle.units.specs.declared.bounds.Enclosure.{Enclosure}
 use Rattle.answers.specs.declared.chances.Chances.{Chances}
 use Rattle.answers.specs.declared.figures.Caidi.{Caidi}
 use Rattle.answers.specs.declared.figures.Caidi.TheVariants.{Bounds, NotStated}

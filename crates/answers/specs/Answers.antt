@@ -3,7 +3,7 @@ use Rattle.std.specs.Prelude.{ℕ, Result, Ok, Err}
 use Rattle.rules.specs.declared.refusal.Refusal.{Refusal}
 use Rattle.rules.specs.Refusals.{row_of}
 use Rattle.study.specs.declared.Study.{Study}
-use Rattle.answers.specs.declared.bounds.Enclosure.{Enclosure}
+use Rattle.units.specs.declared.bounds.Enclosure.{Enclosure}
 use Rattle.answers.specs.declared.chances.Chances.{Chances}
 use Rattle.answers.specs.declared.counts.PathCount.{PathCount}
 use Rattle.answers.specs.declared.figures.Figures.{Figures}

@@ -2,7 +2,7 @@
 -- enum that a call answers has its line here, and whoever speaks of the number or the values of an answer cites it.
 use Rattle.std.specs.Prelude.{ℕ, List, [], ◌∷◌, ◌++◌}
 use Rattle.answers.specs.Answered.{answered}
-use Rattle.answers.specs.declared.bounds.Enclosure.{Enclosure}
+use Rattle.units.specs.declared.bounds.Enclosure.{Enclosure}
 use Rattle.answers.specs.declared.chances.Chances.{Chances as ChanceBounds}
 use Rattle.answers.specs.declared.figures.Caidi.{Caidi}
 use Rattle.answers.specs.declared.figures.Caidi.TheVariants.{Bounds as Stated, NotStated}

@@ -1,5 +1,5 @@
 // The chances of surviving and of failure.
-use crate::bounds::Enclosure;
+use units::Enclosure;
 
 // Bounds, in units, for the chance of surviving and for that of failure.
 #[derive(Clone, Copy)]

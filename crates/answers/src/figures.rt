@@ -1,5 +1,5 @@
 // The interruption figures.
-use crate::bounds::Enclosure;
+use units::Enclosure;
 
 // CAIDI in whole minutes: a pair of bounds, or not stated.
 #[derive(Clone, Copy)]

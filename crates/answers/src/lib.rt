@@ -2,12 +2,11 @@
 // answers a `Result` of these, with the refusal in their place.
 #![tactic(auto)]
 
-mod bounds;
 mod chances;
 mod counts;
 mod figures;
 
-pub use bounds::Enclosure;
 pub use chances::Chances;
 pub use counts::PathCount;
 pub use figures::{Caidi, Figures};
+pub use units::Enclosure;

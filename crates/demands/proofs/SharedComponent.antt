@@ -22,7 +22,7 @@ use Rattle.gate_record.specs.Gate.{threshold, inputs_byte, test, tests, input, i
 use Rattle.load_record.specs.Load.{loss_gate, size, customers, minutes, load_field, load}
 use Rattle.answers.specs.Answered.{answered}
 use Rattle.answers.specs.Told.{bounds_told}
-use Rattle.answers.specs.declared.bounds.Enclosure.{Enclosure}
+use Rattle.units.specs.declared.bounds.Enclosure.{Enclosure}
 use Rattle.opening.specs.Laws.{IsOpened}
 use Rattle.opening.specs.Opening.{count, component_after, component_record, records, study, answer, opened}
 use Rattle.opening.proofs.Opened.Study.{opened-sound}

@@ -3,7 +3,7 @@
 use Rattle.std.specs.Prelude.{ℕ, ◌<◌, ◌≡◌, Bool, List, [], ◌∷◌, get_or}
 use Rattle.study.specs.declared.Study.{Study}
 use Rattle.answers.specs.Told.{result, pair_values, figure_values}
-use Rattle.answers.specs.declared.bounds.Enclosure.{Enclosure}
+use Rattle.units.specs.declared.bounds.Enclosure.{Enclosure}
 use Rattle.answers.specs.declared.figures.Figures.{Figures}
 use Rattle.entries.specs.Entries.{class_places}
 use Rattle.accuracy.specs.Accuracy.{exact_of}

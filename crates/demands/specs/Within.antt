@@ -5,7 +5,7 @@ use Rattle.lists.specs.Bits.{bit}
 use Rattle.units.specs.Within.{Within}
 use Rattle.study.specs.declared.Load.{Load}
 use Rattle.study.specs.Absent.{absent_load}
-use Rattle.answers.specs.declared.bounds.Enclosure.{Enclosure}
+use Rattle.units.specs.declared.bounds.Enclosure.{Enclosure}
 use Rattle.answers.specs.declared.figures.Figures.{Figures}
 use Rattle.entries.specs.Entries.{class_places}
 use Rattle.paths.specs.Words.{fits}

@@ -10,7 +10,7 @@ use Rattle.study.specs.declared.Gate.{Gate}
 use Rattle.study.specs.declared.Load.{Load}
 use Rattle.study.specs.declared.Study.{Study}
 use Rattle.study.specs.Zero.{zero_component, zero_gate, zero_load}
-use Rattle.answers.specs.declared.bounds.Enclosure.{Enclosure}
+use Rattle.units.specs.declared.bounds.Enclosure.{Enclosure}
 use Rattle.answers.specs.declared.figures.Caidi.{Caidi}
 use Rattle.answers.specs.declared.figures.Caidi.TheVariants.{Bounds, NotStated}
 use Rattle.entries.specs.Entries.{blank_mark, class_places, entry}

@@ -20,7 +20,7 @@ unfolding entries_behind joined
 behind-append front [] ys = refl
 behind-append front (x ∷ xs) ys =
     ap (λ (l : List ℕ). front ++ x ++ l) (behind-append front xs ys)
-        ∙ sym (append_assoc (front ++ x) (entries_behind front xs) (entries_behind front ys))
+    ∙ sym (append_assoc (front ++ x) (entries_behind front xs) (entries_behind front ys))
 
 -- a mark in front of each entry is one mark more in front of all
 pub behind-headed : (front : List ℕ) (mark : ℕ) (rows : List (List ℕ))

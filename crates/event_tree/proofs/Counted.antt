@@ -23,13 +23,17 @@ module _ {f : Fork} where
       let way : List (List ℕ) = headed (mark (blank_in f.ways) s) (rows f s) in
       let next = ap length (left-next f s h) ∙ length-append way (left f (s + 1)) in
       let same : r ≡ length way = count ∙ sym (length-map (rows f s) (λ (row : List ℕ). mark
-          (blank_in f.ways) s ∷ row)) in
+      (blank_in f.ways) s ∷ row)) in
       record { due = omega (arith, next, same, c.due) }
 
   -- no more than there are classes in the block
   pub counted-most : {s n : ℕ} → Counted f s n → n ≤ length f.block.classes.now
-  counted-most {s} {n} c = omega (arith, c.due, (few-paths f.block.counts.now f.block.classes.now f.block.whole).most,
-      f.block.whole.long)
+  counted-most {s} {n} c = omega (
+    arith,
+    c.due,
+    (few-paths f.block.counts.now f.block.classes.now f.block.whole).most,
+    f.block.whole.long,
+  )
 
   pub counted-done : {s n : ℕ} → Counted f s n → number_in f.ways ≤ s
       → n ≡ length (paths f.block.counts.now f.block.classes.now)

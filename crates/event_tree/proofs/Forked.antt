@@ -64,7 +64,7 @@ module _ (counts block : List ℕ) (w : Ways) (m : ℕ) (b : Block counts block)
   way-state s h =
       let blank : Bool = is_blank (get_or counts 0 0) (product (drop 1 counts)) block in
       let number : number_in w ≡ ways blank (get_or counts 0 0) = ap number_in at.ways
-          ∙ ways-number blank (get_or counts 0 0) in
+      ∙ ways-number blank (get_or counts 0 0) in
       omega (arith, h, number, ways-most blank (get_or counts 0 0) (states-some counts block b some))
 
   -- no way is numbered as the blank mark
@@ -74,7 +74,7 @@ module _ (counts block : List ℕ) (w : Ways) (m : ℕ) (b : Block counts block)
   pub way-inside : (s : ℕ) → s < number_in w → s * m + m ≤ length block
   way-inside s h =
       rw at.size (part-inside (get_or counts 0 0) (product (drop 1 counts)) s (length block)
-          (shares counts block b some) (way-state s h))
+      (shares counts block b some) (way-state s h))
 
   -- each leads to a block of the later components
   pub way-block : (s : ℕ) → s < number_in w → Block (drop 1 counts) (part m s block)
@@ -91,11 +91,11 @@ module _ (counts block : List ℕ) (w : Ways) (m : ℕ) (b : Block counts block)
   way-paths =
       let blank : Bool = is_blank (get_or counts 0 0) (product (drop 1 counts)) block in
       rw (at.ways, ways-blank blank (get_or counts 0 0), ways-number blank (get_or counts 0 0), at.size)
-          (go counts some)
+      (go counts some)
     where
       go : (l : List ℕ) → 0 < length l → paths l block
           ≡ divided (mark (is_blank (get_or l 0 0) (product (drop 1 l)) block)) (λ (s : ℕ). paths (drop 1 l) (part
-              (product (drop 1 l)) s block)) 0
+          (product (drop 1 l)) s block)) 0
           (ways (is_blank (get_or l 0 0) (product (drop 1 l)) block) (get_or l 0 0))
       go [] some = absurd (omega arith)
       go (c ∷ cs) some = paths-branches c cs block
@@ -117,7 +117,7 @@ module _ (f : Fork) where
   fork-smaller {s} h =
       let block : List ℕ = f.block.classes.now in
       let room : f.size ≤ length (drop (s * f.size) block) = rw (length-drop (s * f.size) block) (omega
-          (arith, fork-inside h)) in
+      (arith, fork-inside h)) in
       omega (arith, length-take-le f.size (drop (s * f.size) block) room, fork-inside h)
 
   -- ---- the paths of the ways from s on

@@ -44,7 +44,7 @@ next f front s inside =
     ap (entries_behind front) (left-next f s inside)
     ∙ behind-append front (headed (mark (blank_in f.ways) s) (rows f s)) (left f (s + 1))
     ∙ ap (λ (l : List ℕ). l ++ entries_behind front (left f (s + 1))) (behind-headed front (mark (blank_in f.ways) s)
-        (rows f s))
+    (rows f s))
 
 module _ {f : Fork} {front : List ℕ} {n size : ℕ} {d₀ : List ℕ} {at : ℕ} where
   pub listed_start : {b : ClassBlock} {marks : List ℕ} → f.block ≡ b → n + length b.counts.now ≤ size
@@ -65,7 +65,7 @@ module _ {f : Fork} {front : List ℕ} {n size : ℕ} {d₀ : List ℕ} {at : �
   listed-way {s} {place} {m} {marks} {d} l own =
       let room : n < length marks = omega (arith, l.inside, f.some, l.marked.long) in
       let set-behind : take (n + 1) (set marks n m) ≡ take n marks
-          ++ (m ∷ []) = rw add-one (take-suc-set marks n m room) in
+      ++ (m ∷ []) = rw add-one (take-suc-set marks n m room) in
       set-behind ∙ ap (λ (kept : List ℕ). kept ++ (m ∷ [])) l.marked.kept ∙ ap (λ (k : ℕ). front ++ (k ∷ [])) own
 
   -- there is room for the entries of way s
@@ -74,7 +74,7 @@ module _ {f : Fork} {front : List ℕ} {n size : ℕ} {d₀ : List ℕ} {at : �
       → place + length (entries_behind (own_marks f front s) (rows f s)) ≤ length d
   listed-room {s} {place} {marks} {d} l inside =
       due-room (entries_behind (own_marks f front s) (rows f s)) (entries_behind front (left f (s + 1))) (rw
-          (next f front s inside) at l.due)
+      (next f front s inside) at l.due)
 
   -- the marks behind those in front may have changed
   pub listed_more : {s place q : ℕ} {marks marks' d d' : List ℕ} → Listed f front n size d₀ at s marks d place
@@ -85,9 +85,9 @@ module _ {f : Fork} {front : List ℕ} {n size : ℕ} {d₀ : List ℕ} {at : �
       → Listed f front n size d₀ at (s + 1) marks' d' q
   listed_more {s} {place} {q} {marks} {marks'} {d} {d'} l inside kept long end wrote =
       let short : length front ≡ n = ap length (sym l.marked.kept)
-          ∙ length-take-le n marks (omega (arith, l.inside, l.marked.long)) in
+      ∙ length-take-le n marks (omega (arith, l.inside, l.marked.long)) in
       let again : take n (take (n + 1) marks') ≡ front = rw kept (take_at front (mark
-          (blank_in f.ways) s ∷ []) n short) in
+      (blank_in f.ways) s ∷ []) n short) in
       record {
         inside = l.inside;
         marked = record { kept = sym (take-take n (n + 1) marks' (omega arith)) ∙ again; long = long };

@@ -9,7 +9,7 @@ use lib.Dec.{leb}
 use borrow.Author.Tests.{leb-true, leb-false}
 use Rattle.units.specs.One.{one}
 use Rattle.units.proofs.Rounding.{down-below, down-near, up_above, up-near, up-most}
-use Rattle.exponential.specs.declared.Bounds.{Bounds}
+use Rattle.units.specs.declared.bounds.Enclosure.{Enclosure}
 use Rattle.exponential.specs.Series.{whole, partial}
 use Rattle.exponential.specs.Worked.{grain, raised, line, times}
 use Rattle.exponential.proofs.Enclosing.{Below, Above, Enclosed, Factor}
@@ -78,11 +78,11 @@ line-encloses x less =
 -- ---- times a factor
 
 -- the same bounds with more room
-pub widened : {x y gap more : ℕ} {b : Bounds} → Enclosed x gap b → x ≡ y → gap ≤ more → Enclosed y more b
+pub widened : {x y gap more : ℕ} {b : Enclosure} → Enclosed x gap b → x ≡ y → gap ≤ more → Enclosed y more b
 widened e same room =
     rw (← same) (record { below = e.below; above = e.above; ordered = e.ordered; most = e.most; near = omega (arith, e.near, room) })
 
-module _ {x power gap factor : ℕ} {b : Bounds} (e : Enclosed x gap b) (f : Factor power factor) where
+module _ {x power gap factor : ℕ} {b : Enclosure} (e : Enclosed x gap b) (f : Factor power factor) where
   -- what each rounding takes is less than a unit, and what the factors differ by no more than a unit
   multiplied : Enclosed (x + power) (gap + 2) (times 1 factor b)
   unfolding times
@@ -110,7 +110,7 @@ module _ {x power gap factor : ℕ} {b : Bounds} (e : Enclosed x gap b) (f : Fac
 -- ---- the unit more at the end
 
 -- some partial sum shows it
-pub above-raised : {x gap : ℕ} {b : Bounds} → Enclosed x gap b → (n : ℕ) × (one * whole n ≤ raised b.upper * partial x n)
+pub above-raised : {x gap : ℕ} {b : Enclosure} → Enclosed x gap b → (n : ℕ) × (one * whole n ≤ raised b.upper * partial x n)
 unfolding whole partial
 above-raised {x} {gap} {b} e = go (raised_by b.upper)
   where
@@ -118,8 +118,8 @@ above-raised {x} {gap} {b} e = go (raised_by b.upper)
     go (to_one least) = (0, omega arith)
     go (by_a_unit less) = above-some e.above
 
-pub near-raised : {x gap : ℕ} {b : Bounds} → Enclosed x gap b → raised b.upper ≤ b.lower + (gap + 1)
+pub near-raised : {x gap : ℕ} {b : Enclosure} → Enclosed x gap b → raised b.upper ≤ b.lower + (gap + 1)
 near-raised {x} {gap} {b} e = omega (arith, raised-near b.upper, e.near)
 
-pub ordered-raised : {x gap : ℕ} {b : Bounds} → Enclosed x gap b → b.lower ≤ raised b.upper
+pub ordered-raised : {x gap : ℕ} {b : Enclosure} → Enclosed x gap b → b.lower ≤ raised b.upper
 ordered-raised {x} {gap} {b} e = raised-least b.upper e.ordered e.most

@@ -2,7 +2,7 @@
 use Prim.Native.Nat.{ℕ, ◌+◌, ◌*◌, ◌^◌, ◌<◌, ◌≤◌}
 use Rattle.units.specs.One.{one}
 use Rattle.exponential.specs.Series.{whole, partial}
-use Rattle.exponential.specs.declared.Bounds.{Bounds}
+use Rattle.units.specs.declared.bounds.Enclosure.{Enclosure}
 
 -- a lower bound times any partial sum is at most one
 pub record Below (x lower : ℕ) : Type 0 where
@@ -14,7 +14,7 @@ pub record Above (x upper : ℕ) : Type 0 where
   pub each : (n : ℕ) → one * whole n ≤ upper * partial x n + rest * (x + 1) ^ n
 
 -- both, and by how many units they differ at most
-pub record Enclosed (x gap : ℕ) (b : Bounds) : Type 0 where
+pub record Enclosed (x gap : ℕ) (b : Enclosure) : Type 0 where
   pub below : Below x b.lower
   pub above : Above x b.upper
   pub ordered : b.lower ≤ b.upper

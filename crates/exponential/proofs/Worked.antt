@@ -9,7 +9,7 @@ use native.Mathlib.Numerals.{add-one}
 use lib.ListN.{length}
 use lib.Pow.{mod-pow-add}
 use Rattle.units.specs.One.{one}
-use Rattle.exponential.specs.declared.Bounds.{Bounds}
+use Rattle.units.specs.declared.bounds.Enclosure.{Enclosure}
 use Rattle.exponential.specs.Laws.{WorkedSurvives}
 use Rattle.exponential.specs.Worked.{grain, powers, reach, factors, raised, line, times, times_each, survival_of}
 use Rattle.exponential.proofs.Enclosing.{Enclosed}
@@ -21,7 +21,7 @@ bits-more : (bits n : ℕ) → bits % 2 ^ suc n ≡ bits / 2 % 2 ^ n * 2 + bits 
 bits-more bits n = rw (← add-one n) (mod-pow-add bits n 1)
 
 -- as many of the lowest bits as there are factors
-each-encloses : (row : List ℕ) (power bits : ℕ) {x gap : ℕ} {b : Bounds} → all_right power row ≡ true → Enclosed x gap b
+each-encloses : (row : List ℕ) (power bits : ℕ) {x gap : ℕ} {b : Enclosure} → all_right power row ≡ true → Enclosed x gap b
     → Enclosed (x + power * (bits % 2 ^ length row)) (gap + 2 * length row) (times_each bits row b)
 unfolding times_each all_right
 each-encloses [] power bits all e = widened e (rw (mod-one bits) (omega arith)) (omega arith)
@@ -55,5 +55,5 @@ worked-survives x less =
       ordered = ordered-raised e;
       most = raised-most _;
       near = omega (arith, near-raised e);
-      certain = λ none. (ap (λ (b : Bounds). b.lower) (certain none), ap (λ (b : Bounds). b.upper) (certain none));
+      certain = λ none. (ap (λ (b : Enclosure). b.lower) (certain none), ap (λ (b : Enclosure). b.upper) (certain none));
     }

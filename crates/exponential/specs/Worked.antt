@@ -3,7 +3,7 @@
 use Rattle.std.specs.Prelude.{ℕ, ◌+◌, ◌-◌, ◌*◌, ◌/◌, ◌%◌, ◌^◌, ◌≤◌, min, cond, List, [], ◌∷◌, eqb}
 use Rattle.units.specs.One.{one}
 use Rattle.units.specs.Rounding.{down, up, scale}
-use Rattle.exponential.specs.declared.Bounds.{Bounds}
+use Rattle.units.specs.declared.bounds.Enclosure.{Enclosure}
 
 -- 2 ^ 14: the square of a smaller exponent is less than one, so that the line is right to a unit
 abbrev pub grain : ℕ
@@ -24,7 +24,7 @@ abbrev pub reach : ℕ
 reach = grain * 2 ^ powers
 
 -- two bounds that are probabilities, as far as one goes
-pub record Units (b : Bounds) : Type 0 where
+pub record Units (b : Enclosure) : Type 0 where
   pub lower : b.lower ≤ one
   pub upper : b.upper ≤ one
 
@@ -33,21 +33,21 @@ unfoldable pub raised : ℕ → ℕ
 raised bound = min one (bound + 1)
 
 -- below the grain: one less the exponent, and a unit more
-unfoldable pub line : ℕ → Bounds
+unfoldable pub line : ℕ → Enclosure
 line x = record { lower = one - x; upper = raised (one - x) }
 
 -- times the factor of a bit, which was rounded down, where the bit stands: the lower bound by the factor and rounded down, the upper one by a unit more and
 -- rounded up
-unfoldable pub times : ℕ → ℕ → Bounds → Bounds
+unfoldable pub times : ℕ → ℕ → Enclosure → Enclosure
 times bit factor b = cond (eqb bit 0) b (record { lower = scale down b.lower factor; upper = scale up b.upper (factor + 1) })
 
 -- the same for every bit, from the lowest on
-unfoldable pub times_each : ℕ → List ℕ → Bounds → Bounds
+unfoldable pub times_each : ℕ → List ℕ → Enclosure → Enclosure
 times_each bits [] b = b
 times_each bits (factor ∷ rest) b = times_each (bits / 2) rest (times (bits % 2) factor b)
 
 -- the pair of an exponent: the upper bound is raised once more, so that some partial sum shows it
-unfoldable pub survival_of : ℕ → Bounds
+unfoldable pub survival_of : ℕ → Enclosure
 survival_of x =
     let b = times_each (x / grain) factors (line (x % grain)) in
     record { lower = b.lower; upper = raised b.upper }

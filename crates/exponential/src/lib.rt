@@ -6,7 +6,7 @@ ghost use Rattle.std.specs.Prelude.{◌<◌, ◌≤◌, ◌≡◌};
 ghost use Rattle.units.specs.One.{one};
 ghost use Rattle.exponential.specs.Worked.{grain, raised, line as line_of, Units, times as times_of, survival_of};
 
-use units::{DOWN, ONE, UP, scale};
+use units::{DOWN, Enclosure, ONE, UP, scale};
 
 // What is left of an exponent below it is bounded by a straight line.
 const GRAIN: u64 = 16384;
@@ -21,13 +21,6 @@ const FACTORS: [u64; POWERS] = [
     341727438, 116777642, 13637017, 185968, 34,
 ];
 
-// A lower and an upper bound, in units.
-#[derive(Clone, Copy)]
-pub struct Bounds {
-    pub lower: u64,
-    pub upper: u64,
-}
-
 // A unit more, and at most one.
 #[tactic(auto, unfolding(crate::specs::Worked::raised))]
 fn raise(bound: u64) -> u64
@@ -39,13 +32,13 @@ fn raise(bound: u64) -> u64
 
 // The bounds of an exponent below the grain.
 #[tactic(auto, unfolding(crate::specs::Worked::line))]
-fn line(rest: u64) -> Bounds
+fn line(rest: u64) -> Enclosure
     requires { rest < grain }
     ensures line { result ≡ line_of rest }
     ensures units { Units result }
 {
     let lower = u64::from(ONE) - rest;
-    Bounds {
+    Enclosure {
         lower,
         upper: raise(lower),
     }
@@ -53,7 +46,7 @@ fn line(rest: u64) -> Bounds
 
 // The bounds times the factor of a bit, where the bit stands.
 #[tactic(auto, unfolding(crate::specs::Worked::times))]
-fn times(bit: u64, factor: u64, b: Bounds) -> Bounds
+fn times(bit: u64, factor: u64, b: Enclosure) -> Enclosure
     requires units { Units b }
     requires less { factor < one }
     ensures product { result ≡ times_of bit factor b }
@@ -62,14 +55,14 @@ fn times(bit: u64, factor: u64, b: Bounds) -> Bounds
     if bit == 0 {
         return b;
     }
-    Bounds {
+    Enclosure {
         lower: scale(DOWN, b.lower, factor),
         upper: scale(UP, b.upper, factor + 1),
     }
 }
 
 // Bounds for the exponential of minus an exponent.
-pub fn survival(exponent: u64) -> Bounds
+pub fn survival(exponent: u64) -> Enclosure
     ensures pair { result ≡ survival_of exponent }
     ensures units { Units result }
 {
@@ -79,7 +72,7 @@ pub fn survival(exponent: u64) -> Bounds
         b = times(bits % 2, factor, b);
         bits /= 2;
     }
-    Bounds {
+    Enclosure {
         upper: raise(b.upper),
         ..b
     }

@@ -1,6 +1,6 @@
 -- What a call answers in C, and what it leaves of what it was lent, by what its answer in Rattle tells.
 use Rattle.std.specs.Prelude.{ℕ, ◌/◌, ◌≡◌, List, ℤ, pos, neg_ℤ, length, get_or}
-use Rattle.answers.specs.declared.bounds.Enclosure.{Enclosure}
+use Rattle.units.specs.declared.bounds.Enclosure.{Enclosure}
 use Rattle.answers.specs.Told.{Told, result, refusal}
 
 -- ---- the answer

@@ -1,6 +1,6 @@
 -- The calls for the figures of the study that an image holds, by its gates or by a drawn tree, each in two numbers.
 use Rattle.std.specs.Prelude.{ℕ, ◌≡◌, List, ℤ}
-use Rattle.answers.specs.declared.bounds.Enclosure.{Enclosure}
+use Rattle.units.specs.declared.bounds.Enclosure.{Enclosure}
 use Rattle.answers.specs.Told.{pair_values, caidi_values, figures_told_of, figures_told}
 use Rattle.meaning.specs.Meaning.{Meaning}
 use Rattle.loss_calls.specs.Figures.{figures_given}

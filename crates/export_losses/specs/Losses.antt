@@ -1,7 +1,7 @@
 -- The calls for the losses of loads: bounds for a load of the study that an image holds, by its gates or by a drawn
 -- tree, and the loads that a class loses.
 use Rattle.std.specs.Prelude.{ℕ, ◌≡◌, List, ℤ, pos}
-use Rattle.answers.specs.declared.bounds.Enclosure.{Enclosure}
+use Rattle.units.specs.declared.bounds.Enclosure.{Enclosure}
 use Rattle.answers.specs.Told.{Told, bounds_told}
 use Rattle.fault_tree.specs.Classes.{loads_lost}
 use Rattle.meaning.specs.Meaning.{Meaning}

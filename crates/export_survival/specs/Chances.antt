@@ -1,6 +1,6 @@
 -- The call for the chances of surviving and of failure, each in two numbers.
 use Rattle.std.specs.Prelude.{ℕ, ◌≡◌, ℤ}
-use Rattle.answers.specs.declared.bounds.Enclosure.{Enclosure}
+use Rattle.units.specs.declared.bounds.Enclosure.{Enclosure}
 use Rattle.answers.specs.Told.{pair_values, survival_told_of, survival_told}
 use Rattle.survival.specs.Chances.{survival_given}
 use Rattle.export_answers.specs.Answers.{answered_by, done, left_by}

@@ -3,7 +3,7 @@ use Prim.Native.Nat.{ℕ}
 use mathlib.Core.Path.{◌≡◌}
 use mathlib.Core.List.{List}
 use Rattle.study.specs.declared.Load.{Load}
-use Rattle.answers.specs.declared.bounds.Enclosure.{Enclosure}
+use Rattle.units.specs.declared.bounds.Enclosure.{Enclosure}
 use Rattle.answers.specs.declared.figures.Caidi.{Caidi}
 use Rattle.answers.specs.declared.figures.Figures.{Figures}
 use Rattle.indices.specs.declared.sums.Sums.{Sums}

@@ -13,7 +13,7 @@ use Rattle.units.specs.Rounding.{quotient_down, quotient_up}
 use Rattle.units.proofs.Quotients.{quotient-below, quotient-above}
 use Rattle.study.specs.declared.Load.{Load}
 use Rattle.study.specs.Zero.{zero_load}
-use Rattle.answers.specs.declared.bounds.Enclosure.{Enclosure}
+use Rattle.units.specs.declared.bounds.Enclosure.{Enclosure}
 use Rattle.indices.specs.Figures.{loads_sum, loss_sum, minutes_sum, bound_of, quotients, figures_of}
 use Rattle.indices.specs.Enclosed.{Encloses, LossesEnclosed, EnclosesPerCustomer, EnclosesPerInterruption}
 use Rattle.indices.specs.Parts.{short, sustained}

@@ -5,7 +5,7 @@ use Rattle.lists.specs.Counting.{sum, counted}
 use Rattle.units.specs.Rounding.{quotient_down, quotient_up}
 use Rattle.study.specs.declared.Load.{Load}
 use Rattle.study.specs.Zero.{zero_load}
-use Rattle.answers.specs.declared.bounds.Enclosure.{Enclosure}
+use Rattle.units.specs.declared.bounds.Enclosure.{Enclosure}
 use Rattle.answers.specs.declared.figures.Caidi.{Caidi}
 use Rattle.answers.specs.declared.figures.Caidi.TheVariants.{Bounds, NotStated}
 use Rattle.answers.specs.declared.figures.Figures.{Figures}

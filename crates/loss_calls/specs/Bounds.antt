@@ -4,7 +4,7 @@ use Rattle.rules.specs.Breach.{first_breach}
 use Rattle.rules.specs.Table.{unsound_fault, item_fault}
 use Rattle.study.specs.declared.Study.{Study}
 use Rattle.answers.specs.Answered.{answered}
-use Rattle.answers.specs.declared.bounds.Enclosure.{Enclosure}
+use Rattle.units.specs.declared.bounds.Enclosure.{Enclosure}
 use Rattle.model.specs.Model.{Model, components, paths_of, probability_table}
 use Rattle.probability.specs.Totals.{lower_loss, upper_loss}
 use Rattle.soundness.specs.Check.{sound}

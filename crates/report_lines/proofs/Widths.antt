@@ -18,7 +18,7 @@ use Rattle.probability.specs.Probabilities.{AtMostOne}
 use Rattle.probability.proofs.Most.{path-most}
 use Rattle.answers.specs.declared.figures.Caidi.{Caidi}
 use Rattle.answers.specs.declared.figures.Caidi.TheVariants.{Bounds, NotStated}
-use Rattle.answers.specs.declared.bounds.Enclosure.{Enclosure}
+use Rattle.units.specs.declared.bounds.Enclosure.{Enclosure}
 use Rattle.answers.specs.declared.figures.Figures.{Figures as FigureValues}
 use Rattle.report_lines.specs.Classes.{class_line, class_lines}
 use Rattle.report_lines.specs.Figures.{caidi_line, all_figures}

@@ -5,7 +5,7 @@ use Rattle.rules.specs.Breach.{first_breach}
 use Rattle.rules.specs.Table.{far_fault}
 use Rattle.answers.specs.Answered.{answered}
 use Rattle.answers.specs.declared.chances.Chances.{Chances}
-use Rattle.exponential.specs.declared.Bounds.{Bounds}
+use Rattle.units.specs.declared.bounds.Enclosure.{Enclosure}
 use Rattle.exponential.specs.Worked.{survival_of}
 use Rattle.std.specs.Prelude.{Ok, Err}
 use Rattle.answers.specs.Answers.{SurvivalAnswer}
@@ -22,7 +22,7 @@ unfoldable pub survival_fault : ℕ → ℕ → ℕ
 survival_fault fit hours = first_breach (survival_breaches fit hours)
 
 -- the chance of surviving within two bounds, and that of failure: one less each, swapped
-abbrev pub chances_by : Bounds → Chances
+abbrev pub chances_by : Enclosure → Chances
 chances_by surviving =
     record {
       survival = record { lower = surviving.lower; upper = surviving.upper };

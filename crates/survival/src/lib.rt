@@ -8,7 +8,6 @@ ghost use Rattle.survival.specs.Chances.{exponent_of, chances_by};
 ghost use Rattle.survival.specs.Promise.{Answers};
 
 use answers::{Chances, Enclosure};
-use exponential::Bounds;
 use rules::{Refusal, far_fault};
 use units::ONE;
 
@@ -20,16 +19,13 @@ fn exponent(fit: u32, hours: u32) -> u64
 }
 
 // The chance of surviving within these bounds, and that of failure: one less each, swapped.
-fn chances(surviving: Bounds) -> Chances
+fn chances(surviving: Enclosure) -> Chances
     requires { Units surviving }
     ensures { result ≡ chances_by surviving }
 {
     let one = u64::from(ONE);
     Chances {
-        survival: Enclosure {
-            lower: surviving.lower,
-            upper: surviving.upper,
-        },
+        survival: surviving,
         failure: Enclosure {
             lower: one - surviving.upper,
             upper: one - surviving.lower,

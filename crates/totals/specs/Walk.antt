@@ -22,7 +22,7 @@ unfolding factored
 onward rounding probabilities i zero marks bound = bound
 onward rounding probabilities i (suc n) marks bound =
     onward rounding probabilities (i + 1) n (drop 1 marks) (factored rounding probabilities i
-        (get_or marks 0 blank_mark) bound)
+    (get_or marks 0 blank_mark) bound)
 
 -- what entries of the n components from i on bring to the total of the classes that are kept, behind a path with this
 -- bound
@@ -30,7 +30,7 @@ unfoldable pub brought_by : ℕ → List ℕ → ℕ → ℕ → ℕ → (ℕ �
 unfolding sum_over onward
 brought_by rounding probabilities i n bound keep entries =
     sum_over (λ (entry : List ℕ). counted (keep (class_borne n entry))
-        (onward rounding probabilities i n entry bound)) entries
+    (onward rounding probabilities i n entry bound)) entries
 
 -- what the paths of a block bring to a place, by class or by load
 unfoldable pub brings : Bool → ℕ → List ℕ → ℕ → List ℕ → List ℕ → ℕ → ℕ → ℕ

@@ -2,9 +2,13 @@
 // rounded down or up.
 #![tactic(auto)]
 
+mod bounds;
+
 ghost use Rattle.std.specs.Prelude.{◌<◌, ◌≤◌, ◌≡◌};
 ghost use Rattle.units.specs.One.{one};
 ghost use Rattle.units.specs.Rounding.{up, scale as rounding_scale, quotient_down, quotient_up};
+
+pub use bounds::Enclosure;
 
 // Certainty in units of a billionth.
 pub const ONE: u32 = 1000000000;

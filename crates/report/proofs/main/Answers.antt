@@ -17,5 +17,5 @@ slice_bounds-write_all-end c =
     let same : length c.report.new.text ≡ report_bytes = search rules in
     let whole = c.empty_text-out.ensures in
     let inside : c.in-Ok.size ≤ length c.report.new.text =
-        omega (arith, report-inside _ _ _ _ _ _ c.report.ensures.answer (ap by_number c.in-Ok.is), same, whole) in
+    omega (arith, report-inside _ _ _ _ _ _ c.report.ensures.answer (ap by_number c.in-Ok.is), same, whole) in
     sym (length-take-le _ _ inside)

@@ -12,7 +12,7 @@ loop-s-init c =
 pub loop-s-preserved : goal.loop-s-preserved
 loop-s-preserved c =
     compared-more c.loop-s.invariant c.loop-s-test.true (rw zero-mul refl) c.classes_from.ensures
-        c.same_classes-blank.ensures
+    c.same_classes-blank.ensures
 
 pub returns : goal.returns
 returns c =

@@ -22,8 +22,15 @@ overflow_add-paths t c =
     let more : Counted c.in-Some.fork (c.loop-s.s + 1) (c.loop-s.paths + c.count_paths-paths.result.paths)
     = counted-more c.loop-s.invariant (omega arith)
     (rw (← c.part.ensures.counts, ← c.part.ensures.classes) c.count_paths-paths.ensures) in
-    record { fits = omega (arith, counted-most more, c.requires, ap
-        (λ b. length b.classes.now) c.in-Some.ensures.some) }
+    record {
+      fits = omega (
+        arith,
+        counted-most more,
+        c.requires,
+        ap
+            (λ b. length b.classes.now) c.in-Some.ensures.some,
+      );
+    }
 
 pub returns : goal.returns
 returns t c =

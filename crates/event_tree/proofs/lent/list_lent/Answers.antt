@@ -24,7 +24,7 @@ returns-in_err-room_fault-clause-buffer c =
 pub list_paths-requires-clause-block_in_bounds : goal.list_paths-requires-clause-block_in_bounds
 list_paths-requires-clause-block_in_bounds c =
     room-kept _ _ (sym (room-is c.requires _ c.count_paths-count.ensures c.list_need.ensures
-        c.in_ok-room_fault.ensures))
+    c.in_ok-room_fault.ensures))
 
 pub returns-clause-answer : goal.returns-clause-answer
 returns-clause-answer c =

@@ -12,17 +12,17 @@ use Rattle.event_tree.proofs.list.+list_block.Goals as goal
 pub write_entry-requires : goal.write_entry-requires
 write_entry-requires t c =
     rw c.class.ensures (leaf_room _ _ (take c.args.front c.args.marks.now) c.in_default.ensures.none
-        c.requires.block_in_bounds)
+    c.requires.block_in_bounds)
 
 pub returns-in_default-clause-value : goal.returns-in_default-clause-value
 returns-in_default-clause-value t c =
     due-end (leaf-done _ _ (take c.args.front c.args.marks.now) c.in_default.ensures.none c.requires.block_in_bounds
-        (rw c.class.ensures at c.write_entry.ensures))
+    (rw c.class.ensures at c.write_entry.ensures))
 
 pub returns-in_default-clause-out_after : goal.returns-in_default-clause-out_after
 returns-in_default-clause-out_after t c =
     due-done (leaf-done _ _ (take c.args.front c.args.marks.now) c.in_default.ensures.none c.requires.block_in_bounds
-        (rw c.class.ensures at c.write_entry.ensures))
+    (rw c.class.ensures at c.write_entry.ensures))
 
 pub loop-s-init : goal.loop-s-init
 loop-s-init t c =
@@ -37,8 +37,13 @@ list_block-place-requires t c =
     let marked = listed-way c.loop-s.invariant c.mark.ensures in (
       omega (arith, fewer, whole, c.decreases),
       (
-        omega (arith, fewer, c.loop-s.invariant.inside, length-set c.loop-s.marks c.args.front c.mark.result,
-            c.loop-s.invariant.marked.long),
+        omega (
+          arith,
+          fewer,
+          c.loop-s.invariant.inside,
+          length-set c.loop-s.marks c.args.front c.mark.result,
+          c.loop-s.invariant.marked.long,
+        ),
         rw (marked, c.part.ensures.counts, c.part.ensures.classes) (listed-room c.loop-s.invariant inside),
       ),
     )
@@ -48,7 +53,7 @@ loop-s-preserved t c =
     let inside : c.loop-s.s < number_in c.in-Some.fork.ways = omega arith in
     let marked = listed-way c.loop-s.invariant c.mark.ensures in
     let long = c.list_block-place.auto.marks ∙ length-set c.loop-s.marks c.args.front c.mark.result
-        ∙ c.loop-s.invariant.marked.long in
+    ∙ c.loop-s.invariant.marked.long in
     listed_more c.loop-s.invariant inside (c.list_block-place.ensures.marks_unchanged ∙ marked) long
     (rw (marked, c.part.ensures.counts, c.part.ensures.classes) at c.list_block-place.ensures.value)
     (rw (marked, c.part.ensures.counts, c.part.ensures.classes) at c.list_block-place.ensures.out_after)

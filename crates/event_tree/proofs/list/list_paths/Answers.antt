@@ -9,8 +9,10 @@ use Rattle.event_tree.proofs.list.list_paths.Goals as goal
 pub list_block-requires : goal.list_block-requires
 list_block-requires c =
     let long = ap length (unmarked (paths c.args.block.counts.now c.args.block.classes.now)) in record {
-        counts_in_bounds = omega (arith, c.no_marks-marks.ensures, c.requires.counts_len_bound); block_in_bounds =
-        omega (arith, long, c.requires.block_in_bounds) }
+      counts_in_bounds = omega (arith, c.no_marks-marks.ensures, c.requires.counts_len_bound);
+      block_in_bounds =
+          omega (arith, long, c.requires.block_in_bounds);
+    }
 
 pub returns : goal.returns
 returns c =

@@ -8,4 +8,4 @@ use Rattle.totals.proofs.clearing.clear.Goals as goal
 pub returns : goal.returns
 returns c =
     zeros-written c.requires (c.fill.ensures.after (λ y e. e)
-        ∙ ap (λ n. replicate n 0) (length-take-le 256 c.args.totals.now c.requires))
+    ∙ ap (λ n. replicate n 0) (length-take-le 256 c.args.totals.now c.requires))

@@ -10,7 +10,7 @@ ways_of-requires-clause-block_len c =
     let counts = c.args.self.counts.now in
     let some : 0 < length counts = slice_get_within counts 0 _ (sym c.in_ok-states.ensures.value) in
     let first : get_or counts 0 0 ≡ c.in_ok-states.field-0.now = get_or_from_slice_get counts 0 _ 0
-        (sym c.in_ok-states.ensures.value) in
+    (sym c.in_ok-states.ensures.value) in
     rw (← first) (whole_parts _ _ c.args.self.whole some)
 
 pub invariant_of-result : goal.invariant_of-result
@@ -18,6 +18,9 @@ invariant_of-result c =
     let counts = c.args.self.counts.now in
     let some : 0 < length counts = slice_get_within counts 0 _ (sym c.in_ok-states.ensures.value) in
     let first : get_or counts 0 0 ≡ c.in_ok-states.field-0.now = get_or_from_slice_get counts 0 _ 0
-        (sym c.in_ok-states.ensures.value) in
-    record { some = some; at = rw (← first) (ways-at _ _ c.ways_of.result c.args.self.whole some
-        (rw first c.ways_of.ensures)) }
+    (sym c.in_ok-states.ensures.value) in
+    record {
+      some = some;
+      at = rw (← first) (ways-at _ _ c.ways_of.result c.args.self.whole some
+          (rw first c.ways_of.ensures));
+    }

@@ -15,8 +15,10 @@ classes_from-requires c =
 pub invariant_of-result : goal.invariant_of-result
 invariant_of-result c =
     let f = c.args.self in
-    record { whole = rw (later-is f.block.counts.now, c.classes_from.ensures)
-        (way-block _ _ _ _ f.block.whole f.some f.at c.args.s c.requires) }
+    record {
+      whole = rw (later-is f.block.counts.now, c.classes_from.ensures)
+          (way-block _ _ _ _ f.block.whole f.some f.at c.args.s c.requires);
+    }
 
 pub returns : goal.returns
 returns c =

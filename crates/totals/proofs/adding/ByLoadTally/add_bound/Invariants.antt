@@ -10,4 +10,4 @@ use Rattle.totals.proofs.adding.ByLoadTally.add_bound.Given as goal
 abbrev pub invariant-loop-j : goal.invariant-loop-j
 invariant-loop-j l =
     Placing most_loads (λ (p : ℕ). min l.most (get_or l.initial.totals p 0 + counted
-        (bit l.class p) l.bound)) l.initial.totals l.j l.totals
+    (bit l.class p) l.bound)) l.initial.totals l.j l.totals
