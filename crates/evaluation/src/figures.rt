@@ -1,6 +1,7 @@
 // The figures of a model, from bounds for the losses of its loads.
-ghost use Rattle.std.specs.Prelude.{◌≡◌};
+ghost use Rattle.std.specs.Prelude.{◌≡◌, length};
 ghost use Rattle.answers.specs.Answers.{by_number};
+ghost use Rattle.indices.specs.Losses.{LossBounds};
 ghost use Rattle.model.specs.Good.{Sizes};
 ghost use Rattle.study_model.specs.InHand.{model_in};
 ghost use Rattle.evaluation.specs.Figures.{figures_by, figures_in};
@@ -14,7 +15,8 @@ use study_model::ModelInHand;
 
 // The figures of loads. Refused by 19.
 pub fn figures_from(losses: &Losses, loads: &[Load]) -> Result<Figures, Refusal>
-    requires { Sizes loads.now }
+    requires sizes { Sizes loads.now }
+    requires loss_bounds { LossBounds losses.now.lower losses.now.upper (length loads.now) }
     ensures { by_number result ≡ figures_by losses.now.lower losses.now.upper loads.now }
 {
     let customers = customers_sum(loads);

@@ -1,6 +1,6 @@
 // SAIFI, SAIDI, CAIDI and MAIFI.
-ghost use Rattle.std.specs.Prelude.{◌<◌, ◌≤◌, ◌≡◌};
-ghost use Rattle.rules.specs.Limits.{most_loads, most_served};
+ghost use Rattle.std.specs.Prelude.{◌<◌, ◌≤◌, ◌≡◌, length};
+ghost use Rattle.rules.specs.Limits.{most_served};
 ghost use Rattle.model.specs.Good.{Sizes};
 ghost use Rattle.indices.specs.Figures.{quotients as figures_quotients, caidi, figures_of};
 ghost use Rattle.indices.specs.Losses.{LossBounds};
@@ -17,7 +17,6 @@ use units::{quotient_down, quotient_up};
 pub struct Losses {
     pub lower: [u64; LOAD_PLACES],
     pub upper: [u64; LOAD_PLACES],
-    pub ghost bounds: { LossBounds lower upper most_loads },
 }
 
 // A lower sum over its divisor, rounded down, and an upper sum over its own, rounded up.
@@ -51,6 +50,7 @@ fn caidi_of(low: Sums, high: Sums) -> Caidi
 // The figures of loads, from the customers served, and lower and upper bounds for the loss of each load.
 pub fn figures_of(customers: u64, losses: &Losses, loads: &[Load]) -> Figures
     requires sizes { Sizes loads.now }
+    requires loss_bounds { LossBounds losses.now.lower losses.now.upper (length loads.now) }
     requires customers_nonzero { 0 < customers }
     requires customers_le_most_served { customers ≤ most_served }
     ensures { result ≡ figures_of customers losses.now.lower losses.now.upper loads.now }

@@ -7,7 +7,7 @@ use Rattle.indices.proofs.figures.figures_of.Goals as goal
 
 pub caidi_of-requires-clause-loss_le_loss : goal.caidi_of-requires-clause-loss_le_loss
 caidi_of-requires-clause-loss_le_loss c =
-    let ordered = loss-ordered c.args.losses.now.bounds sustained c.args.loads.now c.requires.sizes.few in
+    let ordered = loss-ordered c.requires.loss_bounds sustained c.args.loads.now (omega arith) in
     omega (arith, c.sums_of-low.ensures.loss.is, c.sums_of-high.ensures.loss.is, ordered)
 
 pub returns : goal.returns
