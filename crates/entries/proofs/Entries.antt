@@ -6,13 +6,14 @@ use mathlib.Core.List.{List, [], ◌∷◌, append-nil}
 use native.Mathlib.Nat.{mul-le-mul_right}
 use native.Mathlib.Omega.{arith}
 use lib.ListN.{length, get_or, take, drop, length-append, length-drop}
-use lib.Seq.{length-take-le, take-append-le, drop-append-le, drop-append_seam}
+use native.Mathlib.Decide.{dec_lt}
+use lib.Seq.{get_or-drop, get_or-take, length-take-le, take-append-le, drop-append-le, drop-append_seam}
 use Rattle.lists.specs.Rows.{put, joined}
 use Rattle.lists.proofs.Elements.{Every}
 use Rattle.lists.proofs.Joined.{joined-long}
 use Rattle.lists.proofs.Rows.{row-at}
 use Rattle.lists.proofs.Tabulated.{length-tabulate, get_or-tabulate, tabulated}
-use Rattle.entries.specs.Entries.{class_code, class_read, entry_bytes, entry, class_borne, entry_at, entries_of}
+use Rattle.entries.specs.Entries.{byte_values, class_places, class_code, class_read, entry_bytes, entry, class_borne, entry_at, entries_of}
 use Rattle.entries.specs.Lists.{EntryIn, PathList}
 use Rattle.entries.proofs.ClassBytes.{code-long, code_read}
 
@@ -73,3 +74,15 @@ entries-put n rows d each = sym (tabulated (entry_at n (put d 0 (joined rows))) 
         sym (row-at width rows k each h)
         ∙ sym (take-append-le width (drop (k * width) x) rest (rw (length-drop (k * width) x) (omega (arith, inside))))
         ∙ ap (take width) (sym (drop-append-le (k * width) x rest (omega (arith, inside))))
+
+-- ---- the class of an entry of bytes
+
+pub class-places : (n k : ℕ) (list : List ℕ) → ((i : ℕ) → get_or list i 0 < byte_values) → class_borne n (entry_at n list k) < class_places
+unfolding class_borne class_read
+class-places n k list bytes = go (dec_lt (n + 0) (entry_bytes n))
+  where
+    go : Dec (n + 0 < entry_bytes n) → get_or (drop n (entry_at n list k)) 0 0 < class_places
+    go (yes h) =
+        rw (get_or-drop n (entry_at n list k) 0 0 ∙ get_or-take (entry_bytes n) (drop (k * entry_bytes n) list) (n + 0) 0 h ∙ get_or-drop (k * entry_bytes n) list (n + 0) 0)
+        (bytes (k * entry_bytes n + (n + 0)))
+    go (no h) = absurd (omega arith)

@@ -1,6 +1,7 @@
 -- No report is longer than the report buffer: the lines of 4,096 paths, 256 classes, eight loads and the figures.
 use Prim.Native.Nat.{ℕ, ◌+◌, ◌*◌, ◌^◌, ◌<◌, ◌≤◌}
 use mathlib.Core.Bool.{Bool, true, false}
+use mathlib.Core.Path.{◌≡◌}
 use mathlib.Core.List.{List, []}
 use native.Mathlib.Nat.{min-le_left}
 use native.Mathlib.Omega.{arith}
@@ -20,7 +21,9 @@ use Rattle.rules.specs.Refusals.{row_of}
 use Rattle.rules.specs.declared.refusal.Refusal.{Refusal}
 use Rattle.rules.specs.Limits.{most_joint_states}
 use Rattle.answers.specs.Answered.{answered}
-use Rattle.entries.specs.Entries.{class_borne, class_places, byte_values}
+use Rattle.entries.specs.Entries.{class_borne, class_places, byte_values, entry_at}
+use Rattle.entries.proofs.Entries.{entry-is, class-places}
+use Rattle.model.specs.Listed.{Listed}
 use Rattle.model.specs.Good.{Good}
 use Rattle.model.specs.Model.{Model, components, paths_of, probability_table}
 use Rattle.model.proofs.Listing.{paths-few}
@@ -57,15 +60,25 @@ refused-fits refusal = refused-short (row_of refusal) (small refusal)
 
 pub ruleset refused_line = (refused-fits, put-taken)
 
--- ---- a model whose classes are bytes
+-- ---- a model whose paths bear classes that are bytes
 
-module _ (m : Model) (good : Good m) (classes : (x : List ℕ) → m.class x < class_places) where
+abbrev pub Borne : Model → Type 0
+Borne m = Every (λ (entry : List ℕ). class_borne (components m) entry < class_places) [] (paths_of m)
+
+-- each path bears the class of a joint state
+pub borne-by-state : (m : Model) → Good m → ((x : List ℕ) → m.class x < class_places) → Borne m
+borne-by-state m good classes i h = let e = each-entry m good i h in rw e.bears (classes e.joint)
+
+-- and its class stands in the list
+pub borne-listed : {m : Model} {paths : ℕ} {list : List ℕ} → Listed m paths list → ((i : ℕ) → get_or list i 0 < byte_values) → Borne m
+borne-listed {m} {paths} {list} l bytes k h =
+    let inside : k < paths = omega (arith, h, l.number) in
+    let own : get_or (paths_of m) k [] ≡ entry_at (components m) list k = rw (← l.entries) (entry-is (components m) paths list k inside) in
+    rw own (class-places (components m) k list bytes)
+
+module _ (m : Model) (good : Good m) (borne : Borne m) where
   few : length (paths_of m) ≤ most_joint_states
   few = paths-few m good
-
-  -- each path bears the class of a joint state
-  borne : Every (λ (entry : List ℕ). class_borne (components m) entry < class_places) [] (paths_of m)
-  borne i h = let e = each-entry m good i h in rw e.bears (classes e.joint)
 
   paths-short : length (path_lines (probability_table m) (components m) (paths_of m)) ≤ most_joint_states * 41
   paths-short =

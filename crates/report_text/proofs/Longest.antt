@@ -20,10 +20,10 @@ use Rattle.meaning.specs.Meaning.{by_gates, model_of}
 use Rattle.meaning.proofs.Tables.{meant-good}
 use Rattle.report_text.specs.Laws.{ReportFits}
 use Rattle.report_text.specs.Report.{report_bytes, model_text, report_text}
-use Rattle.report_text.proofs.Fits.{refused-short, model-short}
+use Rattle.report_text.proofs.Fits.{refused-short, model-short, borne-by-state}
 use Rattle.report_text.proofs.Opened.{text-done, text-refused, opened-study}
 use Rattle.std.specs.Prelude.{Ok, Err}
-use Rattle.answers.specs.Answers.{Outcome, finished}
+use Rattle.answers.specs.Answers.{Outcome}
 
 -- a class has a bit for each load
 class-byte : (t : Study) → Sound t → (x : List ℕ) → class_of t x < class_places
@@ -35,7 +35,9 @@ class-byte t s x =
 
 gates-short : (t : Study) → Sound t → length (model_text (model_of by_gates t)) ≤ report_bytes
 unfolding model_of
-gates-short t s = model-short (model_of by_gates t) (meant-good by_gates t s) (class-byte t s)
+gates-short t s =
+    let good = meant-good by_gates t s in
+    model-short (model_of by_gates t) good (borne-by-state (model_of by_gates t) good (class-byte t s))
 
 pub report-fits : ReportFits
 report-fits bytes = go (opened bytes).outcome refl

@@ -12,7 +12,7 @@ use Rattle.evaluation.specs.Bounds.{class_lowers, class_uppers}
 use Rattle.evaluation.specs.Rooms.{pair_fault, PairPut}
 use Rattle.report_text.specs.Report.{model_text, report_text}
 use Rattle.std.specs.Prelude.{Ok, Err}
-use Rattle.answers.specs.Answers.{CountAnswer, Outcome, finished}
+use Rattle.answers.specs.Answers.{CountAnswer, Outcome}
 
 -- 18 for a text, then 18 for two slices of which each needs so many places
 abbrev pub room_breaches : List ℕ → ℕ → (text lower upper : List ℕ) → List ℕ

@@ -15,7 +15,7 @@ use Rattle.report_lines.specs.Classes.{classes_borne, class_lines}
 use Rattle.report_lines.specs.Loads.{load_lines}
 use Rattle.report_lines.specs.Figures.{figure_lines}
 use Rattle.std.specs.Prelude.{Ok, Err}
-use Rattle.answers.specs.Answers.{Outcome, finished}
+use Rattle.answers.specs.Answers.{Outcome}
 
 -- room for any report
 abbrev pub report_bytes : ℕ

@@ -5,7 +5,7 @@ ghost use Rattle.rules.specs.Refusals.{breach_of};
 ghost use Rattle.rules.specs.Table.{room_fault};
 ghost use Rattle.model.specs.Listed.{Listed};
 ghost use Rattle.study_model.specs.InHand.{model_in};
-ghost use Rattle.report_text.specs.Report.{model_text};
+ghost use Rattle.report_text.specs.Report.{report_bytes, model_text};
 
 use crate::buffer::{REPORT_BYTES, empty_report};
 use crate::model_text::{losses_text, paths_text};
@@ -41,7 +41,8 @@ fn text_size(model: ModelInHand, list: &[u8], paths: u32) -> usize
 // Refused by 18 in a buffer with so much room: the text is measured only where it might not fit.
 pub fn text_fault(model: ModelInHand, list: &[u8], paths: u32, room: usize) -> Result<(), Refusal>
     requires { Listed (model_in model) paths list.now }
-    ensures { breach_of result ≡ room_fault (length (model_text (model_in model.entry))) room }
+    ensures breach { breach_of result ≡ room_fault (length (model_text (model_in model.entry))) room }
+    ensures short { length (model_text (model_in model.entry)) ≤ report_bytes }
 {
     if room < REPORT_BYTES {
         return room_fault(text_size(model, list, paths), room);

@@ -1,12 +1,12 @@
--- `report_text::measuring::text_size` meets its contract: as many bytes were written as the text has.
-use native.Mathlib.Omega.{arith}
-use borrow.Author.Rules.{rules}
+-- `report_text::measuring::text_size`: the page has room for any text.
+use Rattle.std.proofs.Common.{arith, rules, ◌≡◌, length}
+use Rattle.study_model.specs.InHand.{model_in}
+use Rattle.report_text.specs.Report.{report_bytes}
+use Rattle.report_text.proofs.Fits.{model-short, borne-listed}
 use Rattle.report_text.proofs.measuring.text_size.Goals as goal
 
-pub listed_text-requires : goal.listed_text-requires
-listed_text-requires c =
-    record { in_hand = c.requires.in_hand; listed = c.requires.listed; report_bytes_in_bounds = search rules }
-
-pub returns : goal.returns
-returns c =
-    omega (arith, c.listed_text.ensures.behind)
+pub listed_text-requires-clause-room : goal.listed_text-requires-clause-room
+listed_text-requires-clause-room c =
+    let short = model-short (model_in c.args.model) c.requires.good (borne-listed c.requires (λ i. (c.type_inv.list i).fits)) in
+    let page : length c.new-out.result.buffer.now ≡ report_bytes = search rules in
+    record { fits = omega (arith, short, page, c.new-out.ensures.none) }

@@ -1,56 +1,59 @@
--- `report_text::reporting::model_report` meets its contract: the text and both slices are measured before any is written.
-use Prim.Native.Nat.{ℕ, ◌<◌}
-use mathlib.Core.Path.{◌≡◌, sym, ◌∙◌}
-use mathlib.Core.List.{List}
-use native.Mathlib.Omega.{arith}
-use Rattle.rules.specs.Breach.{first_breach}
-use Rattle.rules.proofs.Kept.{two-judged}
-use Rattle.joint_states.specs.JointStates.{number_of}
+-- `report_text::reporting::model_report`: the text and both slices are measured before any is written.
+use Rattle.std.proofs.Common.{rules, ◌≡◌, sym, ◌∙◌, ap, arith, Err, length}
+use Rattle.rules.specs.Refusals.{row_of}
+use Rattle.rules.proofs.Judged.{some_row, err_listed, ok_listed}
+use Rattle.rules.proofs.Kept.{list-last}
+use Rattle.answers.specs.Answers.{by_number}
 use Rattle.entries.specs.Entries.{class_places}
-use Rattle.model.specs.InHand.{held_counts, model_held}
-use Rattle.model.specs.Model.{Model}
-use Rattle.report_text.specs.Lent.{room_breaches}
+use Rattle.study_model.specs.InHand.{model_in}
+use Rattle.report_text.specs.Lent.{model_breach}
 use Rattle.report_text.specs.Report.{model_text}
-use Rattle.report_text.proofs.Fits.{model-short}
 use Rattle.report_text.proofs.Reported.{put_refused, put-done, text-room, bounds-room}
-use borrow.Author.Rules.{rules}
 use Rattle.report_text.proofs.reporting.model_report.Goals as goal
+use Rattle.report_text.proofs.reporting.model_report.Goals.{In_ok-pair_fault}
 
-pub list_whole-paths-requires : goal.list_whole-paths-requires
-list_whole-paths-requires c =
-    record { in_hand = c.requires; list_bytes_in_bounds = search rules }
+none : (c : In_ok-pair_fault) → model_breach (model_in c.args.model) c.args.text.now c.args.lower.now c.args.upper.now ≡ 0
+none c = ok_listed _ _ c.in_ok-text_fault.ensures.breach ∙ list-last _ ∙ sym c.in_ok-pair_fault.ensures
 
-pub text_fault-requires : goal.text_fault-requires
-text_fault-requires c =
-    record { in_hand = c.requires; listed = c.list_whole-paths.ensures }
+pub returns-in_err-text_fault : goal.returns-in_err-text_fault
+returns-in_err-text_fault c =
+    let r = c.in_err-text_fault.field-0.0 in
+    let told : by_number c.from_residual.result ≡ Err (row_of r) = search rules in
+    rw told (put_refused _ _ _ _ _ _ (err_listed r _ _ c.in_err-text_fault.ensures.breach) (some_row r))
 
-pub returns-then-fault-ne0 : goal.returns-then-fault-ne0
-returns-then-fault-ne0 c =
-    let model : Model = model_held c.args.model c.args.classes.now in
-    let fault-is : c.first-fault.result ≡ first_breach (room_breaches (model_text model) class_places c.args.text.now c.args.lower.now c.args.upper.now) = two-judged c.first-fault.ensures c.text_fault.ensures c.pair_fault.ensures in
-    put_refused _ _ _ _ _ _ fault-is c.if-fault-ne0.true
+pub returns-in_err-pair_fault : goal.returns-in_err-pair_fault
+returns-in_err-pair_fault c =
+    let r = c.in_err-pair_fault.field-0.0 in
+    let told : by_number c.from_residual-in_err-pair_fault.result ≡ Err (row_of r) = search rules in
+    let breach = c.in_err-pair_fault.ensures ∙ sym (ok_listed _ _ c.in_ok-text_fault.ensures.breach ∙ list-last _) in
+    rw told (put_refused _ _ _ _ _ _ breach (some_row r))
 
-pub model_text-requires : goal.model_text-requires
-model_text-requires c =
-    let model : Model = model_held c.args.model c.args.classes.now in
-    let fault-is : c.first-fault.result ≡ first_breach (room_breaches (model_text model) class_places c.args.text.now c.args.lower.now c.args.upper.now) = two-judged c.first-fault.ensures c.text_fault.ensures c.pair_fault.ensures in
-    let args = c.args in
-    let none = sym fault-is ∙ c.if-fault-ne0.false in
-    let report = model_text model in
-    let text = text-room report class_places args.text.now args.lower.now args.upper.now none in
-    let bounds = bounds-room report class_places args.text.now args.lower.now args.upper.now none in record { in_hand = c.requires; listed = c.list_whole-paths.ensures; room = text; class_places_in_bounds = bounds.in_lower; class_places_in_bounds_2 = bounds.in_upper }
+pub model_text-requires-clause-room : goal.model_text-requires-clause-room
+model_text-requires-clause-room c =
+    let a = c.args in
+    let room = text-room (model_text (model_in a.model)) class_places a.text.now a.lower.now a.upper.now (none (goal.at.model_text-requires-clause-room c).In_ok-pair_fault) in
+    record { fits = omega (arith, room, c.new-out.ensures.none, ap length c.new-out.ensures.bytes) }
+
+pub model_text-requires-clause-class_places_in_bounds : goal.model_text-requires-clause-class_places_in_bounds
+model_text-requires-clause-class_places_in_bounds c =
+    let a = c.args in
+    let at = (goal.at.model_text-requires-clause-class_places_in_bounds c).In_ok-pair_fault in
+    (bounds-room (model_text (model_in a.model)) class_places a.text.now a.lower.now a.upper.now (none at)).in_lower
+
+pub model_text-requires-clause-class_places_in_bounds_2 : goal.model_text-requires-clause-class_places_in_bounds_2
+model_text-requires-clause-class_places_in_bounds_2 c =
+    let a = c.args in
+    let at = (goal.at.model_text-requires-clause-class_places_in_bounds_2 c).In_ok-pair_fault in
+    (bounds-room (model_text (model_in a.model)) class_places a.text.now a.lower.now a.upper.now (none at)).in_upper
 
 pub overflow_cast-result : goal.overflow_cast-result
-unfolding model_held
 overflow_cast-result c =
-    let model : Model = model_held c.args.model c.args.classes.now in
-    let class-byte : (x : List ℕ) → model.class x < class_places = λ x. omega (arith, c.shared_slice_known-1.given (number_of (held_counts c.args.model) x)) in
-    let short = model-short model c.requires.good class-byte in
-    record { fits = omega (arith, c.model_text.ensures.text.behind, short) }
+    record { fits = omega (arith, c.in_ok-text_fault.ensures.short, c.size.ensures, c.model_text.ensures.text.behind, c.new-out.ensures.none) }
 
 pub returns : goal.returns
 returns c =
-    let model : Model = model_held c.args.model c.args.classes.now in
-    let fault-is : c.first-fault.result ≡ first_breach (room_breaches (model_text model) class_places c.args.text.now c.args.lower.now c.args.upper.now) = two-judged c.first-fault.ensures c.text_fault.ensures c.pair_fault.ensures in
-    let none = sym fault-is ∙ c.if-fault-ne0.false in
-    put-done _ _ _ _ _ _ none c.model_text.ensures.text c.model_text.ensures.lower c.model_text.ensures.upper
+    let at = (goal.at.returns c).In_ok-pair_fault in
+    let wrote = c.model_text.ensures.text in
+    let text = rw (c.new-out.ensures.none, c.new-out.ensures.bytes) at wrote.holds in
+    let size : c.size.result ≡ length (model_text (model_in c.args.model)) = omega (arith, c.size.ensures, wrote.behind, c.new-out.ensures.none) in
+    put-done _ _ _ _ _ _ (none at) (search rules) size c.model_text.ensures.lower c.model_text.ensures.upper
