@@ -1,5 +1,5 @@
 // Bytes in hexadecimal, read and shown.
-ghost use Rattle.std.specs.Prelude.{◌<◌};
+ghost use Rattle.std.specs.Prelude.{◌<◌, ◌≤◌, length};
 
 use std::{fmt, io};
 
@@ -13,7 +13,9 @@ fn digit(character: u8) -> u8
 
 // Puts the bytes of a text of digits at the front of a buffer of zeros, and answers that front. Blanks between the
 // digits are left out, and so is half a byte at the end, or what has no room.
-pub fn decode<'a>(text: &[u8], out: &'a mut [u8]) -> &'a [u8] {
+pub fn decode<'a>(text: &[u8], out: &'a mut [u8]) -> &'a [u8]
+    ensures { length result.now ≤ length out.old }
+{
     let mut digits: usize = 0;
     for character in text {
         if *character != b' ' {

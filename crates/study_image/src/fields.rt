@@ -1,10 +1,7 @@
 // The fields of an image: numbers of four bytes, and rows of bytes.
 ghost use Rattle.std.specs.Prelude.{◌+◌, ◌≤◌, ◌≡◌, length};
-ghost use Rattle.rules.specs.Limits.{most_tests, most_gate_inputs};
 ghost use Rattle.study_image.specs.Places.{number_bytes};
 ghost use Rattle.study_image.specs.Image.{number_in, bytes_in};
-
-use rules::{INPUT_PLACES, TEST_PLACES};
 
 // The number of the four bytes at a place.
 pub fn read_number(image: &[u8], at: usize) -> u32
