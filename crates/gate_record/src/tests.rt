@@ -10,7 +10,6 @@ use rules::{MOST_TESTS, Refusal, mask_fault, no_component_fault};
 use study::{Gate, states_of};
 
 // Test j: the component, then the mask, each judged as soon as it is read.
-#[tactic(auto, unfolding(crate::specs::Gate::test))]
 fn read_test(bytes: &mut Cursor, counts: &[u8], j: usize, g: &mut Gate) -> Result<(), Refusal>
     requires { j < most_tests }
     ensures { read_into result g.new bytes.new.rest.now ≡ test counts.now j g.old bytes.old.rest.now }

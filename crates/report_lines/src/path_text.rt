@@ -5,7 +5,6 @@ ghost use Rattle.entries.specs.Entries.{entry_at, entries_of};
 ghost use Rattle.report_lines.specs.Paths.{path_line, path_lines};
 
 use crate::marks::mark_bytes;
-use entries::class_of;
 use probability::ListedPaths;
 use text::Writer;
 use units::{DOWN, UP};
