@@ -3,3 +3,4 @@ pub mod Front
 pub mod Judged
 pub mod Places
 pub mod Ranges
+pub mod Unused

@@ -1,7 +1,8 @@
 -- `soundness::inputs::gate_inputs_fault` meets its contract. No place so far is broken (`FirstLeft`), and the first that is ends the loop.
-use Rattle.std.proofs.Common.{arith}
+use Rattle.std.proofs.Common.{◌∙◌, arith}
 use Rattle.soundness.specs.Check.{gate_inputs_fault}
 use Rattle.soundness.proofs.Places.{place_broken, all_passed}
+use Rattle.soundness.proofs.Unused.{no-inputs}
 use Rattle.soundness.proofs.inputs.gate_inputs_fault.Goals as goal
 
 pub returns-in_err-input_place_fault : goal.returns-in_err-input_place_fault
@@ -12,3 +13,7 @@ returns-in_err-input_place_fault c =
 pub returns : goal.returns
 unfolding gate_inputs_fault
 returns c = all_passed c.loop-j.invariant c.loop-j-test.false
+
+-- with no gate inputs, the row is judged at once
+pub returns-then-gates-eq0 : goal.returns-then-gates-eq0
+returns-then-gates-eq0 c = rw c.if-gates-eq0.true (c.unused_row_fault.ensures ∙ no-inputs c.args.i c.args.input.now)
