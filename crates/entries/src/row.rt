@@ -5,12 +5,16 @@ ghost use Rattle.lists.specs.Rows.{same};
 
 use crate::class::Class;
 
-// Whether two rows have the same classes. Places are compared by groups, each whole whatever was found in it.
+// Whether two rows have the same classes. Every place is compared, whatever was found before it.
 pub fn same_classes(a: &[Class], b: &[Class]) -> bool
     requires { length a.now ≡ length b.now }
     ensures { result ≡ same a.now b.now }
 {
-    a == b
+    let mut alike = true;
+    for i in 0..a.len() {
+        alike = alike & (a[i] == b[i]);
+    }
+    alike
 }
 
 // So many classes of a row, from a place on.

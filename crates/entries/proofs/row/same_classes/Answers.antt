@@ -1,15 +1,16 @@
--- `entries::row::same_classes` meets its contract: rows are equal where they hold the same numbers.
-use Rattle.std.proofs.Common.{◌≡◌, ℕ, List, [], ◌∷◌, ◌&&◌, refl, ap, ◌∙◌, nat_eq, Bool}
-use Rattle.std.specs.Cmp.Lexicographic.{pointwise}
-use Rattle.lists.specs.Rows.{same}
+-- `entries::row::same_classes` meets its contract. The places below i are compared (`SameLeft`).
+use Rattle.std.proofs.Common.{arith}
+use Rattle.lists.proofs.Same.{same_start, same_more, same-done}
 use Rattle.entries.proofs.row.same_classes.Goals as goal
 
-equal-same : (x y : List ℕ) → pointwise nat_eq x y ≡ same x y
-unfolding same
-equal-same [] [] = refl
-equal-same [] (n ∷ y) = refl
-equal-same (m ∷ x) [] = refl
-equal-same (m ∷ x) (n ∷ y) = ap (λ (b : Bool). nat_eq m n && b) (equal-same x y)
+pub loop-i-init : goal.loop-i-init
+loop-i-init c = same_start c.requires
+
+pub bounds-b-i : goal.bounds-b-i
+bounds-b-i c = omega (arith, c.loop-i.invariant.even, c.loop-i-test.true)
+
+pub loop-i-preserved : goal.loop-i-preserved
+loop-i-preserved c = same_more c.loop-i.invariant c.loop-i-test.true
 
 pub returns : goal.returns
-returns c = c.eq.ensures ∙ equal-same c.args.a.now c.args.b.now
+returns c = same-done c.loop-i.invariant c.loop-i-test.false
