@@ -1,7 +1,7 @@
 // Bytes in hexadecimal, read and shown.
 ghost use Rattle.std.specs.Prelude.{◌<◌, ◌≤◌, length};
 
-use std::{fmt, io};
+use std::io;
 
 // The number of a digit. A letter of either case has its number, from 1 on, in its last four bits, and stands in a
 // higher row of 64 characters than the figures. What is no digit has a number too.
@@ -30,26 +30,20 @@ pub fn decode<'a>(text: &[u8], out: &'a mut [u8]) -> &'a [u8]
     &out[..digits / 2]
 }
 
-// Bytes as two digits each, parted by single blanks.
-#[derive(Clone, Copy)]
-struct Hexadecimal<'a>(&'a [u8]);
+// The figures of a hexadecimal number.
+const FIGURES: [u8; 16] = *b"0123456789ABCDEF";
 
-impl fmt::Display for Hexadecimal<'_> {
-    fn fmt<W: fmt::Write>(&self, f: &mut fmt::Formatter<W>) -> fmt::Result {
-        for (place, byte) in self.0.iter().enumerate() {
-            if place != 0 {
-                f.write_str(" ")?;
-            }
-            write!(f, "{byte:02X}")?;
-        }
-        Ok(())
-    }
+// The figure of the last four bits.
+fn figure(bits: u8) -> u8 {
+    FIGURES[usize::from(bits % 16)]
 }
 
-// Shows some bytes on a line; none are no line.
+// Shows some bytes on a line, as two digits each, parted by single blanks; none are no line. A byte is written at once
+// with what stands behind it: to write its parts one by one takes three times as long.
 pub fn show_bytes(out: &impl Print, bytes: &[u8]) -> io::Result<()> {
-    if bytes.is_empty() {
-        return Ok(());
+    for (place, byte) in bytes.iter().enumerate() {
+        let behind = if place + 1 == bytes.len() { b'\n' } else { b' ' };
+        out.write_all(&[figure(*byte / 16), figure(*byte), behind])?;
     }
-    println!(out; "{}", Hexadecimal(bytes))
+    Ok(())
 }

@@ -50,9 +50,8 @@ pub fn show_entries(out: &impl Print, list: &[u8], components: u8) -> io::Result
 fn column_sum(list: &[u8], width: usize, column: usize) -> u64
     requires { 0 < width }
 {
-    list.iter()
-        .skip(column)
-        .step_by(width)
+    list.chunks(width)
+        .filter_map(|entry| entry.get(column))
         .fold(0u64, |sum, byte| sum.saturating_add(u64::from(*byte)))
 }
 

@@ -23,7 +23,7 @@ fn script_room() -> [u8; SCRIPT_BYTES]
     [0; SCRIPT_BYTES]
 }
 
-// Runs the script, as far as it can be read and there is room for it. Where a line can't be written, nothing more is.
+// Runs the script, as far as it can be read and there is room for it.
 fn main() {
     let mut room = script_room();
     let size = io::read_full(0, &mut room);
