@@ -14,9 +14,12 @@ abbrev pub Answer : Type 0 → Type 0
 Answer A = Result A ℕ
 
 -- The code answers the refusal itself; the papers know it by its number.
+abbrev pub by_row : {A E : Type 0} → (E → ℕ) → Result A E → Answer A
+by_row row (Ok a) = Ok a
+by_row row (Err e) = Err (row e)
+
 abbrev pub by_number : {A : Type 0} → Result A Refusal → Answer A
-by_number (Ok a) = Ok a
-by_number (Err refusal) = Err (row_of refusal)
+by_number = by_row row_of
 
 -- of a call that only fills or changes what it was lent
 abbrev pub Outcome : Type 0

@@ -1,14 +1,13 @@
 // A class, and its bytes: how many they are, and how they are read and written. Nothing else in the package knows.
 ghost use Rattle.std.specs.Prelude.{◌+◌, ◌≤◌, ◌≡◌, length, drop};
 ghost use Rattle.std.specs.Int.Count.{ones};
-ghost use Rattle.reading.specs.Reader.{read_of};
-ghost use Rattle.rules.specs.Refusals.{row_of};
+ghost use Rattle.reading.specs.Reader.{read_by};
 ghost use Rattle.text.specs.Writing.{Room, Wrote};
 ghost use Rattle.entries.specs.ClassReader.{class_or};
 ghost use Rattle.entries.specs.Entries.{class_bytes, class_code, class_read};
 
 use reading::Cursor;
-use rules::{LOAD_PLACES, Refusal};
+use rules::{LOAD_PLACES, Row};
 
 // A class: bit j stands where load j is lost.
 pub type Class = u8;
@@ -27,9 +26,9 @@ pub fn class_from(bytes: &[u8], at: usize) -> Class
     bytes[at]
 }
 
-// The next class; where the bytes end before or inside it, a refusal by `end`.
-pub fn class_or(bytes: &mut Cursor, end: Refusal) -> Result<Class, Refusal>
-    ensures { read_of result bytes.new.rest.now ≡ class_or (row_of end) bytes.old.rest.now }
+// The next class; where the bytes end before or inside it, a refusal by the row `end`.
+pub fn class_or<E: Row>(bytes: &mut Cursor, end: E) -> Result<Class, E>
+    ensures { read_by E.row_number result bytes.new.rest.now ≡ class_or (E.row_number end) bytes.old.rest.now }
 {
     bytes.byte_or(end)
 }

@@ -2,13 +2,12 @@
 #![tactic(auto)]
 
 ghost use Rattle.std.specs.Prelude.{◌≡◌, pos};
-ghost use Rattle.rules.specs.Refusals.{row_of};
-ghost use Rattle.answers.specs.Answers.{by_number};
+ghost use Rattle.answers.specs.Answers.{by_row};
 ghost use Rattle.answers.specs.Told.{outcome_told, listing_told, count_told};
 ghost use Rattle.export_answers.specs.Answers.{below, answered_by, done, count, two};
 
 use answers::{Enclosure, PathCount};
-use rules::Refusal;
+use rules::Row;
 
 // A count.
 pub fn counted(number: u32) -> i64
@@ -17,16 +16,16 @@ pub fn counted(number: u32) -> i64
     i64::from(number)
 }
 
-// A refusal by the number of its row, below 0.
-pub fn refused(refusal: Refusal) -> i64
-    ensures { result ≡ below (row_of refusal) }
+// A refusal by the number of its row, below 0; 0 where there is none.
+pub fn refused<E: Row>(refusal: E) -> i64
+    ensures { result ≡ below (E.row_number refusal) }
 {
-    -i64::from(refusal.number())
+    -i64::from(refusal.row_number())
 }
 
 // The answer of a call that counts what it wrote.
-pub fn answer_count(answer: Result<u32, Refusal>) -> i64
-    ensures { result ≡ answered_by count (count_told (by_number answer)) }
+pub fn answer_count<E: Row>(answer: Result<u32, E>) -> i64
+    ensures { result ≡ answered_by count (count_told (by_row E.row_number answer)) }
 {
     match answer {
         Ok(number) => counted(number),
@@ -35,15 +34,15 @@ pub fn answer_count(answer: Result<u32, Refusal>) -> i64
 }
 
 // The answer of a call that only fills what it was lent.
-pub fn answer_outcome(outcome: Result<(), Refusal>) -> i64
-    ensures { result ≡ answered_by done (outcome_told (by_number outcome)) }
+pub fn answer_outcome<E: Row>(outcome: Result<(), E>) -> i64
+    ensures { result ≡ answered_by done (outcome_told (by_row E.row_number outcome)) }
 {
     answer_count(outcome.map(|()| 0))
 }
 
 // The answer of the call for the list of paths.
-pub fn answer_listing(listing: Result<PathCount, Refusal>) -> i64
-    ensures { result ≡ answered_by count (listing_told (by_number listing)) }
+pub fn answer_listing<E: Row>(listing: Result<PathCount, E>) -> i64
+    ensures { result ≡ answered_by count (listing_told (by_row E.row_number listing)) }
 {
     answer_count(listing.map(|count| count.paths))
 }

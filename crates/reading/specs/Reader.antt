@@ -69,9 +69,12 @@ abbrev pub repeat : {A : Type 0} → (ℕ → A → Reader A) → ℕ → A → 
 repeat step n a bytes = each (turn step) n 0 (got a bytes)
 
 -- What the code's reading is: its refusal by the row's number, or the value with the bytes still to come.
+abbrev pub read_by : {A E : Type 0} → (E → ℕ) → Result A E → List ℕ → Read A
+read_by row (Ok a) rest = got a rest
+read_by row (Err e) rest = refused (row e)
+
 abbrev pub read_of : {A : Type 0} → Result A Refusal → List ℕ → Read A
-read_of (Ok a) rest = got a rest
-read_of (Err refusal) rest = refused (row_of refusal)
+read_of = read_by row_of
 
 -- the same where the value was filled in place
 abbrev pub read_into : {A : Type 0} → Result (Unit {0}) Refusal → A → List ℕ → Read A

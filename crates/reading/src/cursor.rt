@@ -1,10 +1,9 @@
 // Reading bytes from left to right: a byte, a number of four bytes, and the map of a record.
 ghost use Rattle.std.specs.Prelude.{◌≡◌, ◌<◌, IfOk};
-ghost use Rattle.rules.specs.Refusals.{row_of};
 ghost use Rattle.reading.specs.Fields.{map_byte};
-ghost use Rattle.reading.specs.Reader.{read_of, byte_or, byte, word};
+ghost use Rattle.reading.specs.Reader.{read_by, read_of, byte_or, byte, word};
 
-use rules::{Refusal, stray_fault};
+use rules::{Refusal, Row, stray_fault};
 
 // The bytes that are still to come.
 #[derive(Drop)]
@@ -13,10 +12,10 @@ pub struct Cursor<'a> {
 }
 
 impl<'a> Cursor<'a> {
-    // The next byte; where none is left, a refusal by `end`.
+    // The next byte; where none is left, a refusal by the row `end`.
     #[tactic(auto, unfolding(crate::specs::Reader::byte_or))]
-    pub fn byte_or(&mut self, end: Refusal) -> Result<u8, Refusal>
-        ensures { read_of result self.new.rest.now ≡ byte_or (row_of end) self.old.rest.now }
+    pub fn byte_or<E: Row>(&mut self, end: E) -> Result<u8, E>
+        ensures { read_by E.row_number result self.new.rest.now ≡ byte_or (E.row_number end) self.old.rest.now }
     {
         match self.rest {
             [byte, rest @ ..] => {

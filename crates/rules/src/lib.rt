@@ -13,7 +13,7 @@ pub use limits::{
     MOST_GATES, MOST_LOADS, MOST_MINUTES, MOST_TESTS, NEVER, STATE_PLACES, TEST_PLACES,
     is_momentary,
 };
-pub use refusal::Refusal;
+pub use refusal::{Refusal, Row};
 pub use table::{
     ahead_fault, behind_fault, count_fault, customers_fault, far_fault, input_count_fault,
     inputs_fault, item_fault, lacked_state_fault, leaf_fault, left_fault, loss_gate_fault,

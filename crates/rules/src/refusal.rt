@@ -1,7 +1,23 @@
 // The refusals of the package: each is a row of the refusal table, by whose number callers in other languages and the
 // papers know it.
-ghost use Rattle.std.specs.Prelude.{◌≡◌};
+ghost use Rattle.std.specs.Prelude.{◌≡◌, ℕ};
 ghost use Rattle.rules.specs.Refusals.{row_of, Numbered};
+
+// What says by which row something is refused: a refusal, or the number of a row, whether or not the table has it.
+pub trait Row: Copy {
+    ghost row_number: { Self → ℕ };
+
+    fn row_number(self) -> u8
+        ensures { result ≡ row_number self };
+}
+
+impl Row for u8 {
+    ghost row_number = { λ number. number };
+
+    fn row_number(self) -> u8 {
+        self
+    }
+}
 
 // Why something is refused.
 #[derive(Clone, Copy, Debug, PartialEq, Eq)]
@@ -69,5 +85,13 @@ impl Refusal {
             23 => Some(Refusal::TooFar),
             _ => None,
         }
+    }
+}
+
+impl Row for Refusal {
+    ghost row_number = { row_of };
+
+    fn row_number(self) -> u8 {
+        self.number()
     }
 }

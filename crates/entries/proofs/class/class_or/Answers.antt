@@ -1,8 +1,7 @@
 -- `entries::class::class_or` meets its contract: a class is one byte.
 use Rattle.std.proofs.Common.{sym, ◌∙◌}
-use Rattle.rules.specs.Refusals.{row_of}
 use Rattle.entries.proofs.ClassReading.{class_or_byte}
 use Rattle.entries.proofs.class.class_or.Goals as goal
 
 pub returns : goal.returns
-returns c = c.byte_or.ensures ∙ sym (class_or_byte (row_of c.args.end) c.args.bytes.now.rest.now)
+returns g c = c.byte_or.ensures ∙ sym (class_or_byte _ c.args.bytes.now.rest.now)
