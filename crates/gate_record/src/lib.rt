@@ -7,14 +7,14 @@ mod tests;
 ghost use Rattle.std.specs.Prelude.{◌≡◌};
 ghost use Rattle.std.proofs.Common.{rules};
 ghost use Rattle.rules.specs.Limits.{gate_maps};
-ghost use Rattle.reading.specs.Reader.{read_of, read_into};
+ghost use Rattle.reading.specs.Reader.{read_into};
 ghost use Rattle.study.specs.Absent.{absent_gate};
 ghost use Rattle.gate_record.specs.Gate.{threshold, gate_field};
 ghost use Rattle.gate_record.specs.Places.{gate_in_order};
 
 use gate_order::put_in_order;
 use inputs::read_inputs;
-use reading::{Cursor, Fields, read_record};
+use reading::{Cursor, Fields, fill_record};
 use rules::{GATE_MAPS, Refusal, threshold_fault};
 use study::{Gate, absent_gate};
 use tests::read_tests;
@@ -73,14 +73,18 @@ impl Fields for GateFields<'_> {
     ghost all = { Prim.search rules };
 }
 
-// The record of the gate with this number, its inputs put in order; `counts` has the state count of each component of
-// the study.
+// The record of the gate with this number, in its place, with its inputs put in order; `counts` has the state count of
+// each component of the study.
 #[tactic(auto, unfolding(crate::specs::Gate::gate, crate::specs::Places::gate_in_order))]
-pub fn read_gate(bytes: &mut Cursor, counts: &[u8], number: usize) -> Result<Gate, Refusal>
-    ensures { read_of result bytes.new.rest.now ≡ gate_in_order counts.now number bytes.old.rest.now }
+pub fn read_gate(
+    bytes: &mut Cursor,
+    counts: &[u8],
+    number: usize,
+    g: &mut Gate,
+) -> Result<(), Refusal>
+    ensures { read_into result g.new bytes.new.rest.now ≡ gate_in_order counts.now number bytes.old.rest.now }
 {
-    let mut g = read_record(bytes, &GateFields { counts, number })?;
-    let distinct = put_in_order(&mut g);
-    threshold_fault(distinct, g.threshold)?;
-    Ok(g)
+    fill_record(bytes, &GateFields { counts, number }, g)?;
+    let distinct = put_in_order(g);
+    threshold_fault(distinct, g.threshold)
 }

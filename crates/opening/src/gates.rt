@@ -22,7 +22,7 @@ pub fn read_gates(
         ≡ repeat (placing (gate_record_in_order counts.now)) n gate.old bytes.old.rest.now }
 {
     for i in 0..usize::from(n) {
-        gate[i] = read_gate(bytes, counts, i)?;
+        read_gate(bytes, counts, i, &mut gate[i])?;
     }
     Ok(())
 }

@@ -8,4 +8,4 @@ mod record;
 
 pub use cursor::Cursor;
 pub use fields::{field_count, fields_behind, map_digit};
-pub use record::{Fields, read_record};
+pub use record::{Fields, fill_record, read_record};

@@ -97,12 +97,25 @@ fn read_fields<F: Fields>(
     read_last(bytes, of, left, so_far)
 }
 
-// One record: its map, then its fields over their absent values.
+// One record, in its place: its map, then its fields over their absent values. A long record that is handed on by value
+// is copied right behind the writing of its bytes, which stalls the processor.
+pub fn fill_record<F: Fields>(
+    bytes: &mut Cursor,
+    of: &F,
+    place: &mut F::Record,
+) -> Result<(), Refusal>
+    ensures { read_into result place.new bytes.new.rest.now ≡ fields_by_map F.maps (F.field of.now) (F.absent of.now) bytes.old.rest.now }
+{
+    let map = bytes.map(of.maps())?;
+    *place = of.absent();
+    read_fields(bytes, of, map, place)
+}
+
+// One record.
 pub fn read_record<F: Fields>(bytes: &mut Cursor, of: &F) -> Result<F::Record, Refusal>
     ensures { read_of result bytes.new.rest.now ≡ fields_by_map F.maps (F.field of.now) (F.absent of.now) bytes.old.rest.now }
 {
-    let map = bytes.map(of.maps())?;
-    let mut so_far = of.absent();
-    read_fields(bytes, of, map, &mut so_far)?;
-    Ok(so_far)
+    let mut read = of.absent();
+    fill_record(bytes, of, &mut read)?;
+    Ok(read)
 }
