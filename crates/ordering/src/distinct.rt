@@ -1,8 +1,10 @@
 // The distinct inputs of a row in order, where repeats stand side by side: of those the last counts.
-ghost use Rattle.std.specs.Prelude.{suc, ◌+◌, ◌*◌, ◌<◌, ◌≤◌, ◌≡◌, length, get_or, drop};
+ghost use Rattle.std.specs.Prelude.{suc, ◌<◌, ◌≤◌, ◌≡◌, length, get_or, drop};
 ghost use Rattle.ordering.specs.Distinct.{distinct};
 ghost use Rattle.ordering.specs.Thinning.{stands_next, most_counted, counted, Fronted};
-ghost use Rattle.ordering.specs.Inputs.{mask_values, no_input, paired, Ascending};
+ghost use Rattle.ordering.specs.Inputs.{no_input, paired, Ascending};
+
+use crate::rank;
 
 // Whether the input at a place is the same as the one behind it.
 fn stands_next(number: &[u8], mask: &[u8], at: usize) -> bool
@@ -12,14 +14,6 @@ fn stands_next(number: &[u8], mask: &[u8], at: usize) -> bool
         ≡ stands_next (get_or (paired number.now mask.now) at no_input) (drop (suc at) (paired number.now mask.now)) }
 {
     at + 1 < number.len() && (number[at], mask[at]) == (number[at + 1], mask[at + 1])
-}
-
-// Where an input stands among others, by its number first and of one number by its mask: as one number it is compared
-// at once.
-fn rank(number: u8, mask: u8) -> u16
-    ensures { result ≡ mask_values * number + mask }
-{
-    u16::from_be_bytes([number, mask])
 }
 
 // Goes along a row once, and counts its distinct inputs: no input may rank below the one before it, and where it ranks
