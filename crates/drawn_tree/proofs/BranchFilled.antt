@@ -1,13 +1,12 @@
--- What carries the filling of a branch: a settled mark leads to the one part that is to be filled; at a blank one the
--- parts of its states are filled one by one (`Filled`).
+-- What carries the filling of a branch: settled marks in front lead to the one part that is left to fill (`Ahead`); at
+-- a blank one the parts of its states are filled one by one (`Filled`).
 use Rattle.std.proofs.Common.{ℕ, zero, suc, ◌+◌, ◌-◌, ◌*◌, ◌/◌, ◌<◌, ◌≤◌, ◌≡◌, refl, sym, ap, ◌∙◌, Bool, true, false}
 use Rattle.std.proofs.Common.{◌&&◌, ◌||◌, List, [], ◌∷◌, ◌++◌, arith, length, get_or, take, drop, take-append-drop}
 use mathlib.Core.List.{map, append_assoc, append-nil}
-use native.Mathlib.Numerals.{add-one}
-use native.Mathlib.Nat.{zero-mul, zero-add, add-zero, sub-zero, add-sub_cancel_left}
+use native.Mathlib.Nat.{zero-mul, zero-add, add-zero, sub-zero, mul-div_cancel_left}
 use lib.Dec.{eqb}
 use lib.ListN.{set, length-map, length-drop}
-use lib.Seq.{length-take-le, take_all, take-add, drop-drop, get_or-drop}
+use lib.Seq.{length-take-le, take_all, take-add, drop-drop, drop-cons, get_or-drop, set_split}
 use borrow.Author.Tests.{eq-eqb, ne_eqb}
 use Rattle.lists.specs.Product.{product}
 use Rattle.lists.proofs.Lent.{lent_back, back-front, back-behind, back_long}
@@ -16,7 +15,7 @@ use Rattle.joint_states.proofs.Numbered.{length-joint_states}
 use Rattle.entries.specs.Entries.{blank_mark}
 use Rattle.paths.specs.Blocks.{Block}
 use Rattle.paths.specs.Words.{fits}
-use Rattle.paths.proofs.Sizes.{shares, part-size, part-inside, part-long, whole_parts}
+use Rattle.paths.proofs.Sizes.{one_class, states-some, shares, part-inside}
 use Rattle.drawn_tree.specs.Filling.{painted, branch_filled}
 use Rattle.drawn_tree.proofs.Painted.{length-painted, painted-append, painted-map, painted-none}
 
@@ -137,16 +136,6 @@ module _ (class mark : ℕ) (later behind : List ℕ) where
         ∙ ap (λ (s : ℕ). take (mark * m) block ++ left s (suc n) rest) (zero-add mark)
         ∙ ap (λ (l : List ℕ). take (mark * m) block ++ l) (own-part n rest enough)
 
--- ---- no component is left: the one class is put
-
-pub filled-one : (counts marks : List ℕ) (class : ℕ) (block : List ℕ) → length counts ≡ 0 → length block ≡ 1
-    → set block 0 class ≡ branch_filled counts marks class block
-unfolding branch_filled painted fits joint_states
-filled-one [] marks class [] none one = absurd (omega arith)
-filled-one [] marks class (x ∷ []) none one = refl
-filled-one [] marks class (x ∷ y ∷ xs) none one = absurd (omega arith)
-filled-one (c ∷ cs) marks class block none one = absurd (omega arith)
-
 -- ---- a component is left
 
 -- the later components, or their marks, as the code takes them
@@ -157,145 +146,199 @@ first-and-later : (l : List ℕ) → 0 < length l → l ≡ get_or l 0 0 ∷ dro
 first-and-later [] some = absurd (omega arith)
 first-and-later (x ∷ xs) some = refl
 
--- marks and a block of components, of which there is one at least
-pub record Branch (counts marks block : List ℕ) : Type 0 where
-  pub whole : Block counts block
-  pub some : 0 < length counts
-  pub few : length counts ≤ length marks
+-- ---- its mark is blank: the parts of the states below s are filled, from a place on
 
-module _ {counts marks block : List ℕ} (b : Branch counts marks block) where
-  -- the part of a state is a block of the later components
-  pub branch-part : (s : ℕ) (d : List ℕ) → length d ≡ length block → s < get_or counts 0 0
-      → Block (drop 1 counts) (take (length block / get_or counts 0 0) (drop (s *
-      (length block / get_or counts 0 0)) d))
-  branch-part s d same h =
-      let m : ℕ = length block / get_or counts 0 0 in
-      record {
-        long = part-long (get_or counts 0 0) m s d (same ∙ whole_parts counts block b.whole b.some) h
-            ∙ part-size counts block b.whole b.some;
-        some = λ k less. rw (get_or-drop 1 counts k 0) (b.whole.some (1 + k) (later-less k less));
-        most = λ k less. rw (get_or-drop 1 counts k 0) (b.whole.most (1 + k) (later-less k less));
-      }
-    where
-      later-less : (k : ℕ) → k < length (drop 1 counts) → 1 + k < length counts
-      later-less k less = omega (arith, less, length-drop 1 counts)
+pub record Filled (counts₀ marks₀ : List ℕ) (class : ℕ) (block₀ : List ℕ) (states size : ℕ) (later behind : List ℕ)
+    (from s : ℕ) (block : List ℕ) : Type 0 where
+  pub fewer : length later < length counts₀
+  pub few : length later ≤ length behind
+  pub some : (k : ℕ) → k < length later → 0 < get_or later k 0
+  pub most : (k : ℕ) → k < length later → get_or later k 0 ≤ blank_mark
+  pub is_size : size ≡ product later
+  pub inside : from + states * size ≤ length block
+  pub same : take (from + s * size) block
+      ++ left class blank_mark later behind s (states - s) (drop (from + s * size) block)
+      ≡ branch_filled counts₀ marks₀ class block₀
 
-  pub branch-inside : (s : ℕ) → s < get_or counts 0 0
-      → s * (length block / get_or counts 0 0) + length block / get_or counts 0 0 ≤ length block
-  branch-inside s h = part-inside (get_or counts 0 0) (length block / get_or counts 0 0) s (length block)
-      (whole_parts counts block b.whole b.some) h
-
-  -- the later ones are fewer, and no more than their marks
-  pub branch-fewer : length (drop 1 counts) < length counts
-  branch-fewer = rw (length-drop 1 counts) (omega (arith, b.some))
-
-  pub branch-few : length (drop 1 counts) ≤ length (drop 1 marks)
-  branch-few = rw (length-drop 1 counts, length-drop 1 marks) (omega (arith, b.few))
-
-  split : (class : ℕ) → branch_filled (get_or counts 0 0 ∷ drop 1 counts)
-      (get_or marks 0 0 ∷ drop 1 marks) class block ≡ branch_filled counts marks class block
-  split class =
-      λ i. branch_filled (sym (first-and-later counts b.some) i) (sym (first-and-later marks (omega
-      (arith, b.some, b.few))) i) class block
-
-  whole-room : get_or counts 0 0 * product (drop 1 counts) ≤ length block
-  whole-room = omega (arith, shares counts block b.whole b.some)
-
-  -- ---- its mark is settled
-
-  module _ (class : ℕ) (settled : get_or marks 0 0 ≡ blank_mark → ⊥) where
-    -- and no state
-    pub settled-nowhere : get_or counts 0 0 ≤ get_or marks 0 0 → block ≡ branch_filled counts marks class block
-    settled-nowhere high =
-        sym (no_own class (get_or marks 0 0) (drop 1 counts) (drop 1 marks) settled
-        (get_or counts 0 0) block whole-room high) ∙ split class
-
-    -- the part of its state is filled
-    pub settled-filled : get_or marks 0 0 < get_or counts 0 0 → (p : List ℕ)
-        → p ≡ branch_filled (drop 1 counts) (drop 1 marks) class
-        (take (length block / get_or counts 0 0) (drop (get_or marks 0 0 * (length block / get_or counts 0 0)) block))
-        → lent_back block p (get_or marks 0 0 * (length block / get_or counts 0 0))
-        (length block / get_or counts 0 0) ≡ branch_filled counts marks class block
-    settled-filled low p wrote =
-        let m : ℕ = length block / get_or counts 0 0 in
-        let n : ℕ = get_or marks 0 0 * m in
-        let is-size : m ≡ product (drop 1 counts) = part-size counts block b.whole b.some in
-        let rest : List ℕ = drop n block in
-        let enough : product (drop 1 counts) ≤ length rest = rw (length-drop n block) (omega
-        (arith, is-size, branch-inside (get_or marks 0 0) low)) in
-        let first : p ++ drop m rest ≡ branch_filled (drop 1 counts) (drop 1 marks) class rest
-        = ap (λ (l : List ℕ). l ++ drop m rest) wrote
-        ∙ ap (λ (k : ℕ). branch_filled (drop 1 counts) (drop 1 marks) class (take k rest) ++ drop k rest) is-size
-        ∙ filled-first class blank_mark (drop 1 counts) (drop 1 marks) rest enough in
-        let own : branch_filled (get_or counts 0 0 ∷ drop 1 counts) (get_or marks 0 0 ∷ drop 1 marks) class block
-        ≡ take n block ++ branch_filled (drop 1 counts) (drop 1 marks) class rest
-        = rw is-size (own-only class (get_or marks 0 0) (drop 1 counts) (drop 1 marks) settled
-        (get_or counts 0 0) block whole-room low) in
-        rw add-sub_cancel_left (ap (λ (l : List ℕ). take n block ++ l) first ∙ sym own ∙ split class)
-
--- ---- its mark is blank: the parts of the states below s are filled
-
-pub record Filled (counts marks : List ℕ) (class : ℕ) (block₀ : List ℕ) (s : ℕ) (block : List ℕ) : Type 0 where
-  pub branch : Branch counts marks block₀
-  pub long : length block ≡ length block₀
-  pub same : take (s * (length block₀ / get_or counts 0 0)) block
-      ++ left class blank_mark (drop 1 counts) (drop 1 marks) s (get_or counts 0 0 - s) (drop (s *
-      (length block₀ / get_or counts 0 0)) block)
-      ≡ branch_filled counts marks class block₀
-
-pub filled_start : {counts marks block : List ℕ} (class : ℕ) → Branch counts marks block
-    → get_or marks 0 0 ≡ blank_mark → Filled counts marks class block 0 block
-unfolding branch_filled joint_states
-filled_start class b blank =
-    record { branch = b; long = refl; same = rw (zero-mul, sub-zero, sym blank) (split b class) }
-
-module _ {counts marks : List ℕ} {class : ℕ} {block₀ : List ℕ} {s : ℕ} {block : List ℕ}
-    (f : Filled counts marks class block₀ s block) where
-  pub filled-done : get_or counts 0 0 ≤ s → block ≡ branch_filled counts marks class block₀
+module _ {counts₀ marks₀ : List ℕ} {class : ℕ} {block₀ : List ℕ} {states size : ℕ} {later behind : List ℕ} {from s : ℕ}
+    {block : List ℕ} (f : Filled counts₀ marks₀ class block₀ states size later behind from s block) where
+  pub filled-done : states ≤ s → block ≡ branch_filled counts₀ marks₀ class block₀
   filled-done h =
-      let from : ℕ = s * (length block₀ / get_or counts 0 0) in
-      let none : get_or counts 0 0 - s ≡ 0 = omega arith in
-      sym (take-append-drop from block)
-      ∙ ap (λ (l : List ℕ). take from block ++ l) (sym (left-none class blank_mark (drop 1 counts) (drop 1 marks) s
-      (drop from block)))
+      let at : ℕ = from + s * size in
+      let none : states - s ≡ 0 = omega arith in
+      sym (take-append-drop at block)
+      ∙ ap (λ (l : List ℕ). take at block ++ l) (sym (left-none class blank_mark later behind s (drop at block)))
       ∙ (rw none at f.same)
 
-  -- the part of state s is filled too
-  pub filled_more : {p : List ℕ} → s < get_or counts 0 0
-      → p ≡ branch_filled (drop 1 counts) (drop 1 marks) class
-      (take (length block₀ / get_or counts 0 0) (drop (s * (length block₀ / get_or counts 0 0)) block))
-      → Filled counts marks class block₀ (s + 1) (lent_back block p (s * (length block₀ / get_or counts 0 0))
-      (length block₀ / get_or counts 0 0))
-  unfolding branch_filled
-  filled_more {p = p} h wrote =
-      let later : List ℕ = drop 1 counts in
-      let behind : List ℕ = drop 1 marks in
-      let size : ℕ = length block₀ / get_or counts 0 0 in
-      let from : ℕ = s * size in
-      let n : ℕ = get_or counts 0 0 - (s + 1) in
-      let is-size : size ≡ product later = part-size counts block₀ f.branch.whole f.branch.some in
-      let inside : from + size ≤ length block = omega (arith, branch-inside f.branch s h, f.long) in
-      let old : List ℕ = take size (drop from block) in
-      let long : length p ≡ size = ap length wrote ∙ length-painted (λ x. fits x behind) (λ x. class)
-      (joint_states later) old
-      ∙ length-take-le size (drop from block) (rw (length-drop from block) (omega (arith, inside))) in
-      let more : get_or counts 0 0 - s ≡ suc n = omega arith in
-      let rest = left class blank_mark later behind (s + 1) n in
-      let enough : product later ≤ length (drop from block) = rw (length-drop from block, sym is-size) (omega
-      (arith, inside)) in
-      let next : p ++ rest (drop (from + size) block) ≡ left class blank_mark later behind s (get_or counts 0 0 - s)
-      (drop from block) =
-      (λ i. wrote i ++ rest (sym (drop-drop size from block) i))
-      ∙ ap (λ (k : ℕ). own class blank_mark later behind true (take k (drop from block))
-      ++ rest (drop k (drop from block))) is-size
-      ∙ sym (left-next class blank_mark later behind s n (drop from block) enough)
-      ∙ ap (λ (k : ℕ). left class blank_mark later behind s k (drop from block)) (sym more) in
-      let place : (s + 1) * size ≡ from + size = omega arith in
-      record {
-        branch = f.branch;
-        long = back_long block p from size inside long ∙ f.long;
-        same =
-            rw (place, back-front block p from size inside long, back-behind block p from size inside long)
-            (append_assoc (take from block) p (rest (drop (from + size) block))
-            ∙ ap (λ (l : List ℕ). take from block ++ l) next ∙ f.same);
-      }
+  module _ (h : s < states) where
+    filled-inside : from + s * size + size ≤ length block
+    filled-inside = omega (arith, part-inside states size s (states * size) refl h, f.inside)
+
+    part-long : length (take size (drop (from + s * size) block)) ≡ size
+    part-long = length-take-le size (drop (from + s * size) block) (rw (length-drop (from + s * size) block) (omega
+        (arith, filled-inside)))
+
+    -- the part of state s is filled too
+    pub filled_more : {p : List ℕ} → p ≡ branch_filled later behind class (take size (drop (from + s * size) block))
+        → Filled counts₀ marks₀ class block₀ states size later behind from (s + 1)
+        (lent_back block p (from + s * size) size)
+    unfolding branch_filled
+    filled_more {p = p} wrote =
+        let at : ℕ = from + s * size in
+        let n : ℕ = states - (s + 1) in
+        let long : length p ≡ size = ap length wrote ∙ length-painted (λ x. fits x behind) (λ x. class)
+        (joint_states later) (take size (drop at block)) ∙ part-long in
+        let more : states - s ≡ suc n = omega arith in
+        let rest = left class blank_mark later behind (s + 1) n in
+        let enough : product later ≤ length (drop at block) = rw (length-drop at block, sym f.is_size) (omega
+        (arith, filled-inside)) in
+        let next : p ++ rest (drop (at + size) block)
+        ≡ left class blank_mark later behind s (states - s) (drop at block) =
+        (λ i. wrote i ++ rest (sym (drop-drop size at block) i))
+        ∙ ap (λ (k : ℕ). own class blank_mark later behind true (take k (drop at block))
+        ++ rest (drop k (drop at block))) f.is_size
+        ∙ sym (left-next class blank_mark later behind s n (drop at block) enough)
+        ∙ ap (λ (k : ℕ). left class blank_mark later behind s k (drop at block)) (sym more) in
+        let place : from + (s + 1) * size ≡ at + size = omega arith in
+        record {
+          fewer = f.fewer;
+          few = f.few;
+          some = f.some;
+          most = f.most;
+          is_size = f.is_size;
+          inside = rw (back_long block p at size filled-inside long) f.inside;
+          same =
+              rw (place, back-front block p at size filled-inside long, back-behind block p at size filled-inside long)
+              (append_assoc (take at block) p (rest (drop (at + size) block))
+              ∙ ap (λ (l : List ℕ). take at block ++ l) next ∙ f.same);
+        }
+
+-- ---- the loop over the settled marks in front: what is left to fill is a part of the block, by the marks behind them
+
+pub record Ahead (counts₀ marks₀ : List ℕ) (class : ℕ) (block₀ : List ℕ) (counts marks : List ℕ) (from size : ℕ)
+    (block : List ℕ) : Type 0 where
+  pub whole : Block counts (take size (drop from block))
+  pub inside : from + size ≤ length block
+  pub fewer : length counts ≤ length counts₀
+  pub few : length counts ≤ length marks
+  pub same : take from block ++ branch_filled counts marks class (drop from block)
+      ≡ branch_filled counts₀ marks₀ class block₀
+
+-- with no component left the one class is put
+filled-one : (counts marks : List ℕ) (class x : ℕ) (rest : List ℕ) → length counts ≡ 0
+    → class ∷ rest ≡ branch_filled counts marks class (x ∷ rest)
+unfolding branch_filled painted fits joint_states
+filled-one [] marks class x rest none = refl
+filled-one (c ∷ cs) marks class x rest none = absurd (omega arith)
+
+module _ {counts₀ marks₀ : List ℕ} {class : ℕ} {block₀ counts marks : List ℕ} {from size : ℕ} {block : List ℕ}
+    (a : Ahead counts₀ marks₀ class block₀ counts marks from size block) where
+  long : length (take size (drop from block)) ≡ size
+  long = length-take-le size (drop from block) (rw (length-drop from block) (omega (arith, a.inside)))
+
+  -- no component is left
+  module _ (none : length counts ≡ 0) where
+    pub ahead-place : from < length block
+    ahead-place = omega (arith, long, one_class counts _ a.whole none, a.inside)
+
+    pub ahead-one : set block from class ≡ branch_filled counts₀ marks₀ class block₀
+    ahead-one =
+        let first : class ∷ drop (suc from) block ≡ branch_filled counts marks class (drop from block)
+        = rw (drop-cons block from 0 ahead-place) (filled-one counts marks class (get_or block from 0)
+        (drop (suc from) block) none) in
+        set_split block from class ahead-place ∙ ap (λ (l : List ℕ). take from block ++ l) first ∙ a.same
+
+  module _ (some : 0 < length counts) where
+    abbrev states : ℕ
+    states = get_or counts 0 0
+
+    abbrev mark : ℕ
+    mark = get_or marks 0 0
+
+    abbrev later : List ℕ
+    later = drop 1 counts
+
+    abbrev behind : List ℕ
+    behind = drop 1 marks
+
+    each : size ≡ states * product later
+    each = sym long ∙ shares counts _ a.whole some
+
+    is-size : size / states ≡ product later
+    is-size = ap (λ (n : ℕ). n / states) each ∙ mul-div_cancel_left (product later) (states-some counts _ a.whole some)
+
+    room : states * product later ≤ length (drop from block)
+    room = rw (length-drop from block) (omega (arith, each, a.inside))
+
+    later-fewer : length later < length counts₀
+    later-fewer = rw (length-drop 1 counts) (omega (arith, some, a.fewer))
+
+    later-few : length later ≤ length behind
+    later-few = rw (length-drop 1 counts, length-drop 1 marks) (omega (arith, a.few))
+
+    later-some : (k : ℕ) → k < length later → 0 < get_or later k 0
+    later-some k less = rw (get_or-drop 1 counts k 0) (a.whole.some (1 + k) (omega
+        (arith, less, length-drop 1 counts)))
+
+    later-most : (k : ℕ) → k < length later → get_or later k 0 ≤ blank_mark
+    later-most k less = rw (get_or-drop 1 counts k 0) (a.whole.most (1 + k) (omega
+        (arith, less, length-drop 1 counts)))
+
+    split : take from block ++ branch_filled (states ∷ later) (mark ∷ behind) class (drop from block)
+        ≡ branch_filled counts₀ marks₀ class block₀
+    split =
+        (λ i. take from block ++ branch_filled (sym (first-and-later counts some) i)
+        (sym (first-and-later marks (omega (arith, some, a.few))) i) class (drop from block)) ∙ a.same
+
+    -- its mark is blank: its states are to be filled one by one
+    pub ahead-blank : mark ≡ blank_mark
+        → Filled counts₀ marks₀ class block₀ states (size / states) later behind from 0 block
+    unfolding branch_filled joint_states
+    ahead-blank blank =
+        record {
+          fewer = later-fewer;
+          few = later-few;
+          some = later-some;
+          most = later-most;
+          is_size = is-size;
+          inside = rw is-size (omega (arith, each, a.inside));
+          same = rw (zero-mul, add-zero, sub-zero, sym blank) split;
+        }
+
+    -- its mark is settled
+    module _ (settled : mark ≡ blank_mark → ⊥) where
+      -- and no state
+      pub ahead-nowhere : states ≤ mark → block ≡ branch_filled counts₀ marks₀ class block₀
+      ahead-nowhere high =
+          sym (take-append-drop from block)
+          ∙ ap (λ (l : List ℕ). take from block ++ l) (sym (no_own class mark later behind settled states
+          (drop from block) room high))
+          ∙ split
+
+      -- it leads to the part of its state
+      module _ (low : mark < states) where
+        ahead-inside : from + mark * (size / states) + size / states ≤ length block
+        ahead-inside = rw is-size (omega (arith, part-inside states (product later) mark size each low, a.inside))
+
+        pub ahead-settled : Ahead counts₀ marks₀ class block₀ later behind (from + mark * (size / states))
+            (size / states) block
+        ahead-settled =
+            let m : ℕ = product later in
+            let at : ℕ = from + mark * (size / states) in
+            let part : length (take (size / states) (drop at block)) ≡ size / states = length-take-le (size / states)
+            (drop at block) (rw (length-drop at block) (omega (arith, ahead-inside))) in
+            record {
+              whole = record { long = part ∙ is-size; some = later-some; most = later-most };
+              inside = ahead-inside;
+              fewer = omega (arith, later-fewer);
+              few = later-few;
+              same =
+                  rw is-size
+                  ((λ i. take-add from (mark * m) block i ++ branch_filled later behind class
+                  (sym (drop-drop (mark * m) from block) i))
+                  ∙ append_assoc (take from block) (take (mark * m) (drop from block))
+                  (branch_filled later behind class (drop (mark * m) (drop from block)))
+                  ∙ ap (λ (l : List ℕ). take from block ++ l)
+                  (sym (own-only class mark later behind settled states (drop from block) room low))
+                  ∙ split);
+            }
