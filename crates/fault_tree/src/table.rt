@@ -8,10 +8,10 @@ ghost use Rattle.fault_tree.specs.Readable.{TableBegins};
 
 use crate::class::class_by;
 use crate::gates::distinct_gates;
-use crate::truth::gate_truths;
+use crate::truth::gate_true;
 use entries::{Class, set_class};
 use joint_states::next_joint_state;
-use rules::COMPONENT_PLACES;
+use rules::{COMPONENT_PLACES, GATE_PLACES};
 use study::{Study, joint_states, state_counts};
 
 // Fills the front of a class table for a sound study with these state counts, by joint state number; x is the joint
@@ -23,7 +23,10 @@ fn fill_table(t: &Study, counts: &[u8], x: &mut [u8], table: &mut [Class])
 {
     let once = distinct_gates(&t.gate, t.gates as usize);
     for k in 0..joint_states(counts) as usize {
-        let truths = gate_truths(t, &once, x);
+        let mut truths = [false; GATE_PLACES];
+        for i in 0..t.gates as usize {
+            truths[i] = gate_true(&once[i], x, &truths);
+        }
         set_class(table, k, class_by(&truths, &t.load, t.loads));
         next_joint_state(counts, x);
     }

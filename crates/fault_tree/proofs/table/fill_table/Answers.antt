@@ -1,7 +1,10 @@
--- `fault_tree::table::fill_table` meets its contract. The classes of the joint states below k are set, and x is the one numbered k (`Tabled`).
-use Rattle.std.proofs.Common.{ap, ◌∙◌, Bool, List}
+-- `fault_tree::table::fill_table` meets its contract. The classes of the joint states below k are set, and x is the one
+-- numbered k (`Tabled`); in x, the truths of the gates below i are set (`Evaluated`).
+use Rattle.std.proofs.Common.{refl, ap, ◌∙◌, Bool, List, arith}
 use Rattle.soundness.proofs.Ranges.{loads-most, gates-most, counts-small}
 use Rattle.fault_tree.specs.Classes.{class_by, class_of}
+use Rattle.fault_tree.proofs.GateTruths.{evaluated-start, evaluated-more, evaluated-long, evaluated-done}
+use Rattle.fault_tree.proofs.SoundReadable.{once-readable, once-told}
 use Rattle.fault_tree.proofs.Tables.{tabled_start, tabled-more, tabled-inside, tabled-done}
 use Rattle.fault_tree.proofs.table.fill_table.Goals as goal
 
@@ -14,6 +17,23 @@ joint_states-k-end-requires-clause-small c = let b = c.requires.table_begins in 
 pub loop-k-init : goal.loop-k-init
 loop-k-init c = tabled_start c.requires.table_begins c.requires.most_joint_states_in_bounds c.joint_states-k-end.ensures
 
+pub loop-i-init : goal.loop-i-init
+loop-i-init c = evaluated-start refl
+
+pub bounds-once-i : goal.bounds-once-i
+bounds-once-i c = omega (arith, gates-most _ c.loop-k.invariant.sound, c.loop-i-test.true)
+
+pub gate_true-requires : goal.gate_true-requires
+gate_true-requires c =
+    let tabled = c.loop-k.invariant in
+    once-readable _ tabled.sound _ c.distinct_gates-once.ensures _ c.loop-i-test.true _ _
+    (rw tabled.same at tabled.joint) (evaluated-long c.loop-i.invariant)
+
+pub loop-i-preserved : goal.loop-i-preserved
+loop-i-preserved c =
+    let told = once-told _ c.loop-k.invariant.sound _ c.distinct_gates-once.ensures _ c.loop-i-test.true _ _ in
+    evaluated-more c.loop-i.invariant c.loop-i-test.true (c.gate_true.ensures ∙ told)
+
 pub class_by-requires : goal.class_by-requires
 class_by-requires c = loads-most _ c.loop-k.invariant.sound
 
@@ -24,7 +44,8 @@ pub loop-k-preserved : goal.loop-k-preserved
 unfolding class_of
 loop-k-preserved c =
     let t = c.args.t.now in
-    let class = c.class_by.ensures ∙ ap (λ (truths : List Bool). class_by truths t.load t.loads) c.gate_truths-truths.ensures in
+    let truths = evaluated-done c.loop-i.invariant c.loop-i-test.false in
+    let class = c.class_by.ensures ∙ ap (λ (row : List Bool). class_by row t.load t.loads) truths in
     let moved = c.next_joint_state.ensures in
     tabled-more c.loop-k.invariant c.loop-k-test.true class c.set_class.ensures moved.joint_state moved.x_after
 
