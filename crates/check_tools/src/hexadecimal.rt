@@ -42,7 +42,11 @@ fn figure(bits: u8) -> u8 {
 // with what stands behind it: to write its parts one by one takes three times as long.
 pub fn show_bytes(out: &impl Print, bytes: &[u8]) -> io::Result<()> {
     for (place, byte) in bytes.iter().enumerate() {
-        let behind = if place + 1 == bytes.len() { b'\n' } else { b' ' };
+        let behind = if place + 1 == bytes.len() {
+            b'\n'
+        } else {
+            b' '
+        };
         out.write_all(&[figure(*byte / 16), figure(*byte), behind])?;
     }
     Ok(())

@@ -11,8 +11,7 @@ use Rattle.ordering.specs.Distinct.{same_input, distinct}
 use Rattle.ordering.specs.Thinning.{stands_next, thinned, counted}
 use Rattle.ordering.specs.Inputs.{Input, no_input, mask_values, ByteMask, rank, paired}
 use Rattle.ordering.specs.Sorting.{ascends}
-use Rattle.ordering.proofs.Compared.{input_at}
-use Rattle.ordering.proofs.Pairs.{paired_long, get_or-paired}
+use Rattle.ordering.proofs.Pairs.{input_at, paired_long, get_or-paired}
 use Rattle.ordering.proofs.Rises.{ascends-kept}
 use Rattle.ordering.proofs.Sets.{same-told, same_self}
 use Rattle.ordering.proofs.Thinned.{thinned-distinct}

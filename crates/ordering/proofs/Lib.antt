@@ -1,5 +1,4 @@
 pub mod Along
-pub mod Compared
 pub mod Moving
 pub mod Ordered
 pub mod Pairs

@@ -1,6 +1,6 @@
 -- Rows that no record uses, judged at once. Each of their places breaks row 16 or none; so does their first breach, which is therefore 16 where some
 -- place holds more than 0, and none where they are a row of zeros.
-use Rattle.std.proofs.Common.{◌≡◌, ◌≢◌, ℕ, zero, suc, ◌+◌, ◌<◌, ◌≤◌, Bool, true, false, List, length, get_or, refl, sym, ap, ◌∙◌, arith, nat_eq}
+use Rattle.std.proofs.Common.{◌≡◌, ◌≢◌, ℕ, zero, suc, ◌+◌, ◌<◌, Bool, true, false, List, length, get_or, refl, sym, ap, ◌∙◌, arith, nat_eq}
 use lib.Dec.{eqb}
 use lib.ListN.{replicate, length-replicate}
 use borrow.Author.Tests.{eqb-true, eqb-false, le-ltb}
@@ -78,6 +78,7 @@ row-judged n row long zeros is = alike (unsound_fault zeros) (row_fault n row) (
     there sound =
         let same = (bytes_eq-Decides row (replicate n 0)).0 (sym is ∙ sound-kept zeros sound) in
         row-none n row (λ j less. ap (λ (r : List ℕ). get_or r j 0) same ∙ get_or-replicate n j 0 0 less)
+
     back : row_fault n row ≡ 0 → unsound_fault zeros ≡ 0
     back none =
         let same =
@@ -110,6 +111,7 @@ no-tests counts component mask =
   where
     used : ℕ → ℕ
     used j = first (no_component_fault (length counts) (get_or component j 0)) (mask_fault (get_or counts (get_or component j 0) 0) (get_or mask j 0))
+
     unused : ℕ → ℕ
     unused j = unused_fault (get_or component j 0) (get_or mask j 0) 0 0
 
