@@ -27,13 +27,14 @@ pub fn count_distinct(number: &[u8], mask: &[u8]) -> Option<u8>
         return Some(0);
     }
     let mut many: u8 = 1;
+    let mut before = rank(number[0], mask[0]);
     for at in 1..number.len() {
-        let before = rank(number[at - 1], mask[at - 1]);
         let here = rank(number[at], mask[at]);
         if here < before {
             return None;
         }
         many += u8::from(before < here);
+        before = here;
     }
     Some(many)
 }

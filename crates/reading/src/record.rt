@@ -104,7 +104,8 @@ pub fn fill_record<F: Fields>(
     of: &F,
     place: &mut F::Record,
 ) -> Result<(), Refusal>
-    ensures { read_into result place.new bytes.new.rest.now ≡ fields_by_map F.maps (F.field of.now) (F.absent of.now) bytes.old.rest.now }
+    ensures { read_into result place.new bytes.new.rest.now
+        ≡ fields_by_map F.maps (F.field of.now) (F.absent of.now) bytes.old.rest.now }
 {
     let map = bytes.map(of.maps())?;
     *place = of.absent();
