@@ -5,8 +5,11 @@ use std::io;
 
 // How many of the bytes hold a value, and how many do not, on a line.
 fn show_held(out: &impl Print, bytes: &[u8], value: u8) -> io::Result<()> {
-    let held = bytes.iter().filter(|byte| **byte == value).count();
-    println!(out; "{held} {}", bytes.len() - held)
+    // No more than there are bytes, so that nothing wraps. A sum is added up many bytes at a time, a count one by one.
+    let held = bytes.iter().fold(0usize, |held, byte| {
+        held.wrapping_add(usize::from(*byte == value))
+    });
+    println!(out; "{held} {}", bytes.len().wrapping_sub(held))
 }
 
 // Shows the refusal, 0 for none, and the count on a line; then what was written, each of so many bytes, as it is shown;
