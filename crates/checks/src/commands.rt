@@ -1,8 +1,8 @@
 // The commands of the script. Each is a letter and bytes, calls the library, and writes one line of numbers, or more
 // for a list.
 //
-//     o BYTES                     opens a study: the refusal, 0 for none; what the call returns is the current study
-//                                 from then on
+//     o BYTES                     opens a study: the refusal, 0 for none; it is the current study from then on, and
+//                                 where it is refused one of zeros is
 //     f BYTES                     opens each strict front part of the bytes, the shortest first: the refusals
 //     p ITEM P1 P2 P3             edits the probabilities of a component: the refusal; what the call returns is then
 //                                 current
