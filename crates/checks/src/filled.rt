@@ -1,5 +1,5 @@
 // Makes the calls that fill lent space, and shows what each answers and what it wrote.
-use check_tools::hexadecimal::show_bytes;
+use check_tools::hexadecimal::write_bytes;
 use check_tools::listing::filled_list;
 use check_tools::places::{UNTOUCHED, show_bounded, show_class_bounds, show_path_bounds};
 use check_tools::texts::{show_text, show_written};
@@ -72,7 +72,7 @@ pub fn write(out: &impl Print, study: &Study, size: usize, fill: u8) -> io::Resu
         fill,
         |lent| planning::write(study, lent),
         1,
-        |bytes| show_bytes(out, bytes),
+        |bytes| write_bytes(out, bytes),
     )
 }
 
